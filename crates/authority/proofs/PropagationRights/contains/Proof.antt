@@ -1,0 +1,13 @@
+-- `authority::PropagationRights::contains` meets its contract.
+-- Assumes nothing.
+use mathlib.Core.Path.{refl}
+use Rattle.authority.specs.Rights.{contains}
+use Rattle.authority.proofs.PropagationRights.contains.Statement.{statement}
+use Rattle.authority.proofs.PropagationRights.contains.Tie as tie
+
+returns : tie.Need-returns
+unfolding contains
+returns c = refl
+
+pub contains-spec : {M : Type 1} → statement M
+contains-spec = tie.close (tie.spec returns)

@@ -1,0 +1,4 @@
+pub mod Codec
+pub mod Xor
+pub mod Laws
+pub mod Steps

@@ -1,0 +1,63 @@
+-- The tables of docs/formats.md: document 01, "Which fields each op must and may carry is one fixed table, written in docs/."
+-- Assumes nothing.
+use Prim.Native.Nat.{ℕ}
+use mathlib.Core.List.{List, [], _∷_}
+use mathlib.Core.Bool.{Bool, true, false, not, _&&_}
+use lib.Dec.{eqb, leb}
+
+-- docs/formats.md, "Ops": the fields that each op must carry, as a bit map, at the op's number
+unfoldable pub musts : List ℕ
+musts = 0 ∷ 101 ∷ 51 ∷ 129 ∷ 5 ∷ 11 ∷ 137 ∷ 129 ∷ 137 ∷ 19 ∷ 563 ∷ 51 ∷ 19 ∷ 2051 ∷ 4107 ∷ 1587 ∷ 129 ∷ 129 ∷ 385 ∷ 385 ∷ 2051 ∷ 3 ∷ 3 ∷ 3 ∷ 3 ∷ []
+
+-- docs/formats.md, "Ops": the fields that each op may carry besides
+unfoldable pub mays : List ℕ
+mays = 0 ∷ 0 ∷ 0 ∷ 0 ∷ 0 ∷ 0 ∷ 0 ∷ 0 ∷ 0 ∷ 0 ∷ 0 ∷ 0 ∷ 0 ∷ 0 ∷ 196608 ∷ 0 ∷ 0 ∷ 0 ∷ 0 ∷ 0 ∷ 0 ∷ 0 ∷ 0 ∷ 0 ∷ 0 ∷ []
+
+-- docs/formats.md, the items' table: a transfer item must carry operation, value and rights
+abbrev pub transferItemMust : ℕ
+transferItemMust = 49
+
+-- the items' table: a transfer item may carry offered rights, offered kind and expected kind
+abbrev pub transferItemMay : ℕ
+transferItemMay = 57344
+
+-- the items' table: a parcel item must carry 0 and id
+abbrev pub parcelItemMust : ℕ
+parcelItemMust = 129
+
+-- the items' table: a parcel item may carry nothing else
+abbrev pub parcelItemMay : ℕ
+parcelItemMay = 0
+
+-- docs/formats.md, "Fields of a record": how many fields there are
+abbrev pub fieldCount : ℕ
+fieldCount = 18
+
+-- docs/formats.md, "Fields of a record": each field's kind, at its bit. 0 any word, 1 a number of 32 bits, 2 a koid, 3 a route, 4 the op
+unfoldable pub fieldKinds : List ℕ
+fieldKinds = 4 ∷ 0 ∷ 0 ∷ 0 ∷ 0 ∷ 0 ∷ 1 ∷ 0 ∷ 0 ∷ 1 ∷ 2 ∷ 0 ∷ 3 ∷ 0 ∷ 1 ∷ 1 ∷ 2 ∷ 1 ∷ []
+
+-- a choice by a test
+unfoldable pub pick : {A : Type 0} → Bool → A → A → A
+pick true a b = a
+pick false a b = b
+
+-- docs/formats.md, "Ops": "Op 0 and every op above 24 is unknown."
+unfoldable pub knownOp : ℕ → Bool
+knownOp op = leb 1 op && leb op 24
+
+-- document 01, number 19: "too wide or a koid of 0; unknown op, route or operation". Which words a kind takes. Bit 0's word has a kind of
+-- its own in an item: 5 a transfer item's operation, 6 a parcel item's 0. No other kind takes a word.
+unfoldable pub fieldFits : ℕ → ℕ → Bool
+fieldFits kind word =
+    pick (eqb kind 0) true
+    (pick (eqb kind 1) (leb word 4_294_967_295)
+    (pick (eqb kind 2) (not (eqb word 0))
+    (pick (eqb kind 3) (leb word 2)
+    (pick (eqb kind 4) (knownOp word)
+    (pick (eqb kind 5) (leb word 1)
+    (pick (eqb kind 6) (eqb word 0) false))))))
+
+-- document 01: "Each request answers 72 words"
+abbrev pub answerWords : ℕ
+answerWords = 72

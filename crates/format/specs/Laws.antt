@@ -1,0 +1,147 @@
+-- Laws of the tables: each is one test that is computed over the whole table.
+-- Assumes nothing.
+use mathlib.Core.Path.{_≡_, refl, sym, ap, _∙_}
+use mathlib.Core.Bool.{Bool, true, false, _&&_}
+use mathlib.Core.List.{List, [], _∷_}
+use Prim.Native.Nat.{ℕ, zero, suc, _+_, _%_, _^_, _<_, _≤_}
+use native.Mathlib.Nat.{add-zero, zero-add, add-suc, suc-add, le-of-suc-le-suc, not-suc-le-zero}
+use lib.Dec.{eqb, leb, ltb}
+use lib.ListN.{length, getD, List·getD-eq-default}
+use lib.Bits.{bitAnd}
+use borrow.Author.Tests.{eqb-true, lt-leb, le-leb, ltb-true, ltb-false, ne-eqb}
+use Rattle.format.specs.Format.{
+  pick,
+  musts,
+  mays,
+  fieldKinds,
+  fieldFits,
+  knownOp,
+  fieldCount,
+  transferItemMust,
+  transferItemMay,
+  parcelItemMust,
+  parcelItemMay,
+}
+
+-- every entry of a table passes a test, counted from i
+abbrev pub every : (ℕ → ℕ → Bool) → ℕ → List ℕ → Bool
+every f i [] = true
+every f i (x ∷ xs) = f i x && every f (suc i) xs
+
+pub both-left : (a b : Bool) → (a && b) ≡ true → a ≡ true
+both-left true b t = refl
+both-left false b t = t
+
+pub both-right : (a b : Bool) → (a && b) ≡ true → b ≡ true
+both-right true b t = t
+both-right false b t = cc
+
+from : (f : ℕ → ℕ → Bool) (xs : List ℕ) (i : ℕ) → every f i xs ≡ true → (k : ℕ) → k < length xs → f (i + k) (getD xs k 0) ≡ true
+from f [] i t k h = absurd (not-suc-le-zero h)
+from f (x ∷ xs) i t zero h = ap (λ (m : ℕ). f m x) (add-zero i) ∙ both-left (f i x) (every f (suc i) xs) t
+from f (x ∷ xs) i t (suc k) h =
+    ap (λ (m : ℕ). f m (getD xs k 0)) (add-suc i k ∙ sym (suc-add i k))
+    ∙ from f xs (suc i) (both-right (f i x) (every f (suc i) xs) t) k (le-of-suc-le-suc h)
+
+-- so the test holds at each entry
+pub at : (f : ℕ → ℕ → Bool) (xs : List ℕ) → every f 0 xs ≡ true → (k : ℕ) → k < length xs → f k (getD xs k 0) ≡ true
+at f xs t k h = ap (λ (m : ℕ). f m (getD xs k 0)) (sym (zero-add k)) ∙ from f xs 0 t k h
+
+-- two tests agree
+abbrev pub same : Bool → Bool → Bool
+same true b = b
+same false true = false
+same false false = true
+
+pub same-eq : (a b : Bool) → same a b ≡ true → a ≡ b
+same-eq true b e = sym e
+same-eq false true e = e
+same-eq false false e = refl
+
+-- a row of the table of ops: must and may have no field in common, both are within the fields, and must has bit 0 exactly for a known op
+unfoldable pub rowFits : ℕ → ℕ → ℕ → Bool
+rowFits op must may =
+    eqb (bitAnd must may) 0 && (ltb must (2 ^ fieldCount) && (ltb may (2 ^ fieldCount) && same (eqb (must % 2) 1) (knownOp op)))
+
+table-fits : every (λ (op must : ℕ). rowFits op must (getD mays op 0)) 0 musts ≡ true
+unfolding rowFits musts mays knownOp
+table-fits = refl
+
+never : (b : Bool) → (b && false) ≡ false
+never true = refl
+never false = refl
+
+short : (op : ℕ) → op < 25 → op < length musts
+unfolding musts
+short op h = h
+
+past : (op : ℕ) → 25 ≤ op → rowFits op (getD musts op 0) (getD mays op 0) ≡ true
+unfolding musts mays rowFits knownOp
+past op h = rw (List·getD-eq-default musts 0 h, List·getD-eq-default mays 0 h, lt-leb op 24 h, never (leb 1 op))
+
+-- every op's row fits; of an unknown op both maps are 0
+pub row-fits : (op : ℕ) → rowFits op (getD musts op 0) (getD mays op 0) ≡ true
+row-fits op = go (ltb op 25) refl
+  where
+    go : (t : Bool) → ltb op 25 ≡ t → rowFits op (getD musts op 0) (getD mays op 0) ≡ true
+    go true e = at (λ (k must : ℕ). rowFits k must (getD mays k 0)) musts table-fits op (short op (ltb-true op 25 e))
+    go false e = past op (ltb-false op 25 e)
+
+all-four : (p q r s : Bool) → (p && (q && (r && s))) ≡ true → (p ≡ true) × (q ≡ true) × (r ≡ true) × (s ≡ true)
+all-four p q r s t =
+    (both-left p (q && (r && s)) t, both-left q (r && s) t1, both-left r s (both-right q (r && s) t1), both-right r s (both-right q (r && s) t1))
+  where
+    t1 : (q && (r && s)) ≡ true
+    t1 = both-right p (q && (r && s)) t
+
+module _ (op : ℕ) where
+  row : (eqb (bitAnd (getD musts op 0) (getD mays op 0)) 0 ≡ true) × (ltb (getD musts op 0) (2 ^ fieldCount) ≡ true)
+      × (ltb (getD mays op 0) (2 ^ fieldCount) ≡ true) × (same (eqb (getD musts op 0 % 2) 1) (knownOp op) ≡ true)
+  unfolding rowFits
+  row =
+      all-four (eqb (bitAnd (getD musts op 0) (getD mays op 0)) 0) (ltb (getD musts op 0) (2 ^ fieldCount)) (ltb (getD mays op 0) (2 ^ fieldCount))
+      (same (eqb (getD musts op 0 % 2) 1) (knownOp op))
+      (row-fits op)
+
+  -- an op's must and may have no field in common
+  pub disjoint : bitAnd (getD musts op 0) (getD mays op 0) ≡ 0
+  disjoint = eqb-true (bitAnd (getD musts op 0) (getD mays op 0)) 0 (row .0)
+
+  -- both are within the 18 fields
+  pub must-below : getD musts op 0 < 2 ^ fieldCount
+  must-below = ltb-true (getD musts op 0) (2 ^ fieldCount) (row .1)
+
+  pub may-below : getD mays op 0 < 2 ^ fieldCount
+  may-below = ltb-true (getD mays op 0) (2 ^ fieldCount) (row .2)
+
+  -- must has bit 0 exactly for ops 1 to 24
+  pub must-op : eqb (getD musts op 0 % 2) 1 ≡ knownOp op
+  must-op = same-eq (eqb (getD musts op 0 % 2) 1) (knownOp op) (row .3)
+
+-- the same of the items' maps, which have bit 0
+pub items-fit : (rowFits 1 transferItemMust transferItemMay && rowFits 1 parcelItemMust parcelItemMay) ≡ true
+unfolding rowFits knownOp
+items-fit = refl
+
+-- each field has a kind, and no kind is beyond 4
+pub kinds-fit : (every (λ (bit kind : ℕ). leb kind 4) 0 fieldKinds && eqb (length fieldKinds) fieldCount) ≡ true
+unfolding fieldKinds
+kinds-fit = refl
+
+-- what a kind takes, where the kind is known
+pub kind-fits : (kind k word : ℕ) (r : Bool) → kind ≡ k → r ≡ fieldFits k word → r ≡ fieldFits kind word
+kind-fits kind k word r e p = p ∙ ap (λ (n : ℕ). fieldFits n word) (sym e)
+
+pub no-kind : (kind word : ℕ) → (kind ≡ 0 → ⊥) → (kind ≡ 1 → ⊥) → (kind ≡ 2 → ⊥) → (kind ≡ 3 → ⊥) → (kind ≡ 4 → ⊥) → (kind ≡ 5 → ⊥)
+    → (kind ≡ 6 → ⊥) → false ≡ fieldFits kind word
+unfolding fieldFits pick
+no-kind kind word h0 h1 h2 h3 h4 h5 h6 =
+    simp (ne-eqb kind 0 h0, ne-eqb kind 1 h1, ne-eqb kind 2 h2, ne-eqb kind 3 h3, ne-eqb kind 4 h4, ne-eqb kind 5 h5, ne-eqb kind 6 h6)
+
+pub known-yes : (op : ℕ) → 1 ≤ op → leb op 24 ≡ knownOp op
+unfolding knownOp
+known-yes op h = rw (le-leb 1 op h)
+
+pub known-no : (op : ℕ) → op < 1 → false ≡ knownOp op
+unfolding knownOp
+known-no op h = rw (lt-leb 1 op h)

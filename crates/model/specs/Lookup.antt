@@ -1,0 +1,52 @@
+-- What a handle value names in a table.
+use Prim.Native.Nat.{ℕ}
+use lib.Dec.{eqb}
+use Rattle.codec.specs.Codec.{encode, decodes, slotIn, generationIn}
+use Rattle.model.specs.Base.{pick}
+use Rattle.model.specs.State.{Handle, Slot, Slot.absent, Slot.vacant, Slot.reserved, Slot.transferReserved, Slot.occupied, Lifecycle.active, Table, State}
+use Rattle.model.specs.State.{generation, isActive}
+use Rattle.model.specs.Request.{Snapshot}
+use Rattle.model.specs.Objects.{infoFor}
+use Rattle.model.specs.Decision.{Decision, unless_refuse_then_, onTable, Decision.refusal}
+
+-- what a value names: nothing (2), a TransferReserved slot of equal generation (3), or a handle in its slot
+pub data View : Type 0 where
+  invalid : View
+  busy : View
+  holds : ℕ → Handle → View
+
+-- "A value naming a TransferReserved slot of equal generation gives Busy. One naming a Reserved slot gives InvalidHandle"
+abbrev pub viewSlot : ℕ → ℕ → Slot → View
+viewSlot k g absent = invalid
+viewSlot k g (vacant n) = invalid
+viewSlot k g (reserved n i) = invalid
+viewSlot k g (transferReserved n i) = pick (eqb g n) busy invalid
+viewSlot k g (occupied n h) = pick (eqb g n) (holds k h) invalid
+
+-- mod.rs `lookup`; "A value with another prefix gives 2"
+abbrev pub lookup : Table → ℕ → View
+lookup t v = pick (decodes (t .mask) v) (viewSlot (slotIn (t .mask) v) (generationIn (t .mask) v) (t .slots (slotIn (t .mask) v))) invalid
+
+abbrev pub onView : View → (ℕ → Handle → Decision) → Decision
+onView invalid f = refusal 2
+onView busy f = refusal 3
+onView (holds k h) f = f k h
+
+-- an active table, else 16, and a handle in it, else 2 or 3
+abbrev pub onHandle : State → ℕ → ℕ → (Table → ℕ → Handle → Decision) → Decision
+onHandle s b v f = onTable s b λ t. unless isActive (t .life) refuse 16 then onView (lookup t v) (f t)
+
+-- the value of a slot as it stands
+abbrev pub valueAt : Table → ℕ → ℕ
+valueAt t k = encode (t .mask) k (generation (t .slots k))
+
+-- the handle of an occupied slot
+abbrev pub handleOr : Slot → Handle
+handleOr absent = record { object = 0; rights = 0; flags = 0 }
+handleOr (vacant g) = record { object = 0; rights = 0; flags = 0 }
+handleOr (reserved g i) = record { object = 0; rights = 0; flags = 0 }
+handleOr (transferReserved g i) = record { object = 0; rights = 0; flags = 0 }
+handleOr (occupied g h) = h
+
+abbrev pub snapshotAt : State → Table → ℕ → Snapshot
+snapshotAt s t k = record { value = valueAt t k; info = infoFor s (handleOr (t .slots k)) }

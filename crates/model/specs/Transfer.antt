@@ -1,0 +1,97 @@
+-- Preparing a transfer: the checks of its items, in the printed order.
+use mathlib.Core.Bool.{Bool, true, false, not, _&&_, _||_}
+use mathlib.Core.List.{List, [], _∷_}
+use mathlib.Core.Option.{Option, none, some}
+use Prim.Native.Nat.{ℕ}
+use lib.Dec.{eqb}
+use Rattle.authority.specs.Rights.{contains, duplicateRight, transferRight}
+use Rattle.codec.specs.Codec.{slotIn}
+use Rattle.model.specs.Base.{pick, orElse, agrees, bans, member}
+use Rattle.model.specs.State.{Handle, Table, Class, Class.leaf, Class.rendezvousOnly, Class.never, Object, Entry, Entry.moved, Entry.copied, Body.claim, State}
+use Rattle.model.specs.Request.{Route, Route.buffered, Route.rendezvous, Route.stagedStartup, Operation, Operation.asMove, Operation.asCopy, Item}
+use Rattle.model.specs.Objects.{isNowRetired, raise, change, withRights}
+use Rattle.model.specs.Decision.{Decision, Decision.refusalAfterId}
+use Rattle.model.specs.Lookup.{View, lookup, handleOr, View.invalid, View.busy, View.holds}
+
+-- a check that holds or gives its number
+pub record Check : Type 0 where
+  pub holds : Bool
+  pub number : ℕ
+
+infix 68 _or_
+abbrev pub _or_ : Bool → ℕ → Check
+_or_ b n = record { holds = b; number = n }
+
+-- the number of the first check that does not hold
+abbrev pub firstFault : List Check → Option ℕ
+firstFault [] = none
+firstFault (c ∷ cs) = pick (c .holds) (firstFault cs) (some (c .number))
+
+-- mod.rs `permits`: Buffered bars RendezvousOnly, every route bars Never
+abbrev pub permits : Route → Class → Bool
+permits r leaf = true
+permits buffered rendezvousOnly = false
+permits rendezvous rendezvousOnly = true
+permits stagedStartup rendezvousOnly = true
+permits r never = false
+
+abbrev pub isCopy : Operation → Bool
+isCopy asMove = false
+isCopy asCopy = true
+
+-- "5 (rights), 8 (kind), 5 (object), 8 (route), 4". The rights: no TRANSFER, a copy without DUPLICATE, offered beyond the source's, requested
+-- beyond the offered
+abbrev pub itemChecks : Object → Route → Option ℕ → Option ℕ → Handle → Item → List Check
+itemChecks x route bannedObject bannedKind h q =
+    let offered : ℕ = orElse (q .offeredRights) (h .rights) in
+    contains (h .rights) transferRight or 5
+    ∷ (not (isCopy (q .operation)) || contains (h .rights) duplicateRight) or 5
+    ∷ contains (h .rights) offered or 5
+    ∷ contains offered (q .rights) or 5
+    ∷ not (bans bannedKind (x .kind)) or 8
+    ∷ not (bans bannedObject (x .koid)) or 5
+    ∷ permits route (x .class) or 8
+    ∷ (agrees (q .offeredKind) (x .kind) && agrees (q .expectedKind) (x .kind)) or 4
+    ∷ []
+
+abbrev pub viewFault : View → (Handle → Option ℕ) → Option ℕ
+viewFault invalid f = some 2
+viewFault busy f = some 3
+viewFault (holds k h) f = f h
+
+-- "A value listed twice in one transfer gives InvalidHandle, even if one is Copy"
+abbrev pub itemFault : State → Table → Route → Option ℕ → Option ℕ → List ℕ → Item → Option ℕ
+itemFault s t route bannedObject bannedKind earlier q =
+    pick (member (q .value) earlier) (some 2)
+    (viewFault (lookup t (q .value)) λ h. firstFault (itemChecks (s .objects (h .object)) route bannedObject bannedKind h q))
+
+abbrev pub firstOf : Option ℕ → Option ℕ → Option ℕ
+firstOf none b = b
+firstOf (some n) b = some n
+
+-- item by item
+abbrev pub itemsFault : State → Table → Route → Option ℕ → Option ℕ → List ℕ → List Item → Option ℕ
+itemsFault s t route bannedObject bannedKind earlier [] = none
+itemsFault s t route bannedObject bannedKind earlier (q ∷ qs) =
+    firstOf (itemFault s t route bannedObject bannedKind earlier q) (itemsFault s t route bannedObject bannedKind (q .value ∷ earlier) qs)
+
+-- "then copies 9, 11": copy by copy, with the counts that earlier copies raised
+abbrev pub copiesFault : (ℕ → Object) → List Handle → Option ℕ
+copiesFault os [] = none
+copiesFault os (h ∷ hs) =
+    pick (isNowRetired (os (h .object) .stage)) (some 9)
+    (pick (eqb (os (h .object) .count) (os (h .object) .limit)) (some 11)
+    (copiesFault (change raise os (h .object)) hs))
+
+-- an item as its claim keeps it
+abbrev pub entryBy : Operation → ℕ → Handle → ℕ → Entry
+entryBy asMove k h r = moved k h r
+entryBy asCopy k h r = copied (withRights h r)
+
+abbrev pub entryFor : Table → Item → Entry
+entryFor t q = entryBy (q .operation) (slotIn (t .mask) (q .value)) (handleOr (t .slots (slotIn (t .mask) (q .value)))) (q .rights)
+
+-- "`prepare_transfer_with_storage` spends its id before it looks at any value": a fault found after that
+abbrev pub afterId : Option ℕ → Decision → Decision
+afterId none d = d
+afterId (some n) d = refusalAfterId n

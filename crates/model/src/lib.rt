@@ -1,0 +1,3 @@
+// Document 01 as definitions, in specs/: the state (State, Create), one table's pages and orders (Storage), objects (Objects), the book (Book),
+// lookups (Lookup), the requests (Request, Decision, Transfer, Step), lists and answers as words (Words), "well formed" (WellFormed).
+// Proved of them: Created, Refusals, Lists; P1 to P12 and the corner cases in tables: Cases, WordCases. No code stands here.

@@ -1,0 +1,71 @@
+#!/usr/bin/env bash
+# Tests the repository, from nothing: proves every listed crate, tries every must-fail edit, runs every program, then what stands beside the
+# crates. The last line is 'N passed, M failed'; the exit status is 0 only if M is 0.
+set -u
+cd "$(dirname "$0")" || exit 2
+passed=0
+failed=0
+
+ok() { passed=$((passed + 1)); echo "ok: $1"; }
+bad() { failed=$((failed + 1)); echo "FAILED: $1"; }
+check() { # check NAME COMMAND..: one test
+  local name=$1
+  shift
+  if "$@"; then ok "$name"; else bad "$name"; fi
+}
+count() { # count NAME FILE: adds the closing line 'N passed, M failed' of a log; without one it is a failure
+  local line
+  line=$(grep -oE '[0-9]+ passed, [0-9]+ failed' "$2" | tail -n 1)
+  if [ -z "$line" ]; then
+    bad "$1: no closing line"
+    return
+  fi
+  local n m
+  n=$(echo "$line" | grep -oE '^[0-9]+')
+  m=$(echo "$line" | grep -oE '[0-9]+ failed' | grep -oE '[0-9]+')
+  passed=$((passed + n))
+  failed=$((failed + m))
+  echo "$1: $line"
+}
+
+command -v rt >/dev/null 2>&1 || {
+  echo "test.sh: the Rattle toolchain's command 'rt' is not on the PATH"
+  exit 2
+}
+logs=$(mktemp -d)
+trap 'rm -rf "$logs"' EXIT
+start=$SECONDS
+
+# Every folder of crates/ is listed in crates.txt, and every listed crate is there.
+listed=$(sed -e 's/#.*//' -e 's/:.*//' crates.txt | tr -d ' ' | grep -v '^$' | sort)
+present=$(find crates -mindepth 1 -maxdepth 1 -type d | sed 's,crates/,,' | sort)
+if [ "$listed" = "$present" ]; then ok "every crate is listed"; else
+  bad "crates.txt and crates/ differ:"
+  diff <(echo "$listed") <(echo "$present") | grep '^[<>]'
+fi
+
+# The proofs, the must-fail edits and the programs.
+rt ci >"$logs/rt" 2>&1
+status=$?
+grep -E '^rt: |error|NOT PROVED|passed, ' "$logs/rt" | cut -c1-240
+count "rt ci" "$logs/rt"
+check "rt ci ends with status 0" test "$status" -eq 0
+check "no crate rests on an axiom" tests/axioms.sh "$logs/rt"
+check "every must-fail edit is refused because a fact fails" tests/reasons.sh
+check "the layout of every file (rt fmt --check)" rt fmt --check
+check "the tables of docs/formats.md are those of the code" tests/formats.py
+echo "proofs: $((SECONDS - start)) s"
+
+for script in tests/slips.sh oracle/test.sh; do
+  if [ -f "$script" ]; then
+    bash "$script" >"$logs/script" 2>&1
+    status=$?
+    cat "$logs/script"
+    count "$script" "$logs/script"
+    check "$script ends with status 0" test "$status" -eq 0
+  fi
+done
+
+echo "the whole test: $((SECONDS - start)) s"
+echo "$passed passed, $failed failed"
+[ "$failed" -eq 0 ]

@@ -1,0 +1,19 @@
+#!/usr/bin/env bash
+# Looks at the log that each must-fail edit left: a refusal counts only where a fact no longer holds, and not where the edit does not parse, names
+# something that is not there, or leaves the proof file unfit for the code.
+cd "$(dirname "$0")/.." || exit 2
+edits=0
+wrong=0
+for edit in crates/*/must-fail/*.edit; do
+  edits=$((edits + 1))
+  crate=$(basename "$(dirname "$(dirname "$edit")")")
+  label=$(basename "$edit" .edit)
+  log=target/must-fail/$crate/$label/.log
+  first=$(grep -m 1 'error' "$log" 2>/dev/null)
+  if [ -z "$first" ] || echo "$first" | grep -qE 'can be named from here|is not in scope|expected .* found `|cannot be parsed|Parse|no proof: expected'; then
+    wrong=$((wrong + 1))
+    echo "$crate/$label: ${first:-no error in its log}" | cut -c1-300
+  fi
+done
+echo "$edits edits, $wrong refused for another reason"
+[ "$edits" -gt 0 ] && [ "$wrong" -eq 0 ]
