@@ -1,0 +1,184 @@
+-- The storage clauses of a state, and what keeps them: a change of one table, of objects at rest, of the book.
+use mathlib.Core.Path.{_≡_, ap}
+use mathlib.Core.List.{List, [], _∷_}
+use mathlib.Core.Option.{some}
+use Prim.Native.Nat.{ℕ, _+_, _^_, _≤_, _<_}
+use native.Mathlib.Omega.{arith}
+use lib.Dec.{eqb}
+use borrow.Author.Tests.{ne-eqb}
+use Rattle.codec.specs.Codec.{generationLimit}
+use Rattle.model.specs.Base.{put, occurs}
+use Rattle.model.specs.State.{Sizes, Handle, Table, Object, Entry, Entry.moved, Entry.copied, Body, Row, State, Lifecycle, noObject, maxTables, maxFrames, maxObjects, maxRows}
+use Rattle.model.specs.Change.{withTable, withObjects, withFrames, withBook, withLife}
+use Rattle.model.specs.Objects.{changeAll, change}
+use Rattle.model.specs.Book.{find, copiesOf}
+use Rattle.model.specs.Create.{maxPages}
+use Rattle.model.specs.WellFormed.{HandleRange, EntryRange, All, BodyRange, RowRange, LifeRange, Rising, Frames, Orders, Generations, AtRest, WellFormed}
+use Rattle.invariant.specs.Pointwise.{apart, bool, same, sum-differ, Alike}
+use Rattle.invariant.specs.Orders.{Sound, recast}
+use Rattle.invariant.specs.Frames.{owned, owned-alike}
+
+-- a table's ranges, save its slots'
+pub record TableStorage (z : Sizes) (t : Table) : Type 0 where
+  pub limit : (1 ≤ t .limit) × (t .limit ≤ maxPages z)
+  pub size : t .size ≤ t .limit
+  pub mask : t .mask < 2 ^ 56
+  pub epoch : t .epoch < 2 ^ 64
+  pub life : LifeRange (t .life)
+  pub high : (p : ℕ) → p < t .size → (1 ≤ t .pages p .high) × (t .pages p .high ≤ generationLimit)
+
+pub record StorageClauses (z : Sizes) (s : State) : Type 0 where
+  pub tableCount : (1 ≤ s .tableCount) × (s .tableCount ≤ maxTables)
+  pub frameCount : s .frameCount ≤ maxFrames
+  pub objectCount : (1 ≤ s .objectCount) × (s .objectCount ≤ maxObjects)
+  pub capacity : (1 ≤ s .book .capacity) × (s .book .capacity ≤ maxRows)
+  pub tables : (b : ℕ) → b < s .tableCount → TableStorage z (s .tables b)
+  pub frames : Frames s
+  pub orders : (b : ℕ) → Orders z (s .tables b)
+  pub generations : (b : ℕ) → Generations z (s .tables b)
+  pub atRest : AtRest s
+
+pub storage-of : (z : Sizes) (s : State) → WellFormed z s → StorageClauses z s
+storage-of z s w = record {
+  tableCount = w .ranges .tableCount;
+  frameCount = w .ranges .frameCount;
+  objectCount = w .ranges .objectCount;
+  capacity = w .ranges .capacity;
+  tables = λ b l. let r = w .ranges .tables b l in
+      record { limit = r .limit; size = r .size; mask = r .mask; epoch = r .epoch; life = r .life; high = r .high };
+  frames = w .frames;
+  orders = w .orders;
+  generations = w .generations;
+  atRest = w .atRest;
+}
+
+-- the counts stay as they are
+abbrev pub SameCounts : State → State → Type 0
+SameCounts s u = record {
+  tableCount : u .tableCount ≡ s .tableCount;
+  objectCount : u .objectCount ≡ s .objectCount;
+  frameCount : u .frameCount ≡ s .frameCount;
+  capacity : u .book .capacity ≡ s .book .capacity;
+}
+
+module _ (z : Sizes) (s : State) (w : StorageClauses z s) where
+  pub sound-of : (b : ℕ) → b < s .tableCount → Sound z (s .tables b) (s .tables b .free)
+  sound-of b l = let r = w .tables b l in let o = w .orders b in record {
+    limit = r .limit .1;
+    size = r .size;
+    epoch = r .epoch;
+    high = r .high;
+    rest = w .atRest .pages b;
+    there = o .there;
+    free = o .free;
+    empty = o .empty;
+    detached = o .detached;
+    generations = w .generations b;
+  }
+
+  -- what a request makes of a table and of the free frames
+  pub record Turn (b : ℕ) (t : Table) (fs : List ℕ) : Type 0 where
+    pub sound : Sound z t (t .free)
+    pub limit : t .limit ≡ s .tables b .limit
+    pub mask : t .mask ≡ s .tables b .mask
+    pub life : LifeRange (t .life)
+    pub frames : (f : ℕ) → owned t f + occurs f fs ≡ owned (s .tables b) f + occurs f (s .frames)
+    pub rising : Rising fs
+
+  pub turned : (b : ℕ) (t : Table) (fs : List ℕ) → b < s .tableCount → Turn b t fs → StorageClauses z (withFrames (withTable s b t) fs)
+  turned b t fs l n = record {
+    tableCount = w .tableCount;
+    frameCount = w .frameCount;
+    objectCount = w .objectCount;
+    capacity = w .capacity;
+    tables = λ c m. bool (eqb c b)
+        (λ e. rw e (record {
+          limit = rw (n .limit) (w .tables b l .limit);
+          size = n .sound .size;
+          mask = rw (n .mask) (w .tables b l .mask);
+          epoch = n .sound .epoch;
+          life = n .life;
+          high = n .sound .high;
+        }))
+        (λ e. rw e (w .tables c m));
+    frames = record {
+      once = λ f. let h = sum-differ (s .tableCount) (λ c. owned (put (s .tables) b t c) f) (λ c. owned (s .tables c) f) b l
+          (λ c m. rw (ne-eqb c b m)) in
+          let k : owned (put (s .tables) b t b) f ≡ owned t f = rw (same b) in
+          omega (arith, h, k, n .frames f, w .frames .once f);
+      rising = n .rising;
+    };
+    orders = λ c. bool (eqb c b)
+        (λ e. rw e (record { there = n .sound .there; free = n .sound .free; empty = n .sound .empty; detached = n .sound .detached }))
+        (λ e. rw e (w .orders c));
+    generations = λ c. bool (eqb c b) (λ e. rw e (n .sound .generations)) (λ e. rw e (w .generations c));
+    atRest = record {
+      tables = λ c m. rw (ne-eqb c b (λ y. omega arith)) (w .atRest .tables c m);
+      pages = λ c p. bool (eqb c b) (λ e. rw e (n .sound .rest p)) (λ e. rw e (w .atRest .pages c p));
+      objects = w .atRest .objects;
+    };
+  }
+
+  -- other objects, at rest beyond their count, and another book of equal room
+  pub others : (os : ℕ → Object) → ((o : ℕ) → s .objectCount ≤ o → os o ≡ noObject) → (rs : List Row) (n : ℕ)
+      → StorageClauses z (withBook (withObjects s os) (record { rows = rs; capacity = s .book .capacity; next = n }))
+  others os h rs n = record {
+    tableCount = w .tableCount;
+    frameCount = w .frameCount;
+    objectCount = w .objectCount;
+    capacity = w .capacity;
+    tables = w .tables;
+    frames = record { once = w .frames .once; rising = w .frames .rising };
+    orders = w .orders;
+    generations = w .generations;
+    atRest = record { tables = w .atRest .tables; pages = w .atRest .pages; objects = h };
+  }
+
+  pub another : (rs : List Row) (n : ℕ) → StorageClauses z (withBook s (record { rows = rs; capacity = s .book .capacity; next = n }))
+  another rs n = others (s .objects) (w .atRest .objects) rs n
+
+  -- an operation that leaves frames alone, with another life; and one that leaves life alone too
+  pub life-turned : (b : ℕ) (t : Table) (f : Lifecycle) → b < s .tableCount → Alike z (s .tables b) t → Sound z t (t .free) → LifeRange f
+      → StorageClauses z (withTable s b (withLife t f))
+  life-turned b t f l a o r = turned b (withLife t f) (s .frames) l (record {
+    sound = recast z t (t .free) o (t .mask) f (t .epoch) (t .free) (o .epoch);
+    limit = a .limit;
+    mask = a .mask;
+    life = r;
+    frames = λ x. ap (λ n. n + occurs x (s .frames)) (owned-alike z (s .tables b) t a x);
+    rising = w .frames .rising;
+  })
+
+  pub alike-turned : (b : ℕ) (t : Table) → b < s .tableCount → Alike z (s .tables b) t → Sound z t (t .free) → StorageClauses z (withTable s b t)
+  alike-turned b t l a o = life-turned b t (t .life) l a o (rw (a .life) (w .tables b l .life))
+
+-- objects in range, and the rest at rest
+
+abbrev pub InRange : ℕ → List Handle → Type 0
+InRange n hs = All (λ h. h .object < n) hs
+
+pub change-rest : (f : Object → Object) (n o : ℕ) (os : ℕ → Object) → o < n → ((j : ℕ) → n ≤ j → os j ≡ noObject) → (j : ℕ) → n ≤ j
+    → change f os o j ≡ noObject
+change-rest f n o os l h j m = rw (ne-eqb j o (λ y. omega arith)) (h j m)
+
+pub changeAll-rest : (f : Object → Object) (n : ℕ) (hs : List Handle) (os : ℕ → Object) → InRange n hs → ((j : ℕ) → n ≤ j → os j ≡ noObject)
+    → (j : ℕ) → n ≤ j → changeAll f hs os j ≡ noObject
+changeAll-rest f n [] os r h = h
+changeAll-rest f n (x ∷ hs) os r h = changeAll-rest f n hs (change f os (x .object)) (r .1) (change-rest f n (x .object) os (r .0) h)
+
+module _ (s : State) where
+  pub parcel-range : (hs : List Handle) → All (HandleRange s) hs → InRange (s .objectCount) hs
+  parcel-range [] r = tt
+  parcel-range (h ∷ hs) r = (r .0 .object, parcel-range hs (r .1))
+
+  pub copies-range : (es : List Entry) → All (EntryRange s) es → InRange (s .objectCount) (copiesOf es)
+  copies-range [] r = tt
+  copies-range (moved k h x ∷ es) r = copies-range es (r .1)
+  copies-range (copied h ∷ es) r = (r .0 .object, copies-range es (r .1))
+
+  -- a row that is found is in range
+  pub find-range : (i : ℕ) (rs : List Row) (b : Body) → All (RowRange s) rs → find i rs ≡ some b → BodyRange s b
+  find-range i [] b r e = apart (cc)
+  find-range i (x ∷ rs) b r e = bool (eqb (x .id) i)
+      (λ q. let y : some (x .body) ≡ some b = rw q at e in let y′ : x .body ≡ b = cc in rw y′ at (r .0))
+      (λ q. find-range i rs b (r .1) (rw q at e))
