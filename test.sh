@@ -56,15 +56,17 @@ check "the layout of every file (rt fmt --check)" rt fmt --check
 check "the tables of docs/formats.md are those of the code" tests/formats.py
 echo "proofs: $((SECONDS - start)) s"
 
-for script in tests/slips.sh oracle/test.sh; do
-  if [ -f "$script" ]; then
-    bash "$script" >"$logs/script" 2>&1
-    status=$?
-    cat "$logs/script"
-    count "$script" "$logs/script"
-    check "$script ends with status 0" test "$status" -eq 0
-  fi
+# What stands beside the crates: slips in the definitions, the oracle, the recorded lists on the definitions, the example.
+for script in tests/slips.py oracle/test.sh; do
+  "$script" >"$logs/script" 2>&1
+  status=$?
+  cat "$logs/script"
+  count "$script" "$logs/script"
+  check "$script ends with status 0" test "$status" -eq 0
+  echo "$script: $((SECONDS - start)) s"
 done
+check "the recorded lists, computed from the definitions" tests/model_replay.py
+check "the example prints what it should" tests/example.sh
 
 echo "the whole test: $((SECONDS - start)) s"
 echo "$passed passed, $failed failed"

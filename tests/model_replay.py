@@ -303,7 +303,7 @@ def state_of(w):
     frames = owners + f + -(-f // 16) + -(-f // 256) + -(-f // 4096)
     objects = frames + 384 * f
     index = objects + 8 * o
-    rows = index + r
+    rows = index + 2 * r
     row_id = {place: w[rows + ROW * place] for place in w[index : index + used]}
     held = lambda at: "record { object = %d; rights = %d; flags = %d }" % (w[at], w[at + 1], w[at + 2])
     chain = lambda first, step: [] if first == 0 else [first - 1] + chain(step(first - 1), step)
@@ -364,7 +364,7 @@ def state_of(w):
     )
 
 
-ROW, BLOCK = 392, 8
+ROW, BLOCK = 390, 6
 
 
 def main():
