@@ -26,7 +26,7 @@ SLIPS = {
     "a rollback that takes handles by their place among the moves": (
         "model/specs/Step.antt",
         "accept (dropRow i (release (withTable s b (restoreAll es (s .tables b))) (copiesOf es))) done",
-        "accept (dropRow i (release (withTable s b (fillAll (movedOf es) (map sentOf es) (s .tables b))) (copiesOf es))) done",
+        "accept (dropRow i (release (withTable s b (fillAll (movedOf es) (map (elim [ moved k h r ↦ h | copied h ↦ h ]) es) (s .tables b))) (copiesOf es))) done",
     ),
     "a commit that vacates the first slot only": (
         "model/specs/Step.antt",

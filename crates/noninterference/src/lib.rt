@@ -1,0 +1,1 @@
+// The held and the plain run: all of it stands in specs.
