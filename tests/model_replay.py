@@ -304,7 +304,7 @@ def state_of(w):
     objects = frames + 384 * f
     index = objects + 8 * o
     rows = index + 2 * r
-    row_id = {place: w[rows + ROW * place] for place in w[index : index + used]}
+    row_id = {place: w[rows + ROW * place] for place in w[index : index + 2 * used : 2]}
     held = lambda at: "record { object = %d; rights = %d; flags = %d }" % (w[at], w[at + 1], w[at + 2])
     chain = lambda first, step: [] if first == 0 else [first - 1] + chain(step(first - 1), step)
     tables = []
@@ -344,7 +344,7 @@ def state_of(w):
             % (koid, kind, ["leaf", "rendezvousOnly", "never"][cls], supported, ["false", "true"][exportable], limit, ["stillNew", "nowActive", "nowRetired"][stage], count)
         )
     book = []
-    for place in w[index : index + used]:
+    for place in w[index : index + 2 * used : 2]:
         at = rows + ROW * place
         ident, kind, table, count = w[at : at + 4]
         items = [at + BLOCK + 6 * j for j in range(count)]

@@ -86,8 +86,7 @@ pub fn text(words: &[u64]) -> Result<String, String> {
     let slots_region = sixteens + f.div_ceil(16) + f.div_ceil(256) + f.div_ceil(4096);
     let objects = slots_region + 384 * f;
     let index = objects + 8 * o;
-    let ranks = index + r;
-    let rows = ranks + r;
+    let rows = index + 2 * r;
 
     let mut out = String::from("state\n");
     out += &format!("next {next_id}\nrows {rows_used} of {r}\n");
@@ -278,12 +277,12 @@ pub fn text(words: &[u64]) -> Result<String, String> {
     }
 
     for rank in 0..rows_used {
-        let place = words.at(index + rank)?;
+        let place = words.at(index + 2 * rank)?;
         if place >= r {
             return wrong(format!("the row index names place {place}"));
         }
         let row = rows + 390 * place;
-        if words.at(ranks + place)? != rank {
+        if words.at(index + 2 * place + 1)? != rank {
             return wrong(format!("the rank of row {place} is not its position in the row index"));
         }
         let count = words.at(row + 3)?;

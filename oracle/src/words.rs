@@ -21,7 +21,6 @@ pub struct Places {
     pub frames: usize,
     pub objects: usize,
     pub index: usize,
-    pub ranks: usize,
     pub rows: usize,
     pub end: usize,
 }
@@ -37,9 +36,8 @@ pub fn places(tables: u64, frames: u64, objects: u64, rows: u64, pages: u64) -> 
     let frames = by_4096 + f.div_ceil(4096);
     let objects = frames + FRAME * f;
     let index = objects + OBJECT * o;
-    let ranks = index + r;
-    let rows = ranks + r;
-    Places { heads, entries, owners, by_16, by_256, by_4096, frames, objects, index, ranks, rows, end: rows + ROW * r }
+    let rows = index + 2 * r;
+    Places { heads, entries, owners, by_16, by_256, by_4096, frames, objects, index, rows, end: rows + ROW * r }
 }
 
 /// Creation: the state that the parameters ask for, or None (18).
@@ -235,10 +233,10 @@ pub fn encode_with(state: &State, place_of: impl Fn(usize) -> usize) -> Vec<u64>
     for (rank, row) in state.rows.iter().enumerate() {
         let place = place_of(rank);
         used[place] = true;
-        w[at.index + rank] = place as u64;
+        w[at.index + 2 * rank] = place as u64;
         let words = at.rows + ROW * place;
         w[words] = row.id;
-        w[at.ranks + place] = rank as u64;
+        w[at.index + 2 * place + 1] = rank as u64;
         let put = |w: &mut Vec<u64>, position: usize, entry: [u64; 6]| {
             let place = words + 6 + 6 * position;
             w[place..place + 6].copy_from_slice(&entry);
@@ -279,8 +277,8 @@ pub fn encode_with(state: &State, place_of: impl Fn(usize) -> usize) -> Vec<u64>
     let mut rank = state.rows.len();
     for (place, used) in used.iter().enumerate() {
         if !used {
-            w[at.index + rank] = place as u64;
-            w[at.ranks + place] = rank as u64;
+            w[at.index + 2 * rank] = place as u64;
+            w[at.index + 2 * place + 1] = rank as u64;
             rank += 1;
         }
     }
@@ -491,10 +489,10 @@ pub fn decode(w: &[u64]) -> Result<State, String> {
     let mut found = 0;
     let mut last_id = 0;
     for rank in 0..rows as usize {
-        let place = w[at.index + rank];
+        let place = w[at.index + 2 * rank];
         need(place < rows && !seen[place as usize], "the row index is no permutation")?;
         seen[place as usize] = true;
-        need(w[at.ranks + place as usize] == rank as u64, "a row's rank is not its position in the row index")?;
+        need(w[at.index + 2 * place as usize + 1] == rank as u64, "a row's rank is not its position in the row index")?;
         let r = at.rows + ROW * place as usize;
         if rank as u64 >= w[6] {
             continue;
