@@ -54,6 +54,7 @@ check "no crate rests on an axiom" tests/axioms.sh "$logs/rt"
 check "every must-fail edit is refused because a fact fails" tests/reasons.sh
 check "the layout of every file (rt fmt --check)" rt fmt --check
 check "the tables of docs/formats.md are those of the code" tests/formats.py
+check "what the documents cite is there" tests/trace.py
 echo "proofs: $((SECONDS - start)) s"
 
 # What stands beside the crates: slips in the definitions, the oracle, the recorded lists on the definitions, the example.
