@@ -8,9 +8,12 @@ reading of document 01. A line of FILE is a table (`table pages=4 seed=0`), an o
 pool (`frames 8`, `rows 8`) or a request (`reserve table=0 count=1`); an item of a publish or a transfer follows its request on a line that starts with `-`
 (`- parcel id=1`, `- move value=V rights=3`, `- copy value=V rights=1`). A value can be given as `@N`, the first value of the answer to request N, or `@N.K`.
 """
+import os
 import re
+import shutil
 import subprocess
 import sys
+import tempfile
 from pathlib import Path
 
 root = Path(__file__).resolve().parent
@@ -90,9 +93,10 @@ def expand(text):
 
 def oracle(program, create, lists, subject):
     text = "create " + " ".join(f"{w:x}" for w in create) + "\n" + "".join(" ".join(f"{w:x}" for w in l) + "\n" for l in lists)
-    work = root / "oracle" / "target" / "run.txt"
-    work.write_text(text)
-    done = subprocess.run([program, "run", str(work), subject], capture_output=True, text=True)
+    with tempfile.NamedTemporaryFile("w", suffix=".txt") as work:
+        work.write(text)
+        work.flush()
+        done = subprocess.run([program, "run", work.name, subject], capture_output=True, text=True)
     if done.returncode != 0:
         raise Fault(done.stderr.strip() or done.stdout.strip())
     results = [int(l.split()[1]) for l in done.stdout.split("\n") if l.startswith(("start ", "result "))]
@@ -140,10 +144,13 @@ def main():
     path = Path(sys.argv[1]) if len(sys.argv) > 1 else root / "examples" / "two-counters.txt"
     if len(sys.argv) > 2 or not path.is_file():
         sys.exit(f"usage: run.py [FILE]{'' if len(sys.argv) > 2 else f': {path} cannot be read'}")
+    if shutil.which("cargo") is None:
+        sys.exit("run.py: cargo is not on the PATH, and the oracle is built with it")
     build = subprocess.run(["cargo", "build", "--release", "--offline", "--quiet"], cwd=root / "oracle", capture_output=True, text=True)
     if build.returncode != 0:
         sys.exit(build.stderr)
-    program = str(root / "oracle" / "target" / "release" / "oracle")
+    target = Path(os.environ.get("CARGO_TARGET_DIR", root / "oracle" / "target"))
+    program = str(target / "release" / "oracle")
     try:
         create, requests = parse(path)
         rust = subprocess.run([program, "sources"], capture_output=True, text=True)

@@ -29,6 +29,21 @@ bad() {
     echo "WRONG $1"
 }
 
+for name in cases states plain edges scrambled last-page; do
+    if grep -q '^case ' "$recorded/$name.txt" 2>/dev/null; then
+        good "recorded/$name.txt has cases"
+    else
+        bad "recorded/$name.txt has cases"
+    fi
+done
+if [ -n "${ORACLE_RUST_SOURCES:-}" ]; then
+    sources=$ORACLE_RUST_SOURCES
+    [ "${sources#/}" = "$sources" ] && sources=../$sources
+    if [ ! -f "$sources/src/capability/handle/mod.rs" ]; then
+        bad "ORACLE_RUST_SOURCES names the Rust sources: there is no src/capability/handle/mod.rs in $ORACLE_RUST_SOURCES"
+        finish
+    fi
+fi
 if ! command -v cargo >/dev/null 2>&1; then
     echo "oracle: there is no cargo here, so neither the Rust nor the recorded lists were run"
     finish

@@ -1,56 +1,94 @@
 #!/usr/bin/env python3
-"""Compares the tables of docs/formats.md with the constants of crates/format and the definitions that the model reads them from."""
+"""Compares docs/formats.md with the constants of crates/format and with the definitions that the model reads requests by: fields with their bits and kinds,
+op numbers and names, must and may maps, the items' maps, the numbers of refusals, and the order of the model's table of requests."""
 import re
 import sys
 from pathlib import Path
 
 root = Path(__file__).resolve().parent.parent
 doc = (root / "docs/formats.md").read_text()
-code = (root / "crates/format/src/lib.rt").read_text()
+source = {name: (root / "crates/format/src" / f"{name}.rt").read_text() for name in ("lib", "op", "field", "refusal")}
 spec = (root / "crates/format/specs/Format.antt").read_text()
-bits = {}
-for bit, name in re.findall(r"^\| (\d+) \| ([^|]+?) \| [^|]*\| [^|]*\|$", doc, flags=re.M):
-    bits[name.split(";")[0].strip()] = int(bit)
-faults = []
+model = (root / "crates/model/specs/Words.antt").read_text()
+faults, compared = [], 0
+
+
+def same(what, got, want):
+    global compared
+    compared += 1
+    if got != want:
+        faults.append(f"{what}: {got} is not {want}")
+
+
+def constant(text, name):
+    found = re.search(r"const %s: \S+ = ([\d_]+);" % name, text)
+    return int(found.group(1).replace("_", "")) if found else None
+
+
+def array(name):
+    found = re.search(r"const %s: \[u64; \d+\] = \[(.*?)\];" % name, source["lib"], flags=re.S)
+    return [int(n.replace("_", "")) for n in re.findall(r"[\d_]+", found.group(1))] if found else None
+
+
+def definition(name):
+    found = re.search(r"\n%s =(.*?)(?:\n\n|\Z)" % name, spec, flags=re.S)
+    numbers = [int(n.replace("_", "")) for n in re.findall(r"\d[\d_]*", found.group(1))] if found else None
+    return numbers if numbers is None or "∷" in found.group(1) else numbers[0]
+
+
+# fields
+kinds = {"number": 0, "handle value": 0, "64 rights": 0, "reservation id": 0, "32 bits": 1, "koid": 2}
+bits, field_kinds = {}, []
+for bit, name, kind, _ in re.findall(r"^\| (\d+) \| ([^|]+?) \| ([^|]*?) \|([^|]*)\|$", doc, flags=re.M):
+    name = name.split(";")[0].strip()
+    bits[name] = int(bit)
+    field_kinds.append(4 if name == "op" else 3 if name == "route" else kinds.get(kind.split(",")[0].strip(), -1))
+    same(f"the bit of field {name}", constant(source["field"], "FIELD_" + name.upper().replace(" ", "_")), int(bit))
+same("the fields", len(bits), 18)
+same("FIELD_KIND", array("FIELD_KIND"), field_kinds)
+same("fieldKinds", definition("fieldKinds"), field_kinds)
 
 
 def mask(text):
     text = re.sub(r"\(.*?\)", "", text.split(";")[0])
-    names = [n.strip() for n in text.split(",") if n.strip()]
-    return sum(1 << bits["op" if n in ("operation", "0") else n] for n in names)
+    return sum(1 << bits["op" if n in ("operation", "0") else n] for n in (x.strip() for x in text.split(",")) if n)
 
 
-musts, mays = [0], [0]
-rows = re.findall(r"^\| (\d+) \| ([^|]+) \| ([^|]+) \| (\d+) \|([^|]*)\| (\d+) \|$", doc, flags=re.M)
-for op, name, must_names, must, may_names, may in rows:
-    if int(op) != len(musts):
-        faults.append(f"op {op} {name}: out of order")
-    if mask(must_names) != int(must) or mask(may_names) != int(may):
-        faults.append(f"op {op} {name}: the map does not match the names of its fields")
+# ops
+musts, mays, names = [0], [0], [""]
+for op, name, must_names, must, may_names, may in re.findall(r"^\| (\d+) \| ([^|]+) \| ([^|]+) \| (\d+) \|([^|]*)\| (\d+) \|$", doc, flags=re.M):
+    same(f"the place of op {name}", int(op), len(musts))
+    same(f"the must map of {name}", int(must), mask(must_names))
+    same(f"the may map of {name}", int(may), mask(may_names))
+    same(f"the number of {name}", constant(source["op"], "OP_" + name.strip().upper().replace(" ", "_")), int(op))
     musts.append(int(must))
     mays.append(int(may))
+    names.append(name.strip())
+same("the ops", len(musts), 25)
+same("MUST", array("MUST"), musts)
+same("MAY", array("MAY"), mays)
+same("musts", definition("musts"), musts)
+same("mays", definition("mays"), mays)
+table = re.search(r"plainRequests =(.*?)∷ \[\]", model, flags=re.S)
+built = re.findall(r"λ f\. (\w+)", table.group(1))[1:]
+camel = [re.sub(r"[ _](\w)", lambda m: m.group(1).upper(), n) for n in names[1:]]
+same("the order of plainRequests", built, camel)
 
+# items
+for item, must_names, must, may_names, may in re.findall(r"^\| (transfer|parcel) item \| ([^|]+) \| (\d+) \|([^|]*)\| (\d+) \|$", doc, flags=re.M):
+    same(f"the must map of a {item} item", int(must), mask(must_names))
+    same(f"the may map of a {item} item", int(may), mask(may_names))
+    for part, value in (("MUST", int(must)), ("MAY", int(may))):
+        same(f"{item.upper()}_ITEM_{part}", constant(source["lib"], f"{item.upper()}_ITEM_{part}"), value)
+        same(f"{item}Item{part.title()}", definition(f"{item}Item{part.title()}"), value)
 
-def numbers(text, name, pattern):
-    found = re.search(pattern % name, text, flags=re.S)
-    if not found:
-        faults.append(f"{name} is not found")
-        return []
-    return [int(n.replace("_", "")) for n in re.findall(r"\d[\d_]*", found.group(1))]
+# the numbers of document 01
+words = "Done Allocation InvalidHandle Busy WrongObjectType AccessDenied UnsupportedRights UnsupportedFlags UnsupportedTransfer ObjectRetired ObjectAlreadyActive ActiveHandleLimit ReservationIdExhausted ReservationTooLarge OutstandingReservation TableFull TableRetired EmptyReservation Misuse Malformed AnswerShort".split()
+for number, word in enumerate(words):
+    same(f"the number {word}", constant(source["refusal"], re.sub(r"(?<!^)(?=[A-Z])", "_", word).upper()), number)
+same("ANSWER_WORDS", constant(source["lib"], "ANSWER_WORDS"), 72)
 
-
-const = r"const %s: \[u64; \d+\] = \[(.*?)\];"
-definition = r"^%s = (.*?)\[\]"
-for name, want in (("MUST", musts), ("MAY", mays)):
-    if numbers(code, name, const) != want:
-        faults.append(f"{name} in the code differs from docs/formats.md")
-for name, want in (("musts", musts), ("mays", mays)):
-    got = re.search(r"\n%s =(.*?)\[\]" % name, spec, flags=re.S)
-    if not got or [int(n) for n in re.findall(r"\d+", got.group(1))] != want:
-        faults.append(f"{name} in the definitions differs from docs/formats.md")
-if len(bits) != 18 or len(rows) != 24:
-    faults.append(f"docs/formats.md has {len(bits)} fields and {len(rows)} ops")
 for fault in faults:
     print(fault)
-print(f"{len(bits)} fields and {len(rows)} ops compared")
-sys.exit(1 if faults else 0)
+print(f"{compared} comparisons of docs/formats.md with the code and the definitions")
+sys.exit(1 if faults or compared < 150 else 0)

@@ -9,6 +9,7 @@ import shutil
 import subprocess
 import sys
 import tempfile
+from collections import Counter
 from pathlib import Path
 
 root = Path(__file__).resolve().parent.parent
@@ -163,7 +164,7 @@ use lib.Dec.{eqb, ltb}
 use Rattle.authority.specs.Rights.{contains}
 use Rattle.codec.specs.Codec.{pick as choose, encode, payload, decodes, payloadIn, numberIn, slotIn, generationIn, nextGeneration, maskOf}
 use Rattle.format.specs.Format.{pick as choice, musts, mays, fieldKinds, fieldFits, knownOp}
-use Rattle.model.specs.Base.{pick, orElse, isSome}
+use Rattle.model.specs.Base.{bit, pick, orElse, isSome, range}
 use Rattle.model.specs.State.{Handle, Slot, Slot.absent, Slot.vacant, Slot.reserved, Slot.transferReserved, Slot.occupied, Page, Lifecycle, Lifecycle.active, Lifecycle.tearingDown, Lifecycle.retired, Table, Class, Class.leaf, Class.rendezvousOnly, Class.never, Stage, Stage.stillNew, Stage.nowActive, Stage.nowRetired, Object, Entry, Entry.moved, Entry.copied, Body, Body.reservation, Body.claim, Body.parcel, Row, State, till, noPage, noTable, noObject, maxTables, maxFrames, maxObjects, maxRows, maxBatch, maxSlots, maxLimit, knownFlags, lastId}
 use Rattle.model.specs.Storage.{place, vacate, takeFree, pagesFor, attach, detach, slotsOf}
 use Rattle.model.specs.Request.{Answer, Request}
@@ -369,20 +370,30 @@ ROW, BLOCK = 390, 6
 
 def main():
     names = sys.argv[1:] or ["cases.txt", "plain.txt", "edges.txt", "scrambled.txt"]
-    modules, requests, lists, skipped = [], 0, 0, 0
+    modules, requests, lists, calls, refused = [], 0, 0, 0, []
+    left = Counter()
     made = {}
     for name in names:
         path = root / "recorded" / name
+        found = 0
         for case in cases(path):
             kind, start = case.start
+            found += 1
             if case.result != 0:
-                skipped += 1
+                short = kind == "words" or len(start) < 4 or len(start) < 4 + 2 * start[0] + 6 * start[2] or start[0] > 64 or start[2] > 8192
+                if short:
+                    left["a refused start that is no matter of the parameters"] += 1
+                    continue
+                refused.append(parameters(start))
                 continue
             if kind == "words" and (start[8] > 64 or start[2] > 64):
-                skipped += 1
+                left["a table too large to write out"] += 1
                 continue
-            asked, told = [], []
+            asked, told, whole = [], [], []
             for call in case.calls:
+                if call[0] == "!":
+                    whole.append((call[1], call[3], call[2]))
+                    calls += 1
                 if call[0] == "=":
                     asked += call[1]
                     answer = call[2]
@@ -398,8 +409,21 @@ def main():
                 f"-- {name}: {case.name}\n{HEAD}use Rattle.replay.specs.Show.{{shown, brief, replayed, stored}}\n\nstart : State\nunfolding created\nstart = {state}\n\n"
                 f"asked : List ℕ\nasked = {listed(asked)}\n\ntold : List ℕ\ntold = {listed(told)}\n\n"
                 f"holds : sameList (replayed start asked) told ≡ true\n{UNFOLD.rstrip()} start asked told\nholds = refl\n"
+                + (
+                    f"\nwhole : sameList ({''.join(f'call till (some start) ({listed(ask)}) (range 0 {lent}) .result ∷ ' for lent, ask, _ in whole)}[]) ({listed([r for _, _, r in whole])}) ≡ true\n"
+                    f"{UNFOLD.rstrip()} start\nwhole = refl\n"
+                    if whole
+                    else ""
+                )
             )
             modules.append((module, name, case.name))
+        if not found:
+            sys.exit(f"recorded/{name} has no case")
+    made["Creations"] = (
+        f"-- creations that are refused\n{HEAD}\nrefused : sameList ({''.join(f'bit (isSome (create till ({p}))) ∷ ' for p in refused)}[]) ({listed([0] * len(refused))}) ≡ true\n"
+        f"{UNFOLD.rstrip()}\nrefused = refl\n"
+    )
+    modules.append(("Creations", "cases.txt", "refused creations"))
     with tempfile.TemporaryDirectory() as folder:
         scratch = Path(folder)
         shutil.copytree(root / "crates", scratch / "crates")
@@ -421,13 +445,14 @@ def main():
         whole = scratch / "target" / "log" / "replay.out"
         if whole.exists():
             log += whole.read_text()
-    wrong = sorted(set(re.findall(r"(Case\d+)\.antt:\d+:\d+: error", log)))
+    wrong = sorted(set(re.findall(r"(Case\d+|Creations)\.antt:\d+:\d+: error", log)))
     for module, name, case in modules:
         if module in wrong:
             print(f"differs: {name} {case} ({module})")
     if done.returncode != 0 and not wrong:
         print("\n".join(l for l in log.split("\n") if "error" in l)[:3000])
-    print(f"{lists} recorded lists with {requests} requests computed from the definitions, answers and end states; {len(wrong)} differ; {skipped} left out (a refused start, or a table too large to write out)")
+    print(f"{lists} recorded lists with {requests} requests computed from the definitions, answers and end states; {calls} whole calls refused; {len(refused)} creations refused; {len(wrong)} modules differ")
+    print("left out: states.txt (the state check, which the definitions do not compute), last-page.txt and " + ", ".join(f"{n} times {why}" for why, n in left.items()))
     sys.exit(1 if done.returncode != 0 or not lists else 0)
 
 

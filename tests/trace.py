@@ -18,7 +18,7 @@ crates = {p.name for p in root.glob("crates/*")}
 # words of document 01 and of the Rust, quoted as they stand there
 quoted = set(
     "next_generation prepare_transfer_with_storage prepare_consumption_with_storage fresh_generation decode take_empty_page replace snapshot install get_info remove_active "
-    "HandleTransferRequest remove_stopping_owner examined scan_handles resolve encode const Vec Option Result lookup Drop kind TableHead active_transfers till".split()
+    "HandleTransferRequest u64 ensures requires remove_stopping_owner examined scan_handles resolve encode const Vec Option Result lookup Drop kind TableHead active_transfers till".split()
 )
 faults, seen = [], 0
 for name in ("TRACE", "DECISIONS", "argument"):

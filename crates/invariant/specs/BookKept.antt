@@ -1,5 +1,5 @@
 -- Every request keeps the clauses of the book and the counts.
-use mathlib.Core.Path.{_≡_, refl, ap, _∙_, subst, fun-ext}
+use mathlib.Core.Path.{_≡_, refl, _∙_, subst, fun-ext}
 use mathlib.Core.Bool.{true}
 use mathlib.Core.List.{List, [], _∷_, _++_, map}
 use mathlib.Core.Option.{Option, some}
@@ -19,30 +19,31 @@ use Rattle.model.specs.Request.{Request.close, Request.scanHandles, Request.pre
 use Rattle.model.specs.Request.{Request.commit, Request.directCommit, Request.directRollback, Request.removeStoppingOwner, Request.teardownStart}
 use Rattle.model.specs.Request.{Request.teardownStep, Request.teardownFinish, Request.takeEmptyPage}
 use Rattle.model.specs.Change.{withTable, withFrames}
-use Rattle.model.specs.Book.{addRow, freeRow, idLeft, copiesOf}
-use Rattle.model.specs.Decision.{Decision, Decision.refusal, Decision.refusalAfterId, Decision.accept, handlesOf, distinct}
+use Rattle.model.specs.Book.{addRow, freeRow, idLeft, copiesOf, find}
+use Rattle.model.specs.Decision.{handlesOf, distinct}
 use Rattle.model.specs.Lookup.{lookup}
 use Rattle.model.specs.Transfer.{itemsFault, copiesFault, entryFor}
 use Rattle.model.specs.Step.{reserveOf, trimOf, abortOf, publishOf, prepareTransferOf, prepareConsumptionOf, rollbackOf, commitOf, directCommitOf}
-use Rattle.model.specs.Step.{directRollbackOf, decide, carry, step}
+use Rattle.model.specs.Step.{directRollbackOf, decide, step}
 use Rattle.model.specs.WellFormed.{HandleRange, WellFormed}
-use Rattle.invariant.specs.Pointwise.{bool, clash, same, bit-small, put-same, grow-grown}
+use Rattle.model.specs.Tests.{bool, clash, same, bit-small, put-same, at-most}
+use Rattle.model.specs.Decided.{accepts, checked, with-some, with-view, after-id, with-reservation, with-claim, carried}
+use Rattle.invariant.specs.Pointwise.{grow-grown}
+use Rattle.invariant.specs.BookLemmas.{row}
+use Rattle.invariant.specs.CountLemmas.{of-same}
+use Rattle.invariant.specs.Items.{items-range, items-stand, items-count, items-once, stands-at}
 use Rattle.invariant.specs.Pages.{Sane}
 use Rattle.invariant.specs.Orders.{Sound}
 use Rattle.invariant.specs.Frames.{Grows, pages-grow, reserve-length, grow-sound}
-use Rattle.invariant.specs.BookLemmas.{row}
-use Rattle.invariant.specs.CountLemmas.{of-same}
-use Rattle.invariant.specs.Rows.{BookClauses, Good, edit, good-clauses, active-live}
+use Rattle.invariant.specs.StorageDecisions.{sound-at, held-range}
+use Rattle.invariant.specs.Rows.{BookClauses, Good, edit, good-clauses, active-live, good}
 use Rattle.invariant.specs.Counts.{one-batch, spend-id, slot-counted, calm-step}
 use Rattle.invariant.specs.RowsClosed.{abort-good, trim-good, commit-good, rollback-good, publish-good, direct-commit-good}
 use Rattle.invariant.specs.RowsClosed.{direct-rollback-good}
 use Rattle.invariant.specs.RowsOpened.{reserve-good, claim-good}
-use Rattle.invariant.specs.Items.{Named, named, items-range, items-stand, items-count, items-once}
-use Rattle.invariant.specs.Decisions.{Leaves, accepts, checked, with-some, with-view, after-id, with-reservation, with-claim}
 use Rattle.invariant.specs.Growth.{grow-calm}
-use Rattle.invariant.specs.BookHandles.{Keeps, at-most, its, in-range, sound-at, new-object, duplicate-kept, release-kept, retire-kept}
-use Rattle.invariant.specs.BookHandles.{info-kept, resolve-kept, scan-kept, close-kept, replace-kept, remove-kept, start-kept, step-kept}
-use Rattle.invariant.specs.BookHandles.{finish-kept, take-kept}
+use Rattle.invariant.specs.BookHandles.{Keeps, new-object, duplicate-kept, release-kept, retire-kept, info-kept, resolve-kept, scan-kept}
+use Rattle.invariant.specs.BookHandles.{close-kept, replace-kept, remove-kept, start-kept, step-kept, finish-kept, take-kept}
 
 put-put : (f : ℕ → Table) (b : ℕ) (t u : Table) → put (put f b t) b u ≡ put f b u
 put-put f b t u = fun-ext (λ j. bool (eqb j b) (λ e. rw e) (λ e. rw e))
@@ -65,39 +66,50 @@ taken-after z s b n u fs g l a p q fr id len order =
 
 module _ (z : Sizes) (sane : Sane z) (s : State) (w : WellFormed z s) where
   g : Good s
-  g = its z sane s w
+  g = good z s w
 
   trim-kept : (i n : ℕ) → Keeps s (trimOf z s i n)
   unfolding trimOf
-  trim-kept i n = with-reservation s i _ λ b ks e. checked (ltb 0 n) _ _ λ e₁. checked (atMost n (length ks)) _ _ λ e₂.
+  trim-kept i n = with-reservation (find i (s .book .rows)) tt λ b ks e.
+      checked (ltb 0 n) _ tt λ e₁.
+      checked (atMost n (length ks)) _ tt λ e₂.
       accepts (trim-good z s g i b n ks e (ltb-true 0 n e₁) (at-most n (length ks) e₂))
 
   abort-kept : (i : ℕ) → Keeps s (abortOf z s i)
   unfolding abortOf
-  abort-kept i = with-reservation s i _ λ b ks e. accepts (abort-good z s g i b ks e)
+  abort-kept i = with-reservation (find i (s .book .rows)) tt λ b ks e.
+      accepts (abort-good z s g i b ks e)
 
   publish-kept : (i : ℕ) (is : List ℕ) → Keeps s (publishOf z s i is)
   unfolding publishOf
-  publish-kept i is = with-reservation s i _ λ b ks e. with-some (handlesOf is (s .book .rows)) _ _ λ hs f.
-      checked (distinct is) _ _ λ d. checked (eqb (length hs) (length ks)) _ _ λ l.
+  publish-kept i is = with-reservation (find i (s .book .rows)) tt λ b ks e.
+      with-some (handlesOf is (s .book .rows)) _ tt λ hs f.
+      checked (distinct is) _ tt λ d.
+      checked (eqb (length hs) (length ks)) _ tt λ l.
       accepts (publish-good z s g i b ks is hs e f d (eqb-true (length hs) (length ks) l))
 
   rollback-kept : (i : ℕ) → Keeps s (rollbackOf z s i)
   unfolding rollbackOf
-  rollback-kept i = with-claim s i _ λ b es e. accepts (rollback-good z s g i b es e)
+  rollback-kept i = with-claim (find i (s .book .rows)) tt λ b es e.
+      accepts (rollback-good z s g i b es e)
 
   commit-kept : (i : ℕ) → Keeps s (commitOf z s i)
   unfolding commitOf
-  commit-kept i = with-claim s i _ λ b es e. accepts (commit-good z s g i b es e)
+  commit-kept i = with-claim (find i (s .book .rows)) tt λ b es e.
+      accepts (commit-good z s g i b es e)
 
   direct-commit-kept : (i j : ℕ) → Keeps s (directCommitOf z s i j)
   unfolding directCommitOf
-  direct-commit-kept i j = with-claim s i _ λ b es e. with-reservation s j _ λ c ks f. checked (eqb (length es) (length ks)) _ _ λ l.
+  direct-commit-kept i j = with-claim (find i (s .book .rows)) tt λ b es e.
+      with-reservation (find j (s .book .rows)) tt λ c ks f.
+      checked (eqb (length es) (length ks)) _ tt λ l.
       accepts (direct-commit-good z s g i j b c es ks e f (eqb-true (length es) (length ks) l))
 
   direct-rollback-kept : (i j : ℕ) → Keeps s (directRollbackOf z s i j)
   unfolding directRollbackOf
-  direct-rollback-kept i j = with-claim s i _ λ b es e. with-reservation s j _ λ c ks f. checked (eqb (length es) (length ks)) _ _ λ l.
+  direct-rollback-kept i j = with-claim (find i (s .book .rows)) tt λ b es e.
+      with-reservation (find j (s .book .rows)) tt λ c ks f.
+      checked (eqb (length es) (length ks)) _ tt λ l.
       accepts (direct-rollback-good z s g i j b c es ks e f)
 
   -- the table grows, then the first free slots are taken
@@ -109,7 +121,7 @@ module _ (z : Sizes) (sane : Sane z) (s : State) (w : WellFormed z s) where
   reserved-kept b n ps l a p q fr id e m =
       let t : Table = s .tables b in
       let u : Table = grow z ps (s .frames) t in
-      let o : Sound z t (t .free) = sound-at z sane s w b l in
+      let o : Sound z t (t .free) = sound-at z s w b l in
       let gr : Grows z t ps = pages-grow z sane t (t .free) o n ps e in
       let f : isActive (u .life) ≡ true = rw (grow-grown z ps (s .frames) t .life) a in
       taken-after z s b n u (drop (length ps) (s .frames))
@@ -120,28 +132,28 @@ module _ (z : Sizes) (sane : Sane z) (s : State) (w : WellFormed z s) where
   reserve-kept : (b n : ℕ) → Keeps s (reserveOf z s b n)
   unfolding reserveOf
   reserve-kept b n = let t : Table = s .tables b in
-      checked (ltb b (s .tableCount)) _ _ λ l.
-      checked (isActive (t .life)) _ _ λ a.
-      checked (ltb 0 n) _ _ λ e₁.
-      checked (atMost n maxBatch) _ _ λ e₂.
-      with-some (pagesFor z t n) _ _ λ ps e.
-      checked (atMost (length ps) (length (s .frames))) _ _ λ e₃.
-      checked (freeRow s) _ _ λ fr.
-      checked (idLeft s) _ _ λ id.
+      checked (ltb b (s .tableCount)) _ tt λ l.
+      checked (isActive (t .life)) _ tt λ a.
+      checked (ltb 0 n) _ tt λ e₁.
+      checked (atMost n maxBatch) _ tt λ e₂.
+      with-some (pagesFor z t n) _ tt λ ps e.
+      checked (atMost (length ps) (length (s .frames))) _ tt λ e₃.
+      checked (freeRow s) _ tt λ fr.
+      checked (idLeft s) _ tt λ id.
       accepts (reserved-kept b n ps (ltb-true b (s .tableCount) l) a (ltb-true 0 n e₁) (at-most n maxBatch e₂) fr id e
       (at-most (length ps) (length (s .frames)) e₃))
 
   transfer-kept : (b : ℕ) (route : Route) (bo bk : Option ℕ) (qs : List Item) → Keeps s (prepareTransferOf z s b route bo bk qs)
   unfolding prepareTransferOf
   transfer-kept b route bo bk qs = let t : Table = s .tables b in let es : List Entry = map (entryFor t) qs in
-      checked (ltb b (s .tableCount)) _ _ λ l.
-      checked (isActive (t .life)) _ _ λ a.
-      checked (ltb 0 (length qs)) _ _ λ e₁.
-      checked (atMost (length qs) maxBatch) _ _ λ e₂.
-      checked (freeRow s) _ _ λ fr.
-      checked (idLeft s) _ _ λ id.
-      after-id (itemsFault s t route bo bk [] qs) _ id λ e.
-      after-id (copiesFault (s .objects) (copiesOf es)) _ id λ c.
+      checked (ltb b (s .tableCount)) _ tt λ l.
+      checked (isActive (t .life)) _ tt λ a.
+      checked (ltb 0 (length qs)) _ tt λ e₁.
+      checked (atMost (length qs) maxBatch) _ tt λ e₂.
+      checked (freeRow s) _ tt λ fr.
+      checked (idLeft s) _ tt λ id.
+      after-id (itemsFault s t route bo bk [] qs) (λ n q. id) λ e.
+      after-id (copiesFault (s .objects) (copiesOf es)) (λ n q. id) λ c.
       let m : b < s .tableCount = ltb-true b (s .tableCount) l in
       accepts (claim-good z s g b es m a fr id (
         omega (arith, length-map qs (entryFor t), ltb-true 0 (length qs) e₁),
@@ -154,19 +166,19 @@ module _ (z : Sizes) (sane : Sane z) (s : State) (w : WellFormed z s) where
   consume-kept : (b v r kind koid : ℕ) → Keeps s (prepareConsumptionOf z s b v r kind koid)
   unfolding prepareConsumptionOf
   consume-kept b v r kind koid = let t : Table = s .tables b in
-      checked (ltb b (s .tableCount)) _ _ λ l.
-      checked (isActive (t .life)) _ _ λ a.
-      checked (freeRow s) _ _ λ fr.
-      with-view (lookup t v) _ λ k h e.
-      checked (contains (h .rights) r) _ _ λ e₁.
-      checked (eqb (s .objects (h .object) .kind) kind) _ _ λ e₂.
-      checked (eqb (s .objects (h .object) .koid) koid) _ _ λ e₃.
-      checked (idLeft s) _ _ λ id.
-      let n : Named t v k h = named t v k h e in
+      checked (ltb b (s .tableCount)) _ tt λ l.
+      checked (isActive (t .life)) _ tt λ a.
+      checked (freeRow s) _ tt λ fr.
+      with-view (lookup t v) tt tt λ k h e.
+      checked (contains (h .rights) r) _ tt λ e₁.
+      checked (eqb (s .objects (h .object) .kind) kind) _ tt λ e₂.
+      checked (eqb (s .objects (h .object) .koid) koid) _ tt λ e₃.
+      checked (idLeft s) _ tt λ id.
+      let m : b < s .tableCount = ltb-true b (s .tableCount) l in
       let x : ℕ = generationIn (t .mask) v in
-      let st : t .slots k ≡ occupied x h = ap (t .slots) (n .slot) ∙ n .stands in
-      let hr : HandleRange s h = in-range z sane s w b k x h st in
-      accepts (claim-good z s g b (moved k h (h .rights) ∷ []) (ltb-true b (s .tableCount) l) a fr id (one-batch (moved k h (h .rights)))
+      let st : t .slots k ≡ occupied x h = stands-at t v k h e in
+      let hr : HandleRange s h = held-range z s w b k x h m st in
+      accepts (claim-good z s g b (moved k h (h .rights) ∷ []) m a fr id (one-batch (moved k h (h .rights)))
       ((hr, hr .rights), tt)
       ((x, st), tt) (λ j. omega (arith, bit-small (eqb j k))) refl (λ o p y. absurd (omega arith)))
 
@@ -197,14 +209,9 @@ module _ (z : Sizes) (sane : Sane z) (s : State) (w : WellFormed z s) where
   decided (teardownFinish b) = finish-kept z sane s w b
   decided (takeEmptyPage b) = take-kept z sane s w b
 
-  carried : (d : Decision) → Leaves Good (idLeft s ≡ true) d → Good (carry z s d .0)
-  carried (refusal n) h = g
-  carried (refusalAfterId n) h = spend-id s g h
-  carried (accept u a) h = h
-
   requested : (r : Request) → Good (step z s r .0)
   unfolding step
-  requested r = carried (decide z s r) (decided r .leaves)
+  requested r = carried Good z s (decide z s r) g (λ n q. spend-id s g q) (λ u a k. k) (decided r)
 
 pub book-kept : (z : Sizes) → Sane z → (s : State) → WellFormed z s → (r : Request) → BookClauses (step z s r .0)
 book-kept z sane s w r = good-clauses (step z s r .0) (requested z sane s w r)

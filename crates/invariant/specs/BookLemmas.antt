@@ -1,6 +1,6 @@
 -- The book's rows: what is found, counted and open after a row is added, dropped or swapped.
 use mathlib.Core.Path.{_≡_, refl, sym, ap, _∙_}
-use mathlib.Core.Bool.{Bool, true, false, _||_}
+use mathlib.Core.Bool.{false, _||_}
 use mathlib.Core.List.{List, [], _∷_, _++_}
 use mathlib.Core.Option.{none, some}
 use Prim.Native.Nat.{ℕ, suc, _+_, _≤_, _<_}
@@ -8,10 +8,10 @@ use native.Mathlib.Omega.{arith}
 use lib.ListN.{length}
 use lib.Dec.{eqb}
 use borrow.Author.Tests.{eqb-true, ne-eqb}
-use Rattle.model.specs.State.{Handle, Body, Row}
+use Rattle.model.specs.State.{Handle, Body, Row, State}
 use Rattle.model.specs.Book.{find, dropId, swapId, opensIn, anyOpen}
-use Rattle.model.specs.WellFormed.{All, IdsRise, handlesIn, inHandles, inRows}
-use Rattle.invariant.specs.Pointwise.{apart, bool, clash, same}
+use Rattle.model.specs.WellFormed.{BodyRange, RowRange, All, IdsRise, handlesIn, inHandles, inRows}
+use Rattle.model.specs.Tests.{apart, bool, same, or-false, or-left, or-right}
 
 -- a row of an id
 abbrev pub row : ℕ → Body → Row
@@ -126,13 +126,18 @@ pub length-swap : (i : ℕ) (b : Body) (rs : List Row) → length (swapId i b rs
 length-swap i b [] = refl
 length-swap i b (r ∷ rs) = bool (eqb (r .id) i) (λ e. rw e (ap suc (length-swap i b rs))) (λ e. rw e (ap suc (length-swap i b rs)))
 
--- a property of every row
+-- a property of every element, and of every row
+
+module _ {ℓ} {A : Type ℓ} where
+  pub all-map : {P Q : A → Type 0} → ((x : A) → P x → Q x) → (xs : List A) → All P xs → All Q xs
+  all-map f [] r = tt
+  all-map f (x ∷ xs) r = (f x (r .0), all-map f xs (r .1))
+
+  pub all-append : (P : A → Type 0) (xs ys : List A) → All P xs → All P ys → All P (xs ++ ys)
+  all-append P [] ys a b = b
+  all-append P (x ∷ xs) ys a b = (a .0, all-append P xs ys (a .1) b)
 
 module _ (P : Row → Type 0) where
-  pub all-add : (rs : List Row) (r : Row) → All P rs → P r → All P (rs ++ (r ∷ []))
-  all-add [] r h p = (p, tt)
-  all-add (x ∷ rs) r h p = (h .0, all-add rs r (h .1) p)
-
   pub all-drop : (i : ℕ) (rs : List Row) → All P rs → All P (dropId i rs)
   all-drop i [] h = tt
   all-drop i (r ∷ rs) h = bool (eqb (r .id) i) (λ e. rw e (all-drop i rs (h .1))) (λ e. rw e (h .0, all-drop i rs (h .1)))
@@ -148,6 +153,10 @@ all-found P i b [] h e = apart (cc)
 all-found P i b (r ∷ rs) h e = bool (eqb (r .id) i)
     (λ q. let y : some (r .body) ≡ some b = rw q at e in let x : r .body ≡ b = cc in rw x at (h .0))
     (λ q. all-found P i b rs (h .1) (rw q at e))
+
+-- a row of a state is in range
+pub found-range : (s : State) → All (RowRange s) (s .book .rows) → (i : ℕ) (x : Body) → find i (s .book .rows) ≡ some x → BodyRange s x
+found-range s w i x e = all-found (BodyRange s) i x (s .book .rows) w e
 
 -- the handles of rows, by object
 
@@ -179,17 +188,6 @@ module _ (o i : ℕ) (c : Body) where
       (λ q. rw q (omega (arith, rows-swap b (suc (r .id)) hi rs (h .1) (rw q at e))))
 
 -- open rows of a table
-
-or-false : (a b : Bool) → a ≡ false → b ≡ false → (a || b) ≡ false
-or-false a b p q = rw (p, q)
-
-or-left : (a b : Bool) → (a || b) ≡ false → a ≡ false
-or-left true b e = e
-or-left false b e = refl
-
-or-right : (a b : Bool) → (a || b) ≡ false → b ≡ false
-or-right true b e = clash refl e
-or-right false b e = e
 
 module _ (b : ℕ) where
   pub open-add : (rs : List Row) (r : Row) → anyOpen b rs ≡ false → opensIn b (r .body) ≡ false → anyOpen b (rs ++ (r ∷ [])) ≡ false

@@ -7,14 +7,16 @@ use Prim.Native.Nat.{ℕ, zero, suc, _+_, _-_, _≤_, _<_}
 use native.Mathlib.Omega.{arith}
 use lib.ListN.{length}
 use lib.Dec.{ltb, eqb}
-use borrow.Author.Tests.{ltb-true, eqb-true, eqb-false, eq-eqb, ne-eqb}
-use Rattle.model.specs.Base.{bit, pick, put, occurs, sum}
+use borrow.Author.Tests.{ltb-true, eqb-false, eq-eqb, ne-eqb}
+use Rattle.model.specs.Base.{bit, pick, occurs, sum}
 use Rattle.model.specs.State.{Handle, Slot, Slot.absent, Slot.vacant, Slot.reserved, Slot.transferReserved, Slot.occupied, Table, Stage}
 use Rattle.model.specs.State.{Stage.stillNew, Stage.nowActive, Stage.nowRetired, Object, isOccupied, maxSlots}
 use Rattle.model.specs.Objects.{isNowRetired, activated, raise, lower, retiredByOwner, change, changeAll}
 use Rattle.model.specs.Transfer.{copiesFault}
 use Rattle.model.specs.WellFormed.{ObjectRange, StageCount, ofObject, inSlot, inHandles}
-use Rattle.invariant.specs.Pointwise.{apart, bool, same, given, given-out, sum-equal, sum-zero, sum-differ, sum-part}
+use Rattle.model.specs.Tests.{apart, bool, same, put-at}
+use Rattle.model.specs.Sums.{sum-equal, sum-zero, sum-add, sum-put}
+use Rattle.invariant.specs.Pointwise.{given, given-out}
 
 -- an object's own clauses
 pub record Fit (x : Object) : Type 0 where
@@ -64,9 +66,7 @@ module _ (x : Object) (f : Fit x) where
 -- one record changed
 pub change-at : (C : Object → Type 0) (f : Object → Object) (os : ℕ → Object) (k o : ℕ) → (o ≡ k → C (f (os o))) → ((o ≡ k → ⊥) → C (os o))
     → C (change f os k o)
-change-at C f os k o y n = bool (eqb o k)
-    (λ e. let q : o ≡ k = eqb-true o k e in rw (e, ← q) (y q))
-    (λ e. rw e (n (eqb-false o k e)))
+change-at C f os k o y n = put-at os k (f (os k)) C o (λ q. rw q at (y q)) n
 
 pub of-same : (o : ℕ) (h : Handle) → o ≡ h .object → ofObject o h ≡ 1
 of-same o h q = rw (eq-eqb (h .object) o (sym q))
@@ -122,29 +122,8 @@ total o f = sum maxSlots λ k. inSlot o (f k)
 abbrev pub totals : ℕ → (ℕ → Table) → ℕ → ℕ
 totals n ts o = sum n λ b. total o (ts b .slots)
 
-pub totals-put : (n o b : ℕ) (ts : ℕ → Table) (t : Table) → b < n → totals n (put ts b t) o + total o (ts b .slots) ≡ totals n ts o + total o
-    (t .slots)
-totals-put n o b ts t l =
-    let d = sum-differ n (λ c. total o (put ts b t c .slots)) (λ c. total o (ts c .slots)) b l (λ j y. rw (ne-eqb j b y)) in
-    let e : total o (put ts b t b .slots) ≡ total o (t .slots) = rw (same b) in
-    omega (arith, d, e)
-
 pub total-same : (o : ℕ) (f g : ℕ → Slot) → ((k : ℕ) → inSlot o (f k) ≡ inSlot o (g k)) → total o f ≡ total o g
 total-same o f g h = sum-equal maxSlots (λ k. inSlot o (f k)) (λ k. inSlot o (g k)) (λ k l. h k)
-
--- one slot changed
-pub total-put : (o k : ℕ) (f : ℕ → Slot) (x : Slot) → k < maxSlots → total o (put f k x) + inSlot o (f k) ≡ total o f + inSlot o x
-total-put o k f x l =
-    let d = sum-differ maxSlots (λ j. inSlot o (put f k x j)) (λ j. inSlot o (f j)) k l (λ j y. rw (ne-eqb j k y)) in
-    let e : inSlot o (put f k x k) ≡ inSlot o x = rw (same k) in
-    omega (arith, d, e)
-
--- a handle in a slot is counted
-pub total-part : (o k : ℕ) (f : ℕ → Slot) → k < maxSlots → inSlot o (f k) ≤ total o f
-total-part o k f l = sum-part maxSlots (λ j. inSlot o (f j)) k l
-
-pub totals-part : (n o b : ℕ) (ts : ℕ → Table) → b < n → total o (ts b .slots) ≤ totals n ts o
-totals-part n o b ts l = sum-part n (λ c. total o (ts c .slots)) b l
 
 -- handles given to slots
 
@@ -162,15 +141,8 @@ given-total o (k ∷ ks) (h ∷ hs) e once p =
     let r = given-total o ks hs (omega arith) (λ j. omega (arith, once j)) (λ j l. p j (omega arith)) in
     let c : bit (eqb k k) + occurs k ks ≤ 1 = once k in
     let c′ : 1 + occurs k ks ≤ 1 = rw (same k) at c in
-    let d = sum-differ maxSlots (λ j. inGiven o (given (k ∷ ks) (h ∷ hs) j)) (λ j. inGiven o (given ks hs j)) k (p k (rw (same k) (omega arith)))
-    (λ j y. rw (ne-eqb j k y)) in
-    let a : inGiven o (given (k ∷ ks) (h ∷ hs) k) ≡ ofObject o h = rw (same k) in
     let b : inGiven o (given ks hs k) ≡ 0 = rw (given-out ks hs k (omega arith)) in
-    omega (arith, d, a, b, r)
-
-sum-add : (n : ℕ) (f g : ℕ → ℕ) → (sum n λ k. f k + g k) ≡ sum n f + sum n g
-sum-add zero f g = refl
-sum-add (suc n) f g = omega (arith, sum-add n f g)
+    omega (arith, sum-put (inGiven o) maxSlots (given ks hs) k (some h) (p k (rw (same k) (omega arith))), b, r)
 
 -- slots that show what others show and the handles given
 pub total-given : (o : ℕ) (f g : ℕ → Slot) (ks : List ℕ) (hs : List Handle) → length hs ≡ length ks → ((k : ℕ) → occurs k ks ≤ 1)

@@ -1,26 +1,26 @@
--- Changes that open or close no reservation or claim: new and released parcels, retired objects, one slot, idle slots, lives.
+-- Changes that open or close no reservation or claim: new and released parcels, retired objects, one slot, slots not busy, lives.
 use mathlib.Core.Path.{_≡_, refl, sym, _∙_}
 use mathlib.Core.Bool.{Bool, true, false}
 use mathlib.Core.List.{List, [], _∷_, _++_}
 use mathlib.Core.Option.{none, some}
 use Prim.Native.Nat.{ℕ, _+_, _≤_, _<_}
 use native.Mathlib.Omega.{arith}
-use lib.Dec.{ltb, eqb}
-use borrow.Author.Tests.{ltb-true, ltb-false, eqb-true, eqb-false}
+use lib.Dec.{eqb}
+use borrow.Author.Tests.{eqb-true, eqb-false}
 use Rattle.model.specs.Base.{bit, put}
 use Rattle.model.specs.State.{Handle, Slot, Slot.absent, Slot.vacant, Slot.reserved, Slot.transferReserved, Slot.occupied, Table, Object, Body}
-use Rattle.model.specs.State.{Body.parcel, Row, State, isAbsent, isOccupied, isActive, isRetired, maxSlots, maxBatch}
+use Rattle.model.specs.State.{Body.parcel, Row, State, isAbsent, isOccupied, isBusy, isActive, isRetired, maxSlots, maxBatch}
 use Rattle.model.specs.Change.{withTable, withObjects, withFrames}
 use Rattle.model.specs.Objects.{lower, retiredByOwner, change, changeAll, release, withRights}
 use Rattle.model.specs.Book.{find, dropId, addRow, dropRow, spendId, freeRow, idLeft, anyOpen}
 use Rattle.model.specs.WellFormed.{HandleRange, SlotRange, Batch, ofObject, inSlot, inHandles, inRows}
-use Rattle.invariant.specs.Pointwise.{bool, clash, bit-false}
+use Rattle.model.specs.Tests.{bool, clash, bit-false}
+use Rattle.model.specs.Sums.{sum-part, sum-put}
 use Rattle.invariant.specs.BookLemmas.{row, ids-none, ids-spend, find-drop-same, find-drop-other, find-add-same, find-add-other, rows-add}
 use Rattle.invariant.specs.BookLemmas.{rows-drop}
-use Rattle.invariant.specs.CountLemmas.{Fit, retired-fit, change-at, of-same, of-other, lower-all, total, total-same, total-put}
-use Rattle.invariant.specs.CountLemmas.{total-part, totals-part}
+use Rattle.invariant.specs.CountLemmas.{Fit, retired-fit, change-at, of-same, of-other, lower-all, total, total-same}
 use Rattle.invariant.specs.Marks.{inRow, isBy, bare, bare-mark, marked-same}
-use Rattle.invariant.specs.Rows.{Good, edit, settled, book-same, book-add, book-drop, id-left, objects-step, table-step}
+use Rattle.invariant.specs.Rows.{Good, edit, settled, book-same, book-add, book-drop, id-left, objects-step, table-step, present-below}
 
 pub none-in : (m : Bool) (b k : ℕ) → inRow m b k none ≡ 0
 none-in true b k = refl
@@ -94,11 +94,17 @@ module _ (s : State) (w : Good s) where
   -- a handle that stands in a slot is counted
   module _ (b k g : ℕ) (h : Handle) (l : b < s .tableCount) (e : s .tables b .slots k ≡ occupied g h) where
     slot-below : k < maxSlots
-    slot-below = bool (ltb k maxSlots) (λ q. ltb-true k maxSlots q) (λ q. clash (w .placed b k (ltb-false k maxSlots q)) (rw e))
+    slot-below = present-below s w b k (rw e)
 
     pub slot-counted : (o : ℕ) → o < s .objectCount → ofObject o h ≤ s .objects o .count
     slot-counted o m = let a : inSlot o (s .tables b .slots k) ≡ ofObject o h = rw e in
-        omega (arith, a, total-part o k (s .tables b .slots) slot-below, totals-part (s .tableCount) o b (s .tables) l, w .counted o m)
+        omega (
+          arith,
+          a,
+          sum-part maxSlots (λ j. inSlot o (s .tables b .slots j)) k slot-below,
+          sum-part (s .tableCount) (λ c. total o (s .tables c .slots)) b l,
+          w .counted o m,
+        )
 
   -- an occupied slot gets contents that bear no mark
   module _ (b k g : ℕ) (h : Handle) (l : b < s .tableCount) (e : s .tables b .slots k ≡ occupied g h) (t : Table) (x : Slot) (p : (j : ℕ)
@@ -120,7 +126,7 @@ module _ (s : State) (w : Good s) where
               (λ q. rw q)));
           counted = λ o m. (
             c o m .0,
-            let a = total-put o k (s .tables b .slots) x (slot-below b k g h l e) in
+            let a = sum-put (inSlot o) maxSlots (s .tables b .slots) k x (slot-below b k g h l e) in
                 let a′ = total-same o (t .slots) (put (s .tables b .slots) k x) (λ j. rw (p j)) in
                 let a″ : inSlot o (s .tables b .slots k) ≡ ofObject o h = rw e in omega (arith, a, a′, a″, c o m .1),
           );
@@ -142,39 +148,33 @@ module _ (s : State) (w : Good s) where
   replace-slot b k g h l e t v r p hr live closing = one-slot b k g h l e t (occupied v (withRights h r)) p refl hr refl live closing (s .objects)
       (λ o m. (w .fit o m, refl)) (s .frames)
 
--- slots without a handle or a mark
-abbrev pub idle : Slot → Bool
-idle absent = true
-idle (vacant g) = true
-idle (reserved g i) = false
-idle (transferReserved g i) = false
-idle (occupied g h) = false
+-- a slot that is not busy has no mark and no handle
 
-pub idle-bare : (x : Slot) → idle x ≡ true → bare x ≡ true
+pub idle-bare : (x : Slot) → isBusy x ≡ false → bare x ≡ true
 idle-bare absent e = refl
 idle-bare (vacant g) e = refl
-idle-bare (reserved g i) e = e
-idle-bare (transferReserved g i) e = e
+idle-bare (reserved g i) e = clash refl e
+idle-bare (transferReserved g i) e = clash refl e
 idle-bare (occupied g h) e = refl
 
-idle-held : (o : ℕ) (x : Slot) → idle x ≡ true → inSlot o x ≡ 0
+pub idle-held : (o : ℕ) (x : Slot) → isBusy x ≡ false → inSlot o x ≡ 0
 idle-held o absent e = refl
 idle-held o (vacant g) e = refl
 idle-held o (reserved g i) e = refl
 idle-held o (transferReserved g i) e = refl
-idle-held o (occupied g h) e = clash e refl
+idle-held o (occupied g h) e = clash refl e
 
-idle-range : (s : State) (x : Slot) → idle x ≡ true → SlotRange s x
+idle-range : (s : State) (x : Slot) → isBusy x ≡ false → SlotRange s x
 idle-range s absent e = tt
 idle-range s (vacant g) e = tt
 idle-range s (reserved g i) e = tt
 idle-range s (transferReserved g i) e = tt
-idle-range s (occupied g h) e = clash e refl
+idle-range s (occupied g h) e = clash refl e
 
--- a table that differs from another in idle slots alone
+-- a table that differs from another only in slots that are not busy
 pub record Calm (t u : Table) : Type 0 where
-  pub idles : (k : ℕ) → idle (u .slots k) ≡ idle (t .slots k)
-  pub others : (k : ℕ) → idle (t .slots k) ≡ false → u .slots k ≡ t .slots k
+  pub busy : (k : ℕ) → isBusy (u .slots k) ≡ isBusy (t .slots k)
+  pub others : (k : ℕ) → isBusy (t .slots k) ≡ true → u .slots k ≡ t .slots k
   pub placed : (k : ℕ) → maxSlots ≤ k → isAbsent (u .slots k) ≡ true
 
 pub calm-step : (s : State) → Good s → (b : ℕ) (t : Table) → b < s .tableCount → Calm (s .tables b) t
@@ -186,19 +186,19 @@ calm-step s w b t l c closed closing fs = let old : ℕ → Slot = s .tables b .
       known = l;
       closed = closed;
       closing = closing;
-      slots = λ k. bool (idle (old k)) (λ e. idle-range s (t .slots k) (c .idles k ∙ e)) (λ e. rw (c .others k e) (w .slots b k));
+      slots = λ k. bool (isBusy (old k)) (λ e. rw (c .others k e) (w .slots b k)) (λ e. idle-range s (t .slots k) (c .busy k ∙ e));
       placed = c .placed;
-      marked = marked-same (s .tables) b t (s .book .rows) (w .marked) (λ m i k. bool (idle (old k))
-          (λ e. bare-mark m i (t .slots k) (idle-bare (t .slots k) (c .idles k ∙ e)) ∙ sym (bare-mark m i (old k) (idle-bare (old k) e)))
-          (λ e. rw (c .others k e)));
+      marked = marked-same (s .tables) b t (s .book .rows) (w .marked) (λ m i k. bool (isBusy (old k))
+          (λ e. rw (c .others k e))
+          (λ e. bare-mark m i (t .slots k) (idle-bare (t .slots k) (c .busy k ∙ e)) ∙ sym (bare-mark m i (old k) (idle-bare (old k) e))));
       counted = λ o m. (
         w .fit o m,
-        let a : total o (t .slots) ≡ total o old = total-same o (t .slots) old (λ k. bool (idle (old k))
-            (λ e. idle-held o (t .slots k) (c .idles k ∙ e) ∙ sym (idle-held o (old k) e))
-            (λ e. rw (c .others k e))) in omega (arith, a),
+        let a : total o (t .slots) ≡ total o old = total-same o (t .slots) old (λ k. bool (isBusy (old k))
+            (λ e. rw (c .others k e))
+            (λ e. idle-held o (t .slots k) (c .busy k ∙ e) ∙ sym (idle-held o (old k) e))) in omega (arith, a),
       );
     }))
 
 -- a table whose slots stay
 pub calm-same : (s : State) → Good s → (b : ℕ) (t : Table) → ((k : ℕ) → t .slots k ≡ s .tables b .slots k) → Calm (s .tables b) t
-calm-same s w b t e = record { idles = λ k. rw (e k); others = λ k q. e k; placed = λ k l. rw (e k) (w .placed b k l) }
+calm-same s w b t e = record { busy = λ k. rw (e k); others = λ k q. e k; placed = λ k l. rw (e k) (w .placed b k l) }

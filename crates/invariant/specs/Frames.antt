@@ -10,11 +10,12 @@ use lib.ListN.{length, take, drop, length-take}
 use lib.Dec.{eqb, ltb}
 use borrow.Author.Tests.{ltb-true, ltb-false, eqb-true, eqb-false, eq-eqb, ne-eqb, not-true}
 use Rattle.codec.specs.Codec.{nextGeneration}
-use Rattle.model.specs.Base.{bit, put, occurs, without, insert, sum, isSome, also}
-use Rattle.model.specs.State.{Sizes, Slot, Slot.absent, Slot.vacant, maxSlots, Page, Table, maxBatch}
+use Rattle.model.specs.Base.{bit, occurs, without, insert, sum, isSome, also}
+use Rattle.model.specs.State.{Sizes, Slot, Slot.absent, Slot.vacant, maxSlots, Table, maxBatch}
 use Rattle.model.specs.Storage.{pageOf, onPage, slotsOf, pageRange, pagesFrom, pagesFor, attach, attachAll, grow, detach}
 use Rattle.model.specs.WellFormed.{isFrame, isAttached, Rising}
-use Rattle.invariant.specs.Pointwise.{apart, bool, clash, and-left, and-right, bit-true, bit-small, same, without-none, length-push, length-range, sum-equal, sum-differ}
+use Rattle.model.specs.Tests.{apart, bool, clash, and-left, and-right, bit-true, bit-small, same}
+use Rattle.model.specs.Sums.{without-none, length-push, length-range, sum-equal, sum-put}
 use Rattle.invariant.specs.Pointwise.{Alike, attach-free, attach-slots, grow-slots, grow-free}
 use Rattle.invariant.specs.Pages.{Sane, page-slots}
 use Rattle.invariant.specs.Orders.{Sound, recast, absent-out, order-is, Room, attach-sound}
@@ -150,14 +151,6 @@ frame-none : (x : Option ℕ) → isSome x ≡ false → (f : ℕ) → isFrame x
 frame-none none e f = refl
 frame-none (some g) e f = clash {b = true} refl e
 
--- one page changed
-owned-put : (n : ℕ) (ps : ℕ → Page) (p : ℕ) (x : Page) (f : ℕ) → p < n
-    → (sum n λ q. bit (isFrame (put ps p x q .frame) f)) + bit (isFrame (ps p .frame) f) ≡ (sum n λ q. bit (isFrame (ps q .frame) f)) + bit
-    (isFrame (x .frame) f)
-owned-put n ps p x f l = let h = sum-differ n (λ q. bit (isFrame (put ps p x q .frame) f)) (λ q. bit (isFrame (ps q .frame) f)) p l
-    (λ j m. rw (ne-eqb j p m)) in
-    h ∙ rw (same p)
-
 module _ (z : Sizes) where
   pub owned-alike : (t u : Table) → Alike z t u → (f : ℕ) → owned u f ≡ owned t f
   owned-alike t u a f = rw (a .limit)
@@ -167,7 +160,7 @@ module _ (z : Sizes) where
   unfolding attach
   attach-owned t p f₀ f r =
       let n : bit (isFrame (t .pages p .frame) f) ≡ 0 = rw (frame-none (t .pages p .frame) (r .out) f) in
-      omega (arith, owned-put (t .limit) (t .pages) p (record { frame = some f₀; high = nextGeneration (t .pages p .high) }) f (r .within))
+      omega (arith, sum-put (λ x. bit (isFrame (x .frame) f)) (t .limit) (t .pages) p (record { frame = some f₀; high = nextGeneration (t .pages p .high) }) (r .within))
 
   pub attachAll-owned : (ps fs : List ℕ) (t : Table) → length ps ≤ length fs → Grows z t ps → (f : ℕ)
       → owned (attachAll z ps fs t) f ≡ owned t f + occurs f (take (length ps) fs)
@@ -183,7 +176,7 @@ module _ (z : Sizes) where
 
   pub detach-owned : (t : Table) (p f : ℕ) → p < t .limit → owned (detach z t p) f + bit (isFrame (t .pages p .frame) f) ≡ owned t f
   unfolding detach
-  detach-owned t p f l = omega (arith, owned-put (t .limit) (t .pages) p (record { frame = none; high = t .pages p .high }) f l)
+  detach-owned t p f l = omega (arith, sum-put (λ x. bit (isFrame (x .frame) f)) (t .limit) (t .pages) p (record { frame = none; high = t .pages p .high }) l)
 
 -- the free frames stay in rising order
 

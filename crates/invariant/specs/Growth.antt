@@ -1,4 +1,4 @@
--- Pages come and go with idle slots alone; a table's walk finds every occupied slot.
+-- Pages come and go with slots that are not busy; a table's walk finds every occupied slot.
 use mathlib.Core.Path.{_≡_, refl, sym, ap, _∙_}
 use mathlib.Core.Bool.{true, false, _&&_}
 use mathlib.Core.List.{List}
@@ -14,13 +14,14 @@ use Rattle.model.specs.State.{maxSlots}
 use Rattle.model.specs.Storage.{pageOf, slotsOf, onPage, lengthOf, busyIn, busyOf, grow, detach, firstOccupied}
 use Rattle.model.specs.Step.{nextOccupied}
 use Rattle.model.specs.WellFormed.{isAttached}
-use Rattle.invariant.specs.Pointwise.{apart, bool, clash, and-left, and-right, bit-true, detach-slots}
+use Rattle.model.specs.Tests.{apart, bool, clash, and-left, and-right, bit-true}
+use Rattle.invariant.specs.Pointwise.{detach-slots}
 use Rattle.invariant.specs.Pages.{Sane, page-in}
 use Rattle.invariant.specs.Orders.{Sound, absent-out, absent-past}
 use Rattle.invariant.specs.Frames.{Grows, grow-sound, grow-shows}
-use Rattle.invariant.specs.Counts.{idle, Calm}
+use Rattle.invariant.specs.Counts.{Calm}
 
--- a slot as it shows where idle slots are alike
+-- a slot as it shows where slots that are not busy are alike
 shown : Slot → Slot
 shown absent = absent
 shown (vacant g) = absent
@@ -28,10 +29,10 @@ shown (reserved g i) = reserved g i
 shown (transferReserved g i) = transferReserved g i
 shown (occupied g h) = occupied g h
 
-shown-is : (x : Slot) → idle x ≡ false → shown x ≡ x
+shown-is : (x : Slot) → isBusy x ≡ true → shown x ≡ x
 unfolding shown
-shown-is absent e = clash refl e
-shown-is (vacant g) e = clash refl e
+shown-is absent e = clash e refl
+shown-is (vacant g) e = clash e refl
 shown-is (reserved g i) e = refl
 shown-is (transferReserved g i) e = refl
 shown-is (occupied g h) e = refl
@@ -39,13 +40,6 @@ shown-is (occupied g h) e = refl
 blank : (g : ℕ) → shown (vacant g) ≡ shown absent
 unfolding shown
 blank g = refl
-
-not-busy : (x : Slot) → isBusy x ≡ false → idle x ≡ true
-not-busy absent e = refl
-not-busy (vacant g) e = refl
-not-busy (reserved g i) e = clash refl e
-not-busy (transferReserved g i) e = clash refl e
-not-busy (occupied g h) e = clash refl e
 
 busy-nowhere : (f : ℕ → Slot) (a n : ℕ) → busyIn f a n ≡ 0 → (j : ℕ) → a ≤ j → j < a + n → isBusy (f j) ≡ false
 busy-nowhere f a zero e j l m = absurd (omega arith)
@@ -66,9 +60,9 @@ none-occupied f a (suc n) e j l m = bool (isOccupied (f a))
 module _ (z : Sizes) (sane : Sane z) (t : Table) (o : Sound z t (t .free)) where
   pub grow-calm : (ps fs : List ℕ) → Grows z t ps → Calm t (grow z ps fs t)
   grow-calm ps fs g = let u : Table = grow z ps fs t in
-      let idles : (k : ℕ) → idle (u .slots k) ≡ idle (t .slots k) = grow-shows z idle (λ x. refl) sane ps fs t (t .free) o g in record {
-        idles = idles;
-        others = λ k e. sym (shown-is (u .slots k) (idles k ∙ e)) ∙ grow-shows z shown blank sane ps fs t (t .free) o g k ∙ shown-is (t .slots k) e;
+      let same-busy : (k : ℕ) → isBusy (u .slots k) ≡ isBusy (t .slots k) = grow-shows z isBusy (λ x. refl) sane ps fs t (t .free) o g in record {
+        busy = same-busy;
+        others = λ k e. sym (shown-is (u .slots k) (same-busy k ∙ e)) ∙ grow-shows z shown blank sane ps fs t (t .free) o g k ∙ shown-is (t .slots k) e;
         placed = λ k l. rw (absent-past z u (u .free) (grow-sound z sane ps fs t o g) k (le-ltb k maxSlots l));
       }
 
@@ -78,12 +72,12 @@ module _ (z : Sizes) (sane : Sane z) (t : Table) (o : Sound z t (t .free)) where
       let e : (isAttached t p && eqb (busyOf z (t .slots) p) 0) ≡ true = bit-true (isAttached t p && eqb (busyOf z (t .slots) p) 0)
       (omega (arith, o .empty p)) in
       let n : busyOf z (t .slots) p ≡ 0 = eqb-true (busyOf z (t .slots) p) 0 (and-right (isAttached t p) (eqb (busyOf z (t .slots) p) 0) e) in
-      let i : (k : ℕ) → onPage z p k ≡ true → idle (t .slots k) ≡ true = λ k y.
+      let i : (k : ℕ) → onPage z p k ≡ true → isBusy (t .slots k) ≡ false = λ k y.
       let r = page-in z sane p k (eqb-true (pageOf z k) p (and-left (eqb (pageOf z k) p) (ltb k maxSlots) y))
       (ltb-true k maxSlots (and-right (eqb (pageOf z k) p) (ltb k maxSlots) y)) in
-      not-busy (t .slots k) (busy-nowhere (t .slots) (p * z .pageSlots) (slotsOf z p) n k (r .0) (r .1)) in record {
-        idles = λ k. rw (detach-slots z t p k) (bool (onPage z p k) (λ y. rw (y, i k y)) (λ y. rw y));
-        others = λ k q. detach-slots z t p k ∙ bool (onPage z p k) (λ y. clash (i k y) q) (λ y. rw y);
+      busy-nowhere (t .slots) (p * z .pageSlots) (slotsOf z p) n k (r .0) (r .1) in record {
+        busy = λ k. rw (detach-slots z t p k) (bool (onPage z p k) (λ y. rw (y, i k y)) (λ y. rw y));
+        others = λ k q. detach-slots z t p k ∙ bool (onPage z p k) (λ y. clash q (i k y)) (λ y. rw y);
         placed = λ k l. rw (detach-slots z t p k)
             (bool (onPage z p k) (λ y. rw y) (λ y. rw (y, absent-past z t (t .free) o k (le-ltb k maxSlots l))));
       }

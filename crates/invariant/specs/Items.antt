@@ -1,6 +1,6 @@
--- What a lookup and the checks of a transfer's items give.
-use mathlib.Core.Path.{_≡_, refl, ap}
-use mathlib.Core.Bool.{true, false, not, _||_}
+-- What a lookup, a claim's moved entries and the checks of a transfer's items tell of slots.
+use mathlib.Core.Path.{_≡_, refl, ap, _∙_}
+use mathlib.Core.Bool.{true, false, not, _||_, Bool}
 use mathlib.Core.List.{List, [], _∷_, map}
 use mathlib.Core.Option.{Option, none, some}
 use Prim.Native.Nat.{ℕ, _+_, _≤_, _<_}
@@ -12,17 +12,19 @@ use borrow.Author.Tests.{eqb-true, eqb-false}
 use Rattle.authority.specs.Rights.{contains, duplicateRight, transferRight}
 use Rattle.codec.specs.Codec.{decodes, slotIn, generationIn}
 use Rattle.codec.specs.Laws.{same-value}
-use Rattle.model.specs.Base.{bit, orElse, member, occurs}
+use Rattle.model.specs.Base.{pick, bit, orElse, member, occurs}
 use Rattle.model.specs.State.{Handle, Slot, Slot.absent, Slot.vacant, Slot.reserved, Slot.transferReserved, Slot.occupied, Table, Object, Entry}
-use Rattle.model.specs.State.{State}
-use Rattle.model.specs.Request.{Route, Operation, Operation.asMove, Operation.asCopy, Item}
+use Rattle.model.specs.State.{Entry.moved, Entry.copied, State, isActive}
+use Rattle.model.specs.Request.{Answer, Route, Operation, Operation.asMove, Operation.asCopy, Item}
 use Rattle.model.specs.Book.{movedOf, copiesOf}
-use Rattle.model.specs.Lookup.{View, View.invalid, View.busy, View.holds, viewSlot, lookup, handleOr}
+use Rattle.model.specs.Decision.{Decision}
+use Rattle.model.specs.Lookup.{View, View.invalid, View.busy, View.holds, viewSlot, lookup, handleOr, onHandle}
 use Rattle.model.specs.Transfer.{Check, _or_, firstFault, isCopy, itemChecks, viewFault, itemFault, firstOf, itemsFault, entryBy, entryFor}
 use Rattle.model.specs.WellFormed.{HandleRange, SlotRange, EntryRange, All, ofObject, inHandles}
-use Rattle.invariant.specs.Pointwise.{apart, bool, clash, same}
+use Rattle.model.specs.Tests.{apart, bool, clash, same}
+use Rattle.model.specs.Decided.{Decided, Any, with-handle}
+use Rattle.invariant.specs.Pointwise.{movedHandles, given}
 use Rattle.invariant.specs.CountLemmas.{of-other}
-use Rattle.invariant.specs.RowsOpened.{Stands}
 
 -- rights contained are no larger a number
 pub contains-le : (h a : ℕ) → contains h a ≡ true → a ≤ h
@@ -30,10 +32,10 @@ unfolding contains
 contains-le h a e = omega (arith, eqb-true (bitAnd h a) a e, and-le-l h a)
 
 -- a value that names a handle
-pub record Named (t : Table) (v k : ℕ) (h : Handle) : Type 0 where
-  pub decoded : decodes (t .mask) v ≡ true
-  pub slot : k ≡ slotIn (t .mask) v
-  pub stands : t .slots (slotIn (t .mask) v) ≡ occupied (generationIn (t .mask) v) h
+record Named (t : Table) (v k : ℕ) (h : Handle) : Type 0 where
+  decoded : decodes (t .mask) v ≡ true
+  slot : k ≡ slotIn (t .mask) v
+  stands : t .slots (slotIn (t .mask) v) ≡ occupied (generationIn (t .mask) v) h
 
 view-slot : (j g : ℕ) (x : Slot) (k : ℕ) (h : Handle) → viewSlot j g x ≡ holds k h → (k ≡ j) × (x ≡ occupied g h)
 view-slot j g absent k h e = apart (cc)
@@ -46,11 +48,44 @@ view-slot j g (occupied n x) k h e = bool (eqb g n)
     (λ q. let y : holds j x ≡ holds k h = rw q at e in let p : g ≡ n = eqb-true g n q in let a : k ≡ j = cc in let b : x ≡ h = cc in (a, (rw (b, p))))
     (λ q. let y : invalid ≡ holds k h = rw q at e in apart (cc))
 
-pub named : (t : Table) (v k : ℕ) (h : Handle) → lookup t v ≡ holds k h → Named t v k h
+named : (t : Table) (v k : ℕ) (h : Handle) → lookup t v ≡ holds k h → Named t v k h
 named t v k h e = bool (decodes (t .mask) v)
     (λ d. let r = view-slot (slotIn (t .mask) v) (generationIn (t .mask) v) (t .slots (slotIn (t .mask) v)) k h (rw d at e) in
     record { decoded = d; slot = r .0; stands = r .1 })
     (λ d. let y : invalid ≡ holds k h = rw d at e in apart (cc))
+
+pub stands-at : (t : Table) (v k : ℕ) (h : Handle) → lookup t v ≡ holds k h → t .slots k ≡ occupied (generationIn (t .mask) v) h
+stands-at t v k h e = let n : Named t v k h = named t v k h e in ap (t .slots) (n .slot) ∙ n .stands
+
+-- a handle in a slot of an active table
+pub with-slot : {R : ℕ → Type 0} {A : State → Answer → Type 0} (s : State) (b v : ℕ) {f : ℕ → Handle → Decision}
+    → (b < s .tableCount → isActive (s .tables b .life) ≡ true → (k g : ℕ) (h : Handle) → s .tables b .slots k ≡ occupied g h
+    → Decided Any R A (f k h)) → Decided Any R A (onHandle s b v (λ t. f))
+with-slot s b v c = let t : Table = s .tables b in
+    with-handle s b v tt tt tt tt λ l a k h e. c l a k (generationIn (t .mask) v) h (stands-at t v k h e)
+
+-- moved entries stand in their slots
+abbrev pub Stands : (ℕ → Slot) → Entry → Type 0
+Stands f (moved k h r) = (g : ℕ) × (f k ≡ occupied g h)
+Stands f (copied h) = Unit {0}
+
+pub record Taken (x : Slot) (o : Option Handle) : Type 0 where
+  pub gen : ℕ
+  pub held : Handle
+  pub stood : x ≡ occupied gen held
+  pub named : o ≡ some held
+
+taken-past : (t : Bool) (x : Slot) (h : Handle) (o : Option Handle) → t ≡ false → Taken x o → Taken x (pick t (some h) o)
+taken-past t x h o y r = record { gen = r .gen; held = r .held; stood = r .stood; named = rw y (r .named) }
+
+pub taken : (f : ℕ → Slot) (es : List Entry) (k : ℕ) → All (Stands f) es → 0 < occurs k (movedOf es)
+    → Taken (f k) (given (movedOf es) (movedHandles es) k)
+taken f [] k a q = absurd (omega arith)
+taken f (moved j h r ∷ es) k a q = bool (eqb k j)
+    (λ y. record { gen = a .0 .0; held = h; stood = rw (eqb-true k j y) (a .0 .1); named = rw y })
+    (λ y. taken-past (eqb k j) (f k) h (given (movedOf es) (movedHandles es) k) y
+    (taken f es k (a .1) (let q′ : 0 < 0 + occurs k (movedOf es) = rw y at q in omega arith)))
+taken f (copied h ∷ es) k a q = taken f es k (a .1) q
 
 -- checks that all hold
 fault-head : (c : Check) (cs : List Check) → firstFault (c ∷ cs) ≡ none → (c .holds ≡ true) × (firstFault cs ≡ none)

@@ -1,4 +1,8 @@
 pub mod Pointwise
+pub mod BookLemmas
+pub mod CountLemmas
+pub mod Marks
+pub mod Items
 pub mod Pages
 pub mod Orders
 pub mod Frames
@@ -7,16 +11,11 @@ pub mod StorageViews
 pub mod StorageDecisions
 pub mod StorageHandles
 pub mod StorageKept
-pub mod BookLemmas
-pub mod CountLemmas
-pub mod Marks
 pub mod Rows
 pub mod Counts
 pub mod Parcels
 pub mod RowsClosed
 pub mod RowsOpened
-pub mod Items
-pub mod Decisions
 pub mod Growth
 pub mod BookHandles
 pub mod BookKept

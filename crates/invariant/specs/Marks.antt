@@ -3,15 +3,16 @@ use mathlib.Core.Path.{_≡_, refl, sym, ap, _∙_}
 use mathlib.Core.Bool.{Bool, true, false, not}
 use mathlib.Core.List.{List}
 use mathlib.Core.Option.{Option, some}
-use Prim.Native.Nat.{ℕ}
+use Prim.Native.Nat.{ℕ, _≤_, _<_}
+use native.Mathlib.Omega.{arith}
 use lib.Dec.{eqb}
 use borrow.Author.Tests.{eqb-true, eqb-false, ne-eqb}
 use Rattle.model.specs.Base.{bit, pick, put, occurs}
 use Rattle.model.specs.State.{Slot, Slot.absent, Slot.vacant, Slot.reserved, Slot.transferReserved, Slot.occupied, Table, Entry, Body}
-use Rattle.model.specs.State.{Body.reservation, Body.claim, Row, isVacant, isOccupied}
+use Rattle.model.specs.State.{Body.reservation, Body.claim, Row, State, isOccupied, isBusy}
 use Rattle.model.specs.Book.{find, movedOf}
-use Rattle.model.specs.WellFormed.{inReservation, inClaim, isReservedBy, isMovingBy}
-use Rattle.invariant.specs.Pointwise.{bool, clash, same}
+use Rattle.model.specs.WellFormed.{inReservation, inClaim, isReservedBy, isMovingBy, Marks}
+use Rattle.model.specs.Tests.{bool, clash, same, bit-true, bit-small}
 
 -- how often a slot stands in a row of the kind, and whether it is so marked
 abbrev pub inRow : Bool → ℕ → ℕ → Option Body → ℕ
@@ -24,10 +25,6 @@ isBy false i x = isMovingBy i x
 
 abbrev pub Marked : (ℕ → Table) → List Row → Type 0
 Marked ts rs = (m : Bool) (i b k : ℕ) → inRow m b k (find i rs) ≡ bit (isBy m i (ts b .slots k))
-
-pub pick-same {ℓ} : {A : Type ℓ} {a : A} (b : Bool) → pick b a a ≡ a
-pick-same true = refl
-pick-same false = refl
 
 -- one kind, or two
 abbrev pub alike : Bool → Bool → Bool
@@ -53,13 +50,6 @@ bare-mark false i (vacant g) e = refl
 bare-mark false i (reserved g j) e = refl
 bare-mark false i (transferReserved g j) e = clash e refl
 bare-mark false i (occupied g h) e = refl
-
-pub vacant-bare : (x : Slot) → isVacant x ≡ true → bare x ≡ true
-vacant-bare absent e = refl
-vacant-bare (vacant g) e = refl
-vacant-bare (reserved g i) e = clash e refl
-vacant-bare (transferReserved g i) e = clash e refl
-vacant-bare (occupied g h) e = refl
 
 -- a slot marked by one row is marked by no other, and holds no handle
 pub mark-other : (m n : Bool) (i j : ℕ) (x : Slot) → (j ≡ i → ⊥) → isBy m i x ≡ true → isBy n j x ≡ false
@@ -91,6 +81,23 @@ mark-held m i (reserved g j) e = refl
 mark-held m i (transferReserved g j) e = refl
 mark-held true i (occupied g h) e = clash e refl
 mark-held false i (occupied g h) e = clash e refl
+
+pub mark-busy : (m : Bool) (i : ℕ) (x : Slot) → isBy m i x ≡ true → isBusy x ≡ true
+mark-busy true i absent e = e
+mark-busy true i (vacant g) e = e
+mark-busy false i absent e = e
+mark-busy false i (vacant g) e = e
+mark-busy m i (reserved g n) e = refl
+mark-busy m i (transferReserved g n) e = refl
+mark-busy m i (occupied g h) e = refl
+
+-- one slot is not marked both ways
+pub not-both : (i j : ℕ) (x : Slot) → isBy true i x ≡ true → isBy false j x ≡ true → ⊥
+not-both i j absent e q = clash e refl
+not-both i j (vacant g) e q = clash e refl
+not-both i j (reserved g n) e q = clash q refl
+not-both i j (transferReserved g n) e q = clash e refl
+not-both i j (occupied g h) e q = clash e refl
 
 -- a table changed: its rows' clauses there, and the same elsewhere
 pub marked-put : (ts : ℕ → Table) (b : ℕ) (t : Table) (rs ns : List Row) → Marked ts rs
@@ -138,6 +145,29 @@ keys-claim b es = record { own = λ k. rw (same b); other = λ k. refl; far = fa
     far : (n : Bool) (c k : ℕ) → (c ≡ b → ⊥) → inRow n c k (some (claim b es)) ≡ 0
     far true c k y = refl
     far false c k y = rw (ne-eqb c b y)
+
+-- the slots that a row holds are those that it marks, each once
+pub record Owns (m : Bool) (i : ℕ) (ks : List ℕ) (f : ℕ → Slot) : Type 0 where
+  pub marked : (k : ℕ) → occurs k ks ≡ bit (isBy m i (f k))
+  pub once : (k : ℕ) → occurs k ks ≤ 1
+  pub on : (k : ℕ) → 0 < occurs k ks → isBy m i (f k) ≡ true
+  pub busy : (k : ℕ) → 0 < occurs k ks → isBusy (f k) ≡ true
+
+pub owns : (ts : ℕ → Table) (rs : List Row) → Marked ts rs → (m : Bool) (i b : ℕ) (ks : List ℕ) (x : Body) → Keys m b ks x → find i rs ≡ some x
+    → Owns m i ks (ts b .slots)
+owns ts rs w m i b ks x y e =
+    let d : (k : ℕ) → occurs k ks ≡ bit (isBy m i (ts b .slots k)) = λ k. sym (y .own k) ∙ (rw e at (w m i b k)) in
+    let on : (k : ℕ) → 0 < occurs k ks → isBy m i (ts b .slots k) ≡ true = λ k c. bit-true (isBy m i (ts b .slots k)) (omega (arith, d k)) in
+    record {
+      marked = d;
+      once = λ k. omega (arith, d k, bit-small (isBy m i (ts b .slots k)));
+      on = on;
+      busy = λ k c. mark-busy m i (ts b .slots k) (on k c);
+    }
+
+pub both-marks : (s : State) → Marks s → Marked (s .tables) (s .book .rows)
+both-marks s w true i b k = w .reserved i b k
+both-marks s w false i b k = w .transferReserved i b k
 
 -- a row's count at a slot, by the count of its list
 pub keys-count : (m n : Bool) (b : ℕ) (ks : List ℕ) (x : Body) → Keys m b ks x → (k : ℕ) → inRow n b k (some x) ≡ pick (alike m n) (occurs k ks) 0

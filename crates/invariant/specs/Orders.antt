@@ -11,14 +11,18 @@ use borrow.Author.Tests.{ltb-true, ltb-false, eqb-true, eqb-false, lt-ltb, le-lt
 use Rattle.codec.specs.Codec.{nextGeneration, generationLimit}
 use Rattle.codec.specs.Laws.{next-range}
 use Rattle.model.specs.Base.{bit, pick, put, occurs, dropIf, pushAll, isSome}
-use Rattle.model.specs.State.{Sizes, Lifecycle, Handle, Slot, Slot.absent, Slot.vacant, Slot.occupied, Table, generation, isVacant, isAbsent, isBusy, noPage, maxSlots, Entry}
-use Rattle.model.specs.Storage.{withFree, pageOf, pageRange, onPage, busyOf, emptyAfter, place, keep, keepAll, vacate, vacateAll, takeFree, attach, detach}
-use Rattle.model.specs.Create.{maxPages}
-use Rattle.model.specs.WellFormed.{isAttached, Generations}
+use Rattle.model.specs.State.{Sizes, Lifecycle, Handle, Slot, Slot.absent, Slot.vacant, Slot.occupied, Table, generation, isVacant, isAbsent}
+use Rattle.model.specs.State.{isBusy, noPage, maxSlots, Entry}
+use Rattle.model.specs.Storage.{withFree, pageOf, pageRange, onPage, busyOf, emptyAfter, place, keep, keepAll, vacate, vacateAll, takeFree, attach}
+use Rattle.model.specs.Storage.{detach}
 use Rattle.model.specs.Book.{movedOf}
 use Rattle.model.specs.Step.{fillAll, restoreAll}
-use Rattle.invariant.specs.Pointwise.{bool, clash, and-left, and-right, and-false, bit-true, same, occurs-push, occurs-without, occurs-dropIf, place-alike, place-slots}
-use Rattle.invariant.specs.Pointwise.{vacate-slots, takeFree-free, movedHandles, vacate-free, restoreAll-is, vacateAll-free, fillAll-free}
+use Rattle.model.specs.Create.{maxPages}
+use Rattle.model.specs.WellFormed.{isAttached, Generations}
+use Rattle.model.specs.Tests.{bool, clash, and-left, and-right, and-false, bit-true, same}
+use Rattle.model.specs.Sums.{occurs-push, occurs-without, occurs-dropIf}
+use Rattle.invariant.specs.Pointwise.{place-alike, place-slots, vacate-slots, takeFree-free, movedHandles, vacate-free, restoreAll-is}
+use Rattle.invariant.specs.Pointwise.{vacateAll-free, fillAll-free}
 use Rattle.invariant.specs.Pages.{Sane, busy-vacant, busy-there, vacant-there, absent-is, occurs-page, busy-other, busy-own, busy-none}
 
 -- the free order stands apart, as `fr`: between two steps of an operation the table holds another

@@ -7,10 +7,12 @@ use native.Mathlib.Nat.{div-add-mod', mod-lt, div-eq-of-lt-le, le-div-iff-mul-le
 use lib.Dec.{eqb, ltb}
 use borrow.Author.Tests.{ltb-true, ltb-false, eqb-true, eqb-false, lt-ltb, le-ltb, eq-eqb, ne-eqb}
 use Rattle.model.specs.Base.{bit, put, occurs}
-use Rattle.model.specs.State.{Sizes, till, Slot, Slot.absent, Slot.vacant, Slot.reserved, Slot.transferReserved, Slot.occupied, isVacant, isOccupied, isAbsent, isBusy, maxSlots}
+use Rattle.model.specs.State.{Sizes, till, Slot, Slot.absent, Slot.vacant, Slot.reserved, Slot.transferReserved, Slot.occupied, isVacant, isAbsent}
+use Rattle.model.specs.State.{isBusy, maxSlots}
 use Rattle.model.specs.Storage.{pageOf, slotsOf, pageRange, onPage, busyIn, busyOf}
 use Rattle.model.specs.Create.{maxPages}
-use Rattle.invariant.specs.Pointwise.{bool, clash, and-left, and-right, occurs-range}
+use Rattle.model.specs.Tests.{bool, clash, and-left, and-right}
+use Rattle.model.specs.Sums.{occurs-range}
 
 -- a page has a slot
 pub record Sane (z : Sizes) : Type 0 where
@@ -28,6 +30,9 @@ busy-vacant (reserved g i) e = refl
 busy-vacant (transferReserved g i) e = refl
 busy-vacant (occupied g h) e = refl
 
+pub vacant-idle : (x : Slot) → isVacant x ≡ true → isBusy x ≡ false
+vacant-idle x e = bool (isBusy x) (λ q. clash e (busy-vacant x q)) (λ q. q)
+
 pub busy-there : (x : Slot) → isBusy x ≡ true → isAbsent x ≡ false
 busy-there absent e = clash e refl
 busy-there (vacant g) e = refl
@@ -41,13 +46,6 @@ vacant-there (vacant g) e = refl
 vacant-there (reserved g i) e = refl
 vacant-there (transferReserved g i) e = refl
 vacant-there (occupied g h) e = refl
-
-pub occupied-busy : (x : Slot) → isOccupied x ≡ true → isBusy x ≡ true
-occupied-busy absent e = e
-occupied-busy (vacant g) e = e
-occupied-busy (reserved g i) e = refl
-occupied-busy (transferReserved g i) e = refl
-occupied-busy (occupied g h) e = refl
 
 pub absent-is : (x : Slot) → isAbsent x ≡ true → x ≡ absent
 absent-is absent e = refl

@@ -14,8 +14,9 @@ use Rattle.model.specs.Change.{withBook}
 use Rattle.model.specs.Book.{find, dropId, dropRow, dropRows, movedOf, copiesOf, sentOf}
 use Rattle.model.specs.Decision.{asParcel, joined, handlesOf, distinct}
 use Rattle.model.specs.WellFormed.{HandleRange, EntryRange, All, BodyRange, RowRange, IdsRise, heldBy, inHandles, inRows}
-use Rattle.invariant.specs.Pointwise.{apart, bool, clash, and-left, and-right, movedHandles}
-use Rattle.invariant.specs.BookLemmas.{find-drop-same, find-drop-other, all-found, in-append, rows-drop, ids-drop}
+use Rattle.model.specs.Tests.{apart, bool, clash, and-left, and-right}
+use Rattle.invariant.specs.Pointwise.{movedHandles}
+use Rattle.invariant.specs.BookLemmas.{find-drop-same, find-drop-other, all-found, in-append, rows-drop, ids-drop, all-append}
 use Rattle.invariant.specs.Marks.{inRow}
 use Rattle.invariant.specs.Rows.{BookStep, book-drop}
 use Rattle.invariant.specs.Counts.{none-in, parcel-in}
@@ -68,11 +69,7 @@ pub handles-range : (s : State) (is : List ℕ) (rs : List Row) (hs : List Handl
 handles-range s [] rs hs r e = let y : hs ≡ [] = cc in rw y tt
 handles-range s (i ∷ is) rs hs r e = let p : Parts (find i rs) (handlesOf is rs) hs = parts (find i rs) (handlesOf is rs) hs e in
     let q : BodyRange s (parcel (p .first)) = all-found (BodyRange s) i (parcel (p .first)) rs r (p .found) in
-    rw (p .whole) (all-append (p .first) (p .rest) (q .1) (handles-range s is rs (p .rest) r (p .after)))
-  where
-    all-append : (xs ys : List Handle) → All (HandleRange s) xs → All (HandleRange s) ys → All (HandleRange s) (xs ++ ys)
-    all-append [] ys a b = b
-    all-append (x ∷ xs) ys a b = (a .0, all-append xs ys (a .1) b)
+    rw (p .whole) (all-append (HandleRange s) (p .first) (p .rest) (q .1) (handles-range s is rs (p .rest) r (p .after)))
 
 -- the parcels dropped, each once
 

@@ -7,20 +7,22 @@ use Prim.Native.Nat.{ℕ, _+_, _^_, _≤_, _<_}
 use native.Mathlib.Omega.{arith}
 use lib.ListN.{length}
 use lib.Dec.{ltb, eqb}
-use borrow.Author.Tests.{ltb-true, ltb-false, eqb-true, eqb-false, ne-eqb, le-ltb, not-true}
+use borrow.Author.Tests.{ltb-true, ltb-false, eqb-false, ne-eqb, le-ltb, not-true}
 use Rattle.model.specs.Base.{put, occurs}
 use Rattle.model.specs.State.{Sizes, Handle, Slot, Slot.absent, Slot.vacant, Slot.reserved, Slot.transferReserved, Slot.occupied, Lifecycle, Table}
-use Rattle.model.specs.State.{Object, Entry, Entry.moved, Entry.copied, Body, Body.reservation, Body.claim, Body.parcel, Row, State, Lifecycle.active}
-use Rattle.model.specs.State.{Lifecycle.tearingDown, Lifecycle.retired, isAbsent, isOccupied, isActive, isRetired, maxSlots, lastId}
-use Rattle.model.specs.Book.{find, dropId, swapId, opensIn, anyOpen, freeRow, idLeft}
-use Rattle.model.specs.WellFormed.{HandleRange, SlotRange, EntryRange, All, BodyRange, RowRange, ObjectRange, Counts, Lifecycles, IdsRise, Ids, Marks}
-use Rattle.model.specs.WellFormed.{WellFormed, inRows, isAttached}
+use Rattle.model.specs.State.{Object, Entry, Entry.moved, Entry.copied, Body, Body.reservation, Body.claim, Body.parcel, Row, State}
+use Rattle.model.specs.State.{Lifecycle.active, Lifecycle.tearingDown, Lifecycle.retired, isAbsent, isOccupied, isActive, isRetired, maxSlots}
+use Rattle.model.specs.State.{lastId}
 use Rattle.model.specs.Storage.{pageOf}
-use Rattle.invariant.specs.Pointwise.{bool, clash, zero-or, and-false}
-use Rattle.invariant.specs.BookLemmas.{row, ids-add, ids-drop, ids-swap, length-add, length-drop, length-swap, all-add, all-drop, all-swap}
-use Rattle.invariant.specs.BookLemmas.{all-found, open-add, open-drop, open-swap, open-found}
-use Rattle.invariant.specs.CountLemmas.{Fit, total, totals, totals-put}
-use Rattle.invariant.specs.Marks.{Marked}
+use Rattle.model.specs.Book.{find, dropId, swapId, opensIn, anyOpen, freeRow, idLeft}
+use Rattle.model.specs.WellFormed.{HandleRange, SlotRange, EntryRange, All, BodyRange, RowRange, ObjectRange, Counts, Lifecycles, IdsRise, Ids}
+use Rattle.model.specs.WellFormed.{Marks, WellFormed, inRows, isAttached}
+use Rattle.model.specs.Tests.{bool, clash, zero-or, and-false, put-at}
+use Rattle.model.specs.Sums.{sum-put}
+use Rattle.invariant.specs.BookLemmas.{row, ids-add, ids-drop, ids-swap, length-add, length-drop, length-swap, all-drop, all-swap, open-add}
+use Rattle.invariant.specs.BookLemmas.{open-drop, open-swap, open-found, all-append, all-map}
+use Rattle.invariant.specs.CountLemmas.{Fit, total, totals}
+use Rattle.invariant.specs.Marks.{Marked, both-marks}
 
 -- what this crate's theorem says of the state after a request
 pub record BookClauses (s : State) : Type 0 where
@@ -68,10 +70,6 @@ module _ (s u : State) (eo : s .objectCount ≡ u .objectCount) (et : s .tableCo
   handle-range : (h : Handle) → HandleRange s h → HandleRange u h
   handle-range h r = record { object = rw eo at (r .object); rights = r .rights; flags = r .flags }
 
-  handles-range : (hs : List Handle) → All (HandleRange s) hs → All (HandleRange u) hs
-  handles-range [] r = tt
-  handles-range (h ∷ hs) r = (handle-range h (r .0), handles-range hs (r .1))
-
   slot-range : (x : Slot) → SlotRange s x → SlotRange u x
   slot-range absent r = tt
   slot-range (vacant g) r = tt
@@ -79,19 +77,14 @@ module _ (s u : State) (eo : s .objectCount ≡ u .objectCount) (et : s .tableCo
   slot-range (transferReserved g i) r = tt
   slot-range (occupied g h) r = handle-range h r
 
-  entries-range : (es : List Entry) → All (EntryRange s) es → All (EntryRange u) es
-  entries-range [] r = tt
-  entries-range (moved k h q ∷ es) r = ((handle-range h (r .0 .0), r .0 .1), entries-range es (r .1))
-  entries-range (copied h ∷ es) r = (handle-range h (r .0), entries-range es (r .1))
+  entry-range : (x : Entry) → EntryRange s x → EntryRange u x
+  entry-range (moved k h q) r = (handle-range h (r .0), r .1)
+  entry-range (copied h) r = handle-range h r
 
   body-range : (x : Body) → BodyRange s x → BodyRange u x
   body-range (reservation b ks) r = (rw et at (r .0), r .1)
-  body-range (claim b es) r = (rw et at (r .0), r .1, entries-range es (r .2))
-  body-range (parcel hs) r = (r .0, handles-range hs (r .1))
-
-  rows-range : (rs : List Row) → All (RowRange s) rs → All (RowRange u) rs
-  rows-range [] r = tt
-  rows-range (x ∷ rs) r = (body-range (x .body) (r .0), rows-range rs (r .1))
+  body-range (claim b es) r = (rw et at (r .0), r .1, all-map entry-range es (r .2))
+  body-range (parcel hs) r = (r .0, all-map handle-range hs (r .1))
 
 pub settled : (s : State) (ts : ℕ → Table) (os : ℕ → Object) (rs : List Row) (n : ℕ) (fs : List ℕ) → Clauses s ts os rs n
     → Good (edit s ts os rs n fs)
@@ -105,7 +98,7 @@ settled s ts os rs n fs w = let u : State = edit s ts os rs n fs in record {
   closed = w .closed;
   slots = λ b k. slot-range s u refl refl (ts b .slots k) (w .slots b k);
   room = w .room;
-  rows = rows-range s u refl refl rs (w .rows);
+  rows = all-map (λ x. body-range s u refl refl (x .body)) rs (w .rows);
   placed = w .placed;
 }
 
@@ -122,10 +115,6 @@ good-clauses s w = record {
   rowCount = w .room;
   rows = w .rows;
 }
-
-both-marks : (s : State) → Marks s → Marked (s .tables) (s .book .rows)
-both-marks s w true i b k = w .reserved i b k
-both-marks s w false i b k = w .transferReserved i b k
 
 pub good : (z : Sizes) (s : State) → WellFormed z s → Good s
 good z s w = record {
@@ -168,9 +157,13 @@ module _ (s : State) (w : Good s) where
     rise = ids-add 1 n x (s .book .rows) (w .rise);
     next = id-left s i (w .next);
     room = omega (arith, length-add (s .book .rows) (row n x), ltb-true (length (s .book .rows)) (s .book .capacity) f);
-    rows = all-add (RowRange s) (s .book .rows) (row n x) (w .rows) r;
+    rows = all-append (RowRange s) (s .book .rows) (row n x ∷ []) (w .rows) (r, tt);
     closing = λ b e. open-add b (s .book .rows) (row n x) (w .closing b e) (o b e);
   }
+
+  -- a slot that stands is below the last
+  pub present-below : (b k : ℕ) → isAbsent (s .tables b .slots k) ≡ false → k < maxSlots
+  present-below b k e = bool (ltb k maxSlots) (λ q. ltb-true k maxSlots q) (λ q. clash (w .placed b k (ltb-false k maxSlots q)) e)
 
   -- an open row's table is active, and it is one of the state's
   pub open-active : (i b : ℕ) (x : Body) → find i (s .book .rows) ≡ some x → opensIn b x ≡ true → isActive (s .tables b .life) ≡ true
@@ -179,9 +172,6 @@ module _ (s : State) (w : Good s) where
   -- so no other table's life asks about it
   pub not-its : (b : ℕ) → isActive (s .tables b .life) ≡ true → (c : ℕ) → isActive (s .tables c .life) ≡ false → eqb c b ≡ false
   not-its b a c q = ne-eqb c b (λ y. clash a (rw y at q))
-
-  pub found-range : (i : ℕ) (x : Body) → find i (s .book .rows) ≡ some x → BodyRange s x
-  found-range i x e = all-found (BodyRange s) i x (s .book .rows) (w .rows) e
 
 module _ (s : State) (rs : List Row) (n : ℕ) (w : BookStep s rs n) where
   pub book-drop : (i : ℕ) → BookStep s (dropId i rs) n
@@ -221,9 +211,6 @@ objects-step s os rs n w k m c = record {
   placed = w .placed;
 }
 
-put-at : (C : Table → Type 0) (ts : ℕ → Table) (b : ℕ) (t : Table) (c : ℕ) → (c ≡ b → C t) → C (ts c) → C (put ts b t c)
-put-at C ts b t c y n = bool (eqb c b) (λ e. rw e (y (eqb-true c b e))) (λ e. rw e n)
-
 -- the objects fit, and their counts differ as the handles of the table and of the rows do
 abbrev pub Balanced : State → ℕ → Table → (ℕ → Object) → List Row → Type 0
 Balanced s b t os rs = (o : ℕ) → o < s .objectCount
@@ -245,14 +232,14 @@ table-step s b t os rs n w k c = let ts : ℕ → Table = s .tables in record {
   marked = c .marked;
   rise = k .rise;
   next = k .next;
-  counted = λ o l. omega (arith, c .counted o l .1, w .counted o l, totals-put (s .tableCount) o b ts t (c .known));
+  counted = λ o l. omega (arith, c .counted o l .1, w .counted o l, sum-put (λ u. total o (u .slots)) (s .tableCount) ts b t (c .known));
   fit = λ o l. c .counted o l .0;
-  closing = λ d. put-at (λ y. isActive (y .life) ≡ false → anyOpen d rs ≡ false) ts b t d (λ q e. rw q (c .closing e)) (k .closing d);
-  closed = λ d j. put-at (λ y. isRetired (y .life) ≡ true → isOccupied (y .slots j) ≡ false) ts b t d (λ q e. c .closed j e) (w .closed d j);
-  slots = λ d j. put-at (λ y. SlotRange s (y .slots j)) ts b t d (λ q. c .slots j) (w .slots d j);
+  closing = λ d. put-at ts b t (λ y. isActive (y .life) ≡ false → anyOpen d rs ≡ false) d (λ q e. rw q (c .closing e)) (λ q. k .closing d);
+  closed = λ d j. put-at ts b t (λ y. isRetired (y .life) ≡ true → isOccupied (y .slots j) ≡ false) d (λ q. c .closed j) (λ q. w .closed d j);
+  slots = λ d j. put-at ts b t (λ y. SlotRange s (y .slots j)) d (λ q. c .slots j) (λ q. w .slots d j);
   room = k .room;
   rows = k .rows;
-  placed = λ d j l. put-at (λ y. isAbsent (y .slots j) ≡ true) ts b t d (λ q. c .placed j l) (w .placed d j l);
+  placed = λ d j l. put-at ts b t (λ y. isAbsent (y .slots j) ≡ true) d (λ q. c .placed j l) (λ q. w .placed d j l);
 }
 
 pub active-live : (l : Lifecycle) → isActive l ≡ true → isRetired l ≡ false

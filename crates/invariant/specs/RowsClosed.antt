@@ -6,11 +6,10 @@ use mathlib.Core.Option.{Option, some}
 use Prim.Native.Nat.{ℕ, _+_, _≤_, _<_}
 use native.Mathlib.Omega.{arith}
 use lib.ListN.{length, take, drop, length-take, length-map}
-use lib.Dec.{ltb, eqb}
-use borrow.Author.Tests.{ltb-true, ltb-false}
+use lib.Dec.{eqb}
 use Rattle.codec.specs.Codec.{nextGeneration}
-use Rattle.model.specs.Base.{bit, pick, put, occurs}
-use Rattle.model.specs.State.{Sizes, Handle, Slot, Slot.absent, Slot.vacant, Slot.occupied, Table, Object, Entry, Body, Body.reservation, Body.claim}
+use Rattle.model.specs.Base.{pick, put, occurs}
+use Rattle.model.specs.State.{Sizes, Handle, Slot, Slot.vacant, Slot.occupied, Table, Object, Entry, Body, Body.reservation, Body.claim}
 use Rattle.model.specs.State.{Body.parcel, Row, State, generation, isActive, maxSlots}
 use Rattle.model.specs.Storage.{vacateAll}
 use Rattle.model.specs.Change.{withTable}
@@ -19,17 +18,18 @@ use Rattle.model.specs.Book.{find, dropId, swapId, dropRow, dropRows, swapRow, 
 use Rattle.model.specs.Decision.{asParcel, handlesOf, distinct}
 use Rattle.model.specs.Step.{fillAll, restoreAll}
 use Rattle.model.specs.WellFormed.{HandleRange, SlotRange, All, Batch, BodyRange, heldBy, inSlot, inHandles, inRows}
-use Rattle.invariant.specs.Pointwise.{bool, clash, zero-or, same, bit-true, bit-small, member-occurs, member-in, occurs-split, given}
-use Rattle.invariant.specs.Pointwise.{given-out, movedHandles, vacateAll-slots, vacateAll-alike, fillAll-slots, fillAll-alike}
+use Rattle.model.specs.Tests.{bool, zero-or, same, pick-same, apart}
+use Rattle.model.specs.Sums.{member-occurs, member-in, occurs-split}
+use Rattle.invariant.specs.Pointwise.{given, given-out, movedHandles, vacateAll-slots, vacateAll-alike, fillAll-slots, fillAll-alike}
 use Rattle.invariant.specs.Pointwise.{restoreAll-is}
-use Rattle.invariant.specs.Pages.{absent-is}
 use Rattle.invariant.specs.BookLemmas.{find-drop-same, find-drop-other, find-swap-same, find-swap-other, rows-drop, rows-swap, ids-drop}
-use Rattle.invariant.specs.BookLemmas.{drop-swap, drop-drop}
+use Rattle.invariant.specs.BookLemmas.{drop-swap, drop-drop, found-range}
 use Rattle.invariant.specs.CountLemmas.{Fit, not-held, lower-all, total, total-same, total-given}
-use Rattle.invariant.specs.Marks.{inRow, isBy, Marked, bare, bare-mark, mark-other, mark-held, marked-others, pick-same, alike, Keys}
-use Rattle.invariant.specs.Marks.{keys-reservation, keys-claim, keys-count}
-use Rattle.invariant.specs.Rows.{Balanced, Good, edit, settled, BookStep, book-same, book-drop, book-swap, open-active, found-range}
-use Rattle.invariant.specs.Rows.{not-its, table-step, touched}
+use Rattle.invariant.specs.Marks.{inRow, isBy, Marked, bare, bare-mark, mark-other, mark-held, marked-others, alike, Keys, keys-reservation}
+use Rattle.invariant.specs.Marks.{keys-claim, keys-count, owns, mark-busy}
+use Rattle.invariant.specs.Pages.{busy-there}
+use Rattle.invariant.specs.Rows.{Balanced, Good, edit, settled, BookStep, book-same, book-drop, book-swap, open-active, not-its, table-step}
+use Rattle.invariant.specs.Rows.{touched, present-below}
 use Rattle.invariant.specs.Counts.{none-in, parcel-in}
 use Rattle.invariant.specs.Parcels.{dropIds, dropRows-is, book-drops, handles-drop, not-parcel, handles-range, drops-in, drops-rows}
 use Rattle.invariant.specs.Parcels.{sent-range, moved-range, moved-length, sent-held, held-parts}
@@ -58,18 +58,13 @@ given-in P (k ∷ ks) (h ∷ hs) j e a q = bool (eqb j k)
     omega arith)))
 
 module _ (z : Sizes) (s : State) (w : Good s) where
-  -- a row's slots are those that it marks
-  keys-marked : (i b : ℕ) (m : Bool) (ks : List ℕ) (x : Body) → Keys m b ks x → find i (s .book .rows) ≡ some x → (k : ℕ)
-      → occurs k ks ≡ bit (isBy m i (s .tables b .slots k))
-  keys-marked i b m ks x y e k = sym (y .own k) ∙ (rw e at (w .marked m i b k))
-
   -- a row ends whole
   ends-whole : (i b : ℕ) (m : Bool) (ks : List ℕ) (x : Body) → Keys m b ks x → find i (s .book .rows) ≡ some x → (ns : List Row)
       → ((n : Bool) (c k : ℕ) → inRow n c k (find i ns) ≡ 0)
       → ((n : Bool) (j c k : ℕ) → (j ≡ i → ⊥) → inRow n c k (find j ns) ≡ inRow n c k (find j (s .book .rows))) → Ends s i b m ks ns
-  ends-whole i b m ks x y e ns gone others = let d = keys-marked i b m ks x y e in record {
-    on = λ k c. bit-true (isBy m i (s .tables b .slots k)) (omega (arith, d k));
-    once = λ k. omega (arith, d k, bit-small (isBy m i (s .tables b .slots k)));
+  ends-whole i b m ks x y e ns gone others = let o = owns (s .tables) (s .book .rows) (w .marked) m i b ks x y e in record {
+    on = o .on;
+    once = o .once;
     kept = λ n k c. gone n b k ∙ sym (rw (e, keys-count m n b ks x y k, c) (pick-same (alike m n)));
     gone = λ n k c. gone n b k;
     away = λ n c k q. gone n c k ∙ sym (rw e (y .far n c k q));
@@ -83,16 +78,16 @@ module _ (z : Sizes) (s : State) (w : Good s) where
       let rs : List Row = s .book .rows in
       let x : Body = reservation b (take n ks) in
       let now : find i (swapId i x rs) ≡ some x = find-swap-same i x (reservation b ks) rs e in
-      let d = keys-marked i b true ks (reservation b ks) (keys-reservation b ks) e in
+      let o = owns (s .tables) rs (w .marked) true i b ks (reservation b ks) (keys-reservation b ks) e in
       let c : (m : Bool) (k : ℕ) → inRow m b k (some x) ≡ pick m (occurs k (take n ks)) 0 = λ m. keys-count true m b (take n ks) x
       (keys-reservation b (take n ks)) in
       let c′ : (m : Bool) (k : ℕ) → inRow m b k (some (reservation b ks)) ≡ pick m (occurs k ks) 0 = λ m. keys-count true m b ks (reservation b ks)
       (keys-reservation b ks) in
       record {
-        on = λ k q. bit-true (isBy true i (s .tables b .slots k)) (omega (arith, d k, occurs-split k n ks));
-        once = λ k. omega (arith, d k, occurs-split k n ks, bit-small (isBy true i (s .tables b .slots k)));
+        on = λ k q. o .on k (omega (arith, occurs-split k n ks));
+        once = λ k. omega (arith, o .once k, occurs-split k n ks);
         kept = λ m k q. let y : occurs k (take n ks) ≡ occurs k ks = omega (arith, occurs-split k n ks) in rw (now, e, c m k, c′ m k, y);
-        gone = λ m k q. let y : occurs k (take n ks) ≡ 0 = omega (arith, d k, occurs-split k n ks, bit-small (isBy true i (s .tables b .slots k))) in
+        gone = λ m k q. let y : occurs k (take n ks) ≡ 0 = omega (arith, o .once k, occurs-split k n ks) in
             rw (now, c m k, y) (pick-same m);
         away = λ m a k y. rw (now, e) (keys-reservation b (take n ks) .far m a k y ∙ sym (keys-reservation b ks .far m a k y));
         others = λ m j a k y. rw (find-swap-other i j y x rs);
@@ -104,9 +99,7 @@ module _ (z : Sizes) (s : State) (w : Good s) where
     ends-empty o k q = not-held o (s .tables b .slots k) (mark-held m i (s .tables b .slots k) (c .on k q))
 
     ends-below : (k : ℕ) → 0 < occurs k ds → k < maxSlots
-    ends-below k q = bool (ltb k maxSlots) (λ e. ltb-true k maxSlots e)
-        (λ e. let a : s .tables b .slots k ≡ absent = absent-is (s .tables b .slots k) (w .placed b k (ltb-false k maxSlots e)) in
-        clash (c .on k q) (rw a (bare-mark m i absent refl)))
+    ends-below k q = present-below s w b k (busy-there (s .tables b .slots k) (mark-busy m i (s .tables b .slots k) (c .on k q)))
 
   -- its slots get contents without a mark, and the others stay
   module _ (i b : ℕ) (m : Bool) (ds : List ℕ) (ns : List Row) (c : Ends s i b m ds ns) (t : Table) (l : b < s .tableCount)
@@ -180,13 +173,13 @@ module _ (z : Sizes) (s : State) (w : Good s) where
       → Good (dropRow i (withTable s b (vacateAll z ks (s .tables b))))
   abort-good i b ks e = let rs : List Row = s .book .rows in let x : Body = reservation b ks in
       vacated-step i b true ks (dropId i rs) (ends-whole i b true ks x (keys-reservation b ks) e (dropId i rs) (gone-drop i rs) (others-drop i rs))
-      (book-drop s rs (s .book .next) (book-same s w) i) (found-range s w i x e .0) (open-active s w i b x e (same b))
+      (book-drop s rs (s .book .next) (book-same s w) i) (found-range s (w .rows) i x e .0) (open-active s w i b x e (same b))
       (λ o. omega (arith, rows-drop o i x 1 (s .book .next) rs (w .rise) e))
 
   pub trim-good : (i b n : ℕ) (ks : List ℕ) → find i (s .book .rows) ≡ some (reservation b ks) → 0 < n → n ≤ length ks
       → Good (swapRow i (reservation b (take n ks)) (withTable s b (vacateAll z (drop n ks) (s .tables b))))
   trim-good i b n ks e p q = let rs : List Row = s .book .rows in let x : Body = reservation b (take n ks) in
-      let r : BodyRange s (reservation b ks) = found-range s w i (reservation b ks) e in
+      let r : BodyRange s (reservation b ks) = found-range s (w .rows) i (reservation b ks) e in
       let a : isActive (s .tables b .life) ≡ true = open-active s w i b (reservation b ks) e (same b) in
       vacated-step i b true (drop n ks) (swapId i x rs) (ends-trim i b n ks e)
       (book-swap s rs (s .book .next) (book-same s w) i x (r .0, (omega (arith, length-take n ks), omega (arith, length-take n ks, r .1 .1)))
@@ -196,7 +189,7 @@ module _ (z : Sizes) (s : State) (w : Good s) where
   pub commit-good : (i b : ℕ) (es : List Entry) → find i (s .book .rows) ≡ some (claim b es)
       → Good (swapRow i (parcel (map sentOf es)) (withTable s b (vacateAll z (movedOf es) (s .tables b))))
   commit-good i b es e = let rs : List Row = s .book .rows in let x : Body = parcel (map sentOf es) in
-      let r : BodyRange s (claim b es) = found-range s w i (claim b es) e in
+      let r : BodyRange s (claim b es) = found-range s (w .rows) i (claim b es) e in
       let now : find i (swapId i x rs) ≡ some x = find-swap-same i x (claim b es) rs e in
       let size : Batch (map sentOf es) = (omega (arith, length-map es sentOf, r .1 .0), omega (arith, length-map es sentOf, r .1 .1)) in
       vacated-step i b false (movedOf es) (swapId i x rs) (ends-whole i b false (movedOf es) (claim b es) (keys-claim b es) e (swapId i x rs)
@@ -209,7 +202,7 @@ module _ (z : Sizes) (s : State) (w : Good s) where
       → Good (dropRow i (release (withTable s b (restoreAll z es (s .tables b))) (copiesOf es)))
   rollback-good i b es e = rw (restoreAll-is z es (s .tables b)) (
       let rs : List Row = s .book .rows in
-      let r : BodyRange s (claim b es) = found-range s w i (claim b es) e in
+      let r : BodyRange s (claim b es) = found-range s (w .rows) i (claim b es) e in
       let d : (o : ℕ) → inRows o (dropId i rs) + inHandles o (map heldBy es) ≡ inRows o rs = λ o. rows-drop o i (claim b es) 1 (s .book .next) rs
       (w .rise) e in
       let a = lower-all (s .objectCount) (copiesOf es) (s .objects) (w .fit) (λ o l. omega (arith, w .counted o l, d o, held-parts o es)) in
@@ -232,14 +225,14 @@ module _ (z : Sizes) (s : State) (w : Good s) where
       filled-step i b true ks hs (s .objects) ns (ends-whole i b true ks x (keys-reservation b ks) e ns
       (λ n c k. drops-in i n c k is (dropId i rs) hs f′ d ∙ gone-drop i rs n c k) (λ n j c k y. drops-in j n c k is (dropId i rs) hs f′ d
       ∙ others-drop i rs n j c k y))
-      (book-drops s (s .book .next) (i ∷ is) rs (book-same s w)) (found-range s w i x e .0) (open-active s w i b x e (same b)) len
+      (book-drops s (s .book .next) (i ∷ is) rs (book-same s w)) (found-range s (w .rows) i x e .0) (open-active s w i b x e (same b)) len
       (handles-range s is rs hs (w .rows) f)
       (λ o l. (w .fit o l, omega (arith, a o, rows-drop o i x 1 (s .book .next) rs (w .rise) e))))
 
 -- a claim's row and a reservation's are two
 two-rows : (i j b c : ℕ) (es : List Entry) (ks : List ℕ) (rs : List Row) → find i rs ≡ some (claim b es) → find j rs ≡ some (reservation c ks) → j ≡ i
     → ⊥
-two-rows i j b c es ks rs e f y = let e′ : find j rs ≡ some (claim b es) = ap (λ t. find t rs) y ∙ e in let z : _≡_ {A = ℕ} 0 1 = cc in omega arith
+two-rows i j b c es ks rs e f y = let e′ : find j rs ≡ some (claim b es) = ap (λ t. find t rs) y ∙ e in apart (cc)
 
 module _ (z : Sizes) (s : State) (w : Good s) where
   -- a claim committed, then its parcel published

@@ -6,62 +6,31 @@ use mathlib.Core.Option.{Option, none, some}
 use Prim.Native.Nat.{ℕ, _+_, _≤_, _<_}
 use native.Mathlib.Omega.{arith}
 use lib.ListN.{length, take}
-use lib.Dec.{ltb, eqb}
-use borrow.Author.Tests.{ltb-true, ltb-false, eqb-true}
 use Rattle.model.specs.Base.{bit, pick, put, occurs, member}
-use Rattle.model.specs.State.{Sizes, Handle, Slot, Slot.absent, Slot.vacant, Slot.reserved, Slot.transferReserved, Slot.occupied, Table, Object}
-use Rattle.model.specs.State.{Entry, Entry.moved, Entry.copied, Body, Body.reservation, Body.claim, Row, State, generation, isAbsent, isVacant}
-use Rattle.model.specs.State.{isOccupied, isActive, maxSlots, maxBatch}
+use Rattle.model.specs.State.{Sizes, Handle, Slot, Slot.reserved, Slot.transferReserved, Table, Object, Entry, Body, Body.reservation, Body.claim}
+use Rattle.model.specs.State.{Row, State, generation, isAbsent, isVacant, isActive, maxSlots, maxBatch}
 use Rattle.model.specs.Storage.{keepAll, takeFree}
 use Rattle.model.specs.Change.{withTable, withObjects}
 use Rattle.model.specs.Objects.{raise, changeAll}
 use Rattle.model.specs.Book.{find, addRow, freeRow, idLeft, movedOf, copiesOf}
 use Rattle.model.specs.Transfer.{copiesFault}
 use Rattle.model.specs.WellFormed.{SlotRange, EntryRange, All, Batch, inSlot, inHandles, handlesIn}
-use Rattle.invariant.specs.Pointwise.{bool, clash, zero-or, bit-true, bit-small, member-occurs, member-in, occurs-in, occurs-split, given}
-use Rattle.invariant.specs.Pointwise.{given-out, movedHandles, keepAll-slots, keepAll-alike, takeFree-slots, takeFree-alike}
-use Rattle.invariant.specs.Pages.{vacant-there}
+use Rattle.model.specs.Tests.{bool, zero-or, bit-true, bit-small, pick-same}
+use Rattle.model.specs.Sums.{member-occurs, member-in, occurs-in, occurs-split}
+use Rattle.invariant.specs.Pointwise.{given, given-out, movedHandles, keepAll-slots, keepAll-alike, takeFree-slots, takeFree-alike}
 use Rattle.invariant.specs.BookLemmas.{row, find-add-same, find-add-other, rows-add}
-use Rattle.invariant.specs.CountLemmas.{Fit, raise-all, total, total-same, total-given, inGiven, not-held}
-use Rattle.invariant.specs.Marks.{Marked, bare, bare-mark, vacant-bare, marked-others, pick-same, alike, Keys, keys-reservation}
-use Rattle.invariant.specs.Marks.{keys-claim, keys-count, mark, mark-own, mark-apart}
-use Rattle.invariant.specs.Rows.{Good, edit, settled, BookStep, book-add, not-its, table-step, touched}
-use Rattle.invariant.specs.Counts.{none-in, next-none, next-unmarked}
+use Rattle.invariant.specs.CountLemmas.{Fit, raise-all, total, total-same, total-given, inGiven}
+use Rattle.invariant.specs.Marks.{Marked, bare, bare-mark, marked-others, alike, Keys, keys-reservation, keys-claim, keys-count, mark}
+use Rattle.invariant.specs.Marks.{mark-own, mark-apart}
+use Rattle.invariant.specs.Items.{Taken, taken, Stands}
+use Rattle.invariant.specs.Pages.{vacant-there, vacant-idle}
+use Rattle.invariant.specs.Rows.{Good, edit, settled, BookStep, book-add, not-its, table-step, touched, present-below}
+use Rattle.invariant.specs.Counts.{none-in, next-none, next-unmarked, idle-bare, idle-held}
 use Rattle.invariant.specs.Parcels.{held-parts, moved-length}
-
-vacant-held : (x : Slot) → isVacant x ≡ true → isOccupied x ≡ false
-vacant-held absent e = refl
-vacant-held (vacant g) e = refl
-vacant-held (reserved g i) e = refl
-vacant-held (transferReserved g i) e = refl
-vacant-held (occupied g h) e = clash e refl
 
 mark-range : (s : State) (m : Bool) (i g : ℕ) → SlotRange s (mark m i g)
 mark-range s true i g = tt
 mark-range s false i g = tt
-
--- moved entries stand in their slots
-abbrev pub Stands : (ℕ → Slot) → Entry → Type 0
-Stands f (moved k h r) = (g : ℕ) × (f k ≡ occupied g h)
-Stands f (copied h) = Unit {0}
-
-record Taken (x : Slot) (o : Option Handle) : Type 0 where
-  gen : ℕ
-  held : Handle
-  stood : x ≡ occupied gen held
-  named : o ≡ some held
-
-taken-past : (t : Bool) (x : Slot) (h : Handle) (o : Option Handle) → t ≡ false → Taken x o → Taken x (pick t (some h) o)
-taken-past t x h o y r = record { gen = r .gen; held = r .held; stood = r .stood; named = rw y (r .named) }
-
-taken : (f : ℕ → Slot) (es : List Entry) (k : ℕ) → All (Stands f) es → 0 < occurs k (movedOf es)
-    → Taken (f k) (given (movedOf es) (movedHandles es) k)
-taken f [] k a q = absurd (omega arith)
-taken f (moved j h r ∷ es) k a q = bool (eqb k j)
-    (λ y. record { gen = a .0 .0; held = h; stood = rw (eqb-true k j y) (a .0 .1); named = rw y })
-    (λ y. taken-past (eqb k j) (f k) h (given (movedOf es) (movedHandles es) k) y
-    (taken f es k (a .1) (let q′ : 0 < 0 + occurs k (movedOf es) = rw y at q in omega arith)))
-taken f (copied h ∷ es) k a q = taken f es k (a .1) q
 
 module _ (z : Sizes) (s : State) (w : Good s) where
   -- a new row of table b under the kind m takes the slots `ks`, which bore no mark
@@ -83,7 +52,7 @@ module _ (z : Sizes) (s : State) (w : Good s) where
     opens-into k c = at k ∙ rw (member-in k ks c)
 
     opens-below : (k : ℕ) → 0 < occurs k ks → k < maxSlots
-    opens-below k c = bool (ltb k maxSlots) (λ e. ltb-true k maxSlots e) (λ e. clash (w .placed b k (ltb-false k maxSlots e)) (was k c .1))
+    opens-below k c = present-below s w b k (was k c .1)
 
     opens-marked : Marked (put (s .tables) b t) ns
     unfolding i ns
@@ -125,12 +94,12 @@ module _ (z : Sizes) (s : State) (w : Good s) where
       let once : (k : ℕ) → occurs k ks ≤ 1 = λ k. omega (arith, order k, occurs-split k n (s .tables b .free), bit-small (isVacant (old k))) in
       let at : (k : ℕ) → t .slots k ≡ pick (member k ks) (f (generation (old k))) (old k) = takeFree-slots z n f (λ g. refl) (s .tables b) in
       opens-step b true ks x (keys-reservation b ks) t l (rw (takeFree-alike z n f (s .tables b) .life) a) once
-      (λ k c. (vacant-bare (old k) (free k c), vacant-there (old k) (free k c))) at (s .objects)
+      (λ k c. (idle-bare (old k) (vacant-idle (old k) (free k c)), vacant-there (old k) (free k c))) at (s .objects)
       (book-add s w x fr id (l, (omega (arith, len), omega (arith, len))) (not-its s w b a))
       (λ o m. (
         w .fit o m,
         let e : total o (t .slots) ≡ total o old = total-same o (t .slots) old (λ k. rw (at k) (bool (member k ks)
-            (λ c. rw c (sym (not-held o (old k) (vacant-held (old k) (free k (occurs-in k ks c)))))) (λ c. rw c))) in omega (arith, e),
+            (λ c. rw c (sym (idle-held o (old k) (vacant-idle (old k) (free k (occurs-in k ks c)))))) (λ c. rw c))) in omega (arith, e),
       ))
 
   -- handles that stand in slots are taken, copies raise counts

@@ -1,20 +1,22 @@
 -- The storage clauses of a state, and what keeps them: a change of one table, of objects at rest, of the book.
 use mathlib.Core.Path.{_≡_, ap}
 use mathlib.Core.List.{List, [], _∷_}
-use mathlib.Core.Option.{some}
 use Prim.Native.Nat.{ℕ, _+_, _^_, _≤_, _<_}
 use native.Mathlib.Omega.{arith}
 use lib.Dec.{eqb}
 use borrow.Author.Tests.{ne-eqb}
 use Rattle.codec.specs.Codec.{generationLimit}
-use Rattle.model.specs.Base.{put, occurs}
-use Rattle.model.specs.State.{Sizes, Handle, Table, Object, Entry, Entry.moved, Entry.copied, Body, Row, State, Lifecycle, noObject, maxTables, maxFrames, maxObjects, maxRows}
+use Rattle.model.specs.Base.{occurs}
+use Rattle.model.specs.State.{Sizes, Handle, Table, Object, Entry, Entry.moved, Entry.copied, Row, State, Lifecycle, noObject, maxTables, maxFrames}
+use Rattle.model.specs.State.{maxObjects, maxRows}
 use Rattle.model.specs.Change.{withTable, withObjects, withFrames, withBook, withLife}
 use Rattle.model.specs.Objects.{changeAll, change}
-use Rattle.model.specs.Book.{find, copiesOf}
+use Rattle.model.specs.Book.{copiesOf}
 use Rattle.model.specs.Create.{maxPages}
-use Rattle.model.specs.WellFormed.{HandleRange, EntryRange, All, BodyRange, RowRange, LifeRange, Rising, Frames, Orders, Generations, AtRest, WellFormed}
-use Rattle.invariant.specs.Pointwise.{apart, bool, same, sum-differ, Alike}
+use Rattle.model.specs.WellFormed.{EntryRange, All, LifeRange, Rising, Frames, Orders, Generations, AtRest, WellFormed}
+use Rattle.model.specs.Tests.{bool}
+use Rattle.model.specs.Sums.{sum-put}
+use Rattle.invariant.specs.Pointwise.{Alike}
 use Rattle.invariant.specs.Orders.{Sound, recast}
 use Rattle.invariant.specs.Frames.{owned, owned-alike}
 
@@ -102,10 +104,7 @@ module _ (z : Sizes) (s : State) (w : StorageClauses z s) where
         }))
         (λ e. rw e (w .tables c m));
     frames = record {
-      once = λ f. let h = sum-differ (s .tableCount) (λ c. owned (put (s .tables) b t c) f) (λ c. owned (s .tables c) f) b l
-          (λ c m. rw (ne-eqb c b m)) in
-          let k : owned (put (s .tables) b t b) f ≡ owned t f = rw (same b) in
-          omega (arith, h, k, n .frames f, w .frames .once f);
+      once = λ f. omega (arith, sum-put (λ u. owned u f) (s .tableCount) (s .tables) b t l, n .frames f, w .frames .once f);
       rising = n .rising;
     };
     orders = λ c. bool (eqb c b)
@@ -166,19 +165,7 @@ pub changeAll-rest : (f : Object → Object) (n : ℕ) (hs : List Handle) (os : 
 changeAll-rest f n [] os r h = h
 changeAll-rest f n (x ∷ hs) os r h = changeAll-rest f n hs (change f os (x .object)) (r .1) (change-rest f n (x .object) os (r .0) h)
 
-module _ (s : State) where
-  pub parcel-range : (hs : List Handle) → All (HandleRange s) hs → InRange (s .objectCount) hs
-  parcel-range [] r = tt
-  parcel-range (h ∷ hs) r = (r .0 .object, parcel-range hs (r .1))
-
-  pub copies-range : (es : List Entry) → All (EntryRange s) es → InRange (s .objectCount) (copiesOf es)
-  copies-range [] r = tt
-  copies-range (moved k h x ∷ es) r = copies-range es (r .1)
-  copies-range (copied h ∷ es) r = (r .0 .object, copies-range es (r .1))
-
-  -- a row that is found is in range
-  pub find-range : (i : ℕ) (rs : List Row) (b : Body) → All (RowRange s) rs → find i rs ≡ some b → BodyRange s b
-  find-range i [] b r e = apart (cc)
-  find-range i (x ∷ rs) b r e = bool (eqb (x .id) i)
-      (λ q. let y : some (x .body) ≡ some b = rw q at e in let y′ : x .body ≡ b = cc in rw y′ at (r .0))
-      (λ q. find-range i rs b (r .1) (rw q at e))
+pub copies-range : (s : State) (es : List Entry) → All (EntryRange s) es → InRange (s .objectCount) (copiesOf es)
+copies-range s [] r = tt
+copies-range s (moved k h x ∷ es) r = copies-range s es (r .1)
+copies-range s (copied h ∷ es) r = (r .0 .object, copies-range s es (r .1))

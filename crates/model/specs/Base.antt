@@ -85,7 +85,7 @@ abbrev pub without : ℕ → List ℕ → List ℕ
 without k [] = []
 without k (x ∷ xs) = pick (eqb k x) (without k xs) (x ∷ without k xs)
 
--- the numbers of a list that pass no test
+-- a list without the numbers that pass a test
 abbrev pub dropIf : (ℕ → Bool) → List ℕ → List ℕ
 dropIf p [] = []
 dropIf p (x ∷ xs) = pick (p x) (dropIf p xs) (x ∷ dropIf p xs)

@@ -4,20 +4,29 @@ use mathlib.Core.Bool.{Bool, true, false, _&&_}
 use mathlib.Core.List.{List, [], _∷_, _++_, map}
 use mathlib.Core.Option.{Option, none, some}
 use Prim.Native.Nat.{ℕ, zero, suc, _+_, _-_, _*_, _^_}
-use lib.ListN.{length, take, drop}
+use lib.ListN.{take, drop}
 use lib.Dec.{eqb, ltb}
 use borrow.Author.Tests.{eqb-true}
 use Rattle.authority.specs.Rights.{contains}
 use Rattle.codec.specs.Codec.{pick as choose, encode, payload, decodes, payloadIn, numberIn, slotIn, generationIn, nextGeneration, maskOf}
-use Rattle.model.specs.Base.{pick, put, every, nth, range, pushAll, isSome, orElse}
-use Rattle.model.specs.State.{Sizes, till, Handle, Slot, Slot.absent, Slot.vacant, Slot.occupied, Page, Table, Object, State, Lifecycle.active, noTable, maxBatch, maxSlots, maxLimit, knownFlags, lastId}
+use Rattle.model.specs.Base.{pick, put, every, nth, range, pushAll}
+use Rattle.model.specs.State.{till, Slot.absent, Slot.vacant, Slot.occupied, Table, State, Lifecycle.active, Stage.stillNew, Stage.nowActive, Object, maxBatch, maxSlots, knownFlags}
+use Rattle.model.specs.State.{lastId}
 use Rattle.model.specs.Storage.{place, vacate, takeFree, pagesFor, attach, detach, slotsOf}
-use Rattle.model.specs.Request.{Answer, Answer.refused, Answer.done, Answer.opened, Answer.batch, Answer.infoOf, Answer.resolved, Answer.renewed, Answer.scanned, Answer.removed, Answer.closed, Answer.taken, Route.buffered, Route.rendezvous, Item, Operation, Operation.asMove, Operation.asCopy}
-use Rattle.model.specs.Request.{Request, Request.newObject, Request.duplicate, Request.releaseParcel, Request.retireObject, Request.reserve, Request.trim, Request.abort, Request.publish, Request.getInfo, Request.resolve, Request.replace, Request.close, Request.scanHandles, Request.prepareTransfer, Request.prepareConsumption, Request.rollback, Request.commit, Request.directCommit, Request.directRollback, Request.removeStoppingOwner, Request.teardownStart, Request.teardownStep, Request.teardownFinish, Request.takeEmptyPage}
+use Rattle.model.specs.Request.{Answer, Answer.refused, Route.buffered, Route.rendezvous, Item, Operation, Operation.asMove, Operation.asCopy}
+use Rattle.model.specs.Request.{Request, Request.newObject, Request.duplicate, Request.releaseParcel, Request.retireObject, Request.reserve}
+use Rattle.model.specs.Request.{Request.trim, Request.abort, Request.publish, Request.getInfo, Request.resolve, Request.replace}
+use Rattle.model.specs.Request.{Request.close, Request.scanHandles, Request.prepareTransfer, Request.prepareConsumption, Request.rollback}
+use Rattle.model.specs.Request.{Request.commit, Request.directCommit, Request.directRollback, Request.removeStoppingOwner}
+use Rattle.model.specs.Request.{Request.teardownStart, Request.teardownStep, Request.teardownFinish, Request.takeEmptyPage}
 use Rattle.model.specs.Change.{withTable, withBook}
-use Rattle.model.specs.Step.{decide, step, run, newObjectOf, duplicateOf, releaseParcelOf, retireObjectOf, reserveOf, trimOf, abortOf, publishOf, getInfoOf, resolveOf, replaceOf, closeOf, scanHandlesOf, prepareTransferOf, prepareConsumptionOf, rollbackOf, commitOf, directCommitOf, directRollbackOf, removeStoppingOwnerOf, teardownStartOf, teardownStepOf, teardownFinishOf, takeEmptyPageOf}
-use Rattle.model.specs.Create.{ObjectParameters, Parameters, created}
+use Rattle.model.specs.Step.{decide, step, run, newObjectOf, duplicateOf, releaseParcelOf, retireObjectOf, reserveOf, trimOf, abortOf}
+use Rattle.model.specs.Step.{publishOf, getInfoOf, resolveOf, replaceOf, closeOf, scanHandlesOf, prepareTransferOf, prepareConsumptionOf}
+use Rattle.model.specs.Step.{rollbackOf, commitOf, directCommitOf, directRollbackOf, removeStoppingOwnerOf, teardownStartOf, teardownStepOf}
+use Rattle.model.specs.Step.{teardownFinishOf, takeEmptyPageOf}
+use Rattle.model.specs.Create.{ObjectParameters, created}
 use Rattle.model.specs.Words.{usedWords}
+use Rattle.model.specs.Tests.{and-left, and-right, nth-passes}
 
 -- what the definitions give, beside what the paper says
 pub record Case : Type 0 where
@@ -39,14 +48,6 @@ agree c = sameList (c .given) (c .said)
 
 -- what a computed test over a table says of each of its lines
 
-and-left : (a b : Bool) → a && b ≡ true → a ≡ true
-and-left true b e = refl
-and-left false b e = e
-
-and-right : (a b : Bool) → a && b ≡ true → b ≡ true
-and-right true b e = e
-and-right false b e = let z : _≡_ {A = Bool} false true = e in cc
-
 pub sameList-equal : (a b : List ℕ) → sameList a b ≡ true → a ≡ b
 sameList-equal [] [] e = refl
 sameList-equal [] (y ∷ ys) e = cc
@@ -57,15 +58,11 @@ sameList-equal (x ∷ xs) (y ∷ ys) e =
     cc
 
 pub line : (cs : List Case) → every agree cs ≡ true → (k : ℕ) (c : Case) → nth cs k ≡ some c → c .given ≡ c .said
-line [] e k c h = let z : _≡_ {A = Option Case} none (some c) = h in cc
-line (x ∷ xs) e zero c h =
-    let p : x ≡ c = cc in
-    let q : c .given ≡ c .said = rw p at (sameList-equal (x .given) (x .said) (and-left (agree x) (every agree xs) e)) in q
-line (x ∷ xs) e (suc k) c h = line xs (and-right (agree x) (every agree xs) e) k c h
+line cs e k c h = sameList-equal (c .given) (c .said) (nth-passes agree cs e k c h)
 
 -- The states that the cases start from
 
-abbrev objectWith : ℕ → ℕ → ℕ → ℕ → ℕ → ℕ → ObjectParameters
+abbrev pub objectWith : ℕ → ℕ → ℕ → ℕ → ℕ → ℕ → ObjectParameters
 objectWith koid kind class supported exportable limit = record { koid = koid; kind = kind; class = class; supported = supported; exportable = exportable; limit = limit }
 
 -- "fresh": two tables of four pages with masks 0 and 5, four frames, eight rows; objects: 0 and 1 plain (1 with limit 2), 2 not exportable,
@@ -87,9 +84,9 @@ fresh = created (record {
       ∷ [];
 })
 
--- n slots of table 0, all on attached pages, those below m occupied by object 0
-abbrev filled : ℕ → ℕ → ℕ → Table
-filled pages n m = record {
+-- a table whose first `pages` pages are attached in the frames of their numbers, with n slots, those below m occupied by object 0
+abbrev pub filled : ℕ → ℕ → ℕ → List ℕ → Table
+filled pages n m empty = record {
   limit = 8;
   mask = 0;
   life = active;
@@ -98,12 +95,24 @@ filled pages n m = record {
   pages = λ p. pick (ltb p pages) (record { frame = some p; high = 1 }) (record { frame = none; high = 0 });
   slots = λ k. pick (ltb k m) (occupied 1 (record { object = 0; rights = 3; flags = 0 })) (pick (ltb k n) (vacant 1) absent);
   free = pushAll (range m (n - m)) [];
-  empty = [];
+  empty = empty;
   detached = [];
 }
 
+-- the fresh state with such a table 0, eight frames and object 0 counted
+abbrev pub holding : ℕ → ℕ → ℕ → List ℕ → State
+holding pages n m empty = record {
+  tableCount = fresh .tableCount;
+  tables = put (fresh .tables) 0 (filled pages n m empty);
+  objectCount = fresh .objectCount;
+  objects = put (fresh .objects) 0 (let x : Object = fresh .objects 0 in record { koid = x .koid; kind = x .kind; class = x .class; supported = x .supported; exportable = x .exportable; limit = 1000; stage = pick (eqb m 0) stillNew nowActive; count = m });
+  frameCount = 8;
+  frames = range pages (8 - pages);
+  book = fresh .book;
+}
+
 -- a detached page whose high mark is the limit, and an epoch at its end
-abbrev worn : Table
+abbrev pub worn : Table
 worn = record {
   limit = 4;
   mask = 0;
@@ -117,51 +126,51 @@ worn = record {
   detached = 0 ∷ [];
 }
 
-abbrev with0 : Table → State
+abbrev pub with0 : Table → State
 with0 t = withTable fresh 0 t
 
 -- What is looked at
 
-abbrev end : State → List Request → State
+abbrev pub end : State → List Request → State
 end s rs = run till s rs .0
 
-abbrev lastOf : List Answer → Answer
+abbrev pub lastOf : List Answer → Answer
 lastOf [] = refused 0
 lastOf (a ∷ []) = a
 lastOf (a ∷ b ∷ rest) = lastOf (b ∷ rest)
 
 -- the words in use of the last answer
-abbrev last : State → List Request → List ℕ
+abbrev pub last : State → List Request → List ℕ
 last s rs = usedWords (lastOf (run till s rs .1))
 
 -- the first word of each answer
-abbrev firstWord : List ℕ → ℕ
+abbrev pub firstWord : List ℕ → ℕ
 firstWord [] = 0
 firstWord (w ∷ ws) = w
 
-abbrev numbers : State → List Request → List ℕ
+abbrev pub numbers : State → List Request → List ℕ
 numbers s rs = map (λ a. firstWord (usedWords a)) (run till s rs .1)
 
 -- slot and generation of each value that the last answer gives
-abbrev placesOf : ℕ → List ℕ → List ℕ
+abbrev pub placesOf : ℕ → List ℕ → List ℕ
 placesOf m [] = []
 placesOf m (v ∷ vs) = slotIn m v ∷ generationIn m v ∷ placesOf m vs
 
-abbrev places : State → List Request → List ℕ
+abbrev pub places : State → List Request → List ℕ
 places s rs = placesOf 0 (drop 3 (last s rs))
 
 -- length, whether there is a next cursor, the cursor, examined
-abbrev scan : State → List Request → List ℕ
+abbrev pub scan : State → List Request → List ℕ
 scan s rs = take 4 (drop 1 (last s rs))
 
-abbrev decoded : ℕ → ℕ → List ℕ
+abbrev pub decoded : ℕ → ℕ → List ℕ
 decoded m v = pick (decodes m v) (0 ∷ slotIn m v ∷ generationIn m v ∷ []) (2 ∷ [])
 
 -- a handle of object o published in table 0 (a fresh one: slot 63, generation 1, row ids 1 and 2)
-abbrev first : List Request
+abbrev pub first : List Request
 first = newObject 0 15 0 ∷ reserve 0 1 ∷ publish 2 (1 ∷ []) ∷ []
 
-abbrev v63 : ℕ
+abbrev pub v63 : ℕ
 v63 = 0x4800000001000040
 
 -- P1 to P12
@@ -178,9 +187,9 @@ papers =
     ∷ places fresh (reserve 0 3 ∷ []) is (63 ∷ 1 ∷ 62 ∷ 1 ∷ 61 ∷ 1 ∷ [])
     ∷ places fresh (reserve 0 3 ∷ abort 1 ∷ reserve 0 1 ∷ []) is (61 ∷ 2 ∷ [])
     ∷ numbers fresh (reserve 0 0 ∷ reserve 0 65 ∷ []) is (17 ∷ 13 ∷ [])
-    ∷ scan (with0 (filled 1 64 9)) (scanHandles 0 0 ∷ []) is (8 ∷ 1 ∷ 8 ∷ 8 ∷ [])
-    ∷ scan (with0 (filled 1 64 9)) (scanHandles 0 8 ∷ []) is (1 ∷ 0 ∷ 0 ∷ 56 ∷ [])
-    ∷ scan (with0 (filled 5 320 0)) (scanHandles 0 0 ∷ []) is (0 ∷ 1 ∷ 256 ∷ 256 ∷ [])
+    ∷ scan (holding 1 64 9 []) (scanHandles 0 0 ∷ []) is (8 ∷ 1 ∷ 8 ∷ 8 ∷ [])
+    ∷ scan (holding 1 64 9 []) (scanHandles 0 8 ∷ []) is (1 ∷ 0 ∷ 0 ∷ 56 ∷ [])
+    ∷ scan (holding 5 320 0 (4 ∷ 3 ∷ 2 ∷ 1 ∷ 0 ∷ [])) (scanHandles 0 0 ∷ []) is (0 ∷ 1 ∷ 256 ∷ 256 ∷ [])
     ∷ places fresh (first ++ (close 0 v63 ∷ takeEmptyPage 0 ∷ reserve 0 1 ∷ [])) is (63 ∷ 3 ∷ [])
     ∷ []
 
@@ -190,44 +199,44 @@ papers-hold = line papers refl
 
 -- The corner cases of document 01, and the numbers of every request in their printed order
 
-abbrev item : Operation → ℕ → ℕ → Item
+abbrev pub item : Operation → ℕ → ℕ → Item
 item o v r = record { operation = o; value = v; rights = r; offeredRights = none; offeredKind = none; expectedKind = none }
 
-abbrev transfer : List Item → Request
+abbrev pub transfer : List Item → Request
 transfer qs = prepareTransfer 0 rendezvous none none qs
 
 -- the value of a slot of table 0
-abbrev at0 : ℕ → ℕ → ℕ
+abbrev pub at0 : ℕ → ℕ → ℕ
 at0 k g = 0x4800000000000000 + (g * 2 ^ 24 + (k + 1))
 
 -- the epoch, the first page's high mark, the free, empty and detached orders of table 0
-abbrev orders : State → List ℕ
+abbrev pub orders : State → List ℕ
 orders s = let t : Table = s .tables 0 in t .epoch ∷ t .pages 0 .high ∷ (t .free ++ (99 ∷ t .empty) ++ (99 ∷ t .detached))
 
-abbrev nextId : State → List ℕ
+abbrev pub nextId : State → List ℕ
 nextId s = s .book .next ∷ []
 
 -- the same state with the next id at its end
-abbrev lastIds : State → State
+abbrev pub lastIds : State → State
 lastIds s = withBook s (record { rows = s .book .rows; capacity = s .book .capacity; next = 2 ^ 64 - 1 })
 
 -- an item with rights offered, and with kinds offered and expected
-abbrev offered : ℕ → Item → Item
+abbrev pub offered : ℕ → Item → Item
 offered r q = record { operation = q .operation; value = q .value; rights = q .rights; offeredRights = some r; offeredKind = q .offeredKind; expectedKind = q .expectedKind }
 
-abbrev ofKinds : Option ℕ → Option ℕ → Item → Item
+abbrev pub ofKinds : Option ℕ → Option ℕ → Item → Item
 ofKinds a b q = record { operation = q .operation; value = q .value; rights = q .rights; offeredRights = q .offeredRights; offeredKind = a; expectedKind = b }
 
 -- an object's count
-abbrev countOf : State → ℕ → List ℕ
+abbrev pub countOf : State → ℕ → List ℕ
 countOf s o = s .objects o .count ∷ []
 
 -- three handles of object 0: rights 15 in slot 63, 7 in 62, 3 in 61
-abbrev three : List Request
+abbrev pub three : List Request
 three = first ++ (duplicate 0 v63 7 ∷ duplicate 0 v63 3 ∷ reserve 0 2 ∷ publish 5 (3 ∷ 4 ∷ []) ∷ [])
 
 -- n numbers from k on, falling
-abbrev down : ℕ → ℕ → List ℕ
+abbrev pub down : ℕ → ℕ → List ℕ
 down k zero = []
 down k (suc n) = k ∷ down (k - 1) n
 
@@ -295,7 +304,7 @@ corners =
     ∷ places fresh (reserve 0 64 ∷ reserve 0 1 ∷ abort 1 ∷ takeEmptyPage 0 ∷ reserve 0 64 ∷ []) is placesOf 0 (map (λ k. at0 k 3) (down 63 64))
     -- "fewer free frames than pages needed, or no free row"; "pages needed beyond the limit"
     ∷ numbers fresh (reserve 0 64 ∷ reserve 1 64 ∷ reserve 0 64 ∷ reserve 0 64 ∷ reserve 1 1 ∷ []) is (0 ∷ 0 ∷ 0 ∷ 0 ∷ 1 ∷ [])
-    ∷ numbers (with0 (filled 8 512 512)) (reserve 0 1 ∷ []) is (15 ∷ [])
+    ∷ numbers (holding 8 512 512 []) (reserve 0 1 ∷ []) is (15 ∷ [])
     ∷ numbers fresh (reserve 0 1 ∷ reserve 0 1 ∷ reserve 0 1 ∷ reserve 0 1 ∷ reserve 0 1 ∷ reserve 0 1 ∷ reserve 0 1 ∷ reserve 0 1 ∷ reserve 0 1 ∷ abort 5 ∷ reserve 0 1 ∷ []) is (0 ∷ 0 ∷ 0 ∷ 0 ∷ 0 ∷ 0 ∷ 0 ∷ 0 ∷ 1 ∷ 0 ∷ 0 ∷ [])
     -- "ReservationIdExhausted: next id is 2^64 - 1", the last check
     ∷ numbers (lastIds fresh) (newObject 0 3 0 ∷ reserve 0 1 ∷ transfer (item asMove v63 0 ∷ []) ∷ transfer [] ∷ reserve 0 65 ∷ newObject 9 0 0 ∷ newObject 4 3 0 ∷ []) is (12 ∷ 12 ∷ 12 ∷ 17 ∷ 13 ∷ 18 ∷ 11 ∷ [])
@@ -309,7 +318,7 @@ corners =
     ∷ last (end fresh first) (resolve 0 v63 15 3 ∷ []) is (0 ∷ 0 ∷ 70 ∷ 15 ∷ [])
     -- "Consumption: 16, 1, 2 or 3, 5, 4, 2, 12"; it does not ask for TRANSFER
     ∷ numbers (end fresh (first ++ (replace 0 v63 4 ∷ []))) (prepareConsumption 0 v63 16 9 9 ∷ prepareConsumption 0 (at0 63 2) 16 9 9 ∷ prepareConsumption 0 (at0 63 2) 4 9 9 ∷ prepareConsumption 0 (at0 63 2) 4 3 9 ∷ prepareConsumption 0 (at0 63 2) 4 3 70 ∷ prepareConsumption 0 (at0 63 2) 4 3 70 ∷ transfer (item asMove (at0 63 2) 0 ∷ []) ∷ []) is (2 ∷ 5 ∷ 4 ∷ 2 ∷ 0 ∷ 3 ∷ 3 ∷ [])
-    -- "then item by item 2 (twice), 2 or 3 (lookup), 5 (rights), 8 (kind), 5 (object), 8 (route), 4": items 5 and 5 in a row of one item each
+    -- "then item by item 2 (twice), 2 or 3 (lookup), 5 (rights), 8 (kind), 5 (object), 8 (route), 4"
     ∷ numbers (end fresh three) (transfer (item asMove 0 0 ∷ []) ∷ transfer (item asMove (at0 62 1) 8 ∷ []) ∷ transfer (offered 8 (item asMove (at0 62 1) 8) ∷ []) ∷ transfer (offered 1 (item asMove (at0 62 1) 2) ∷ []) ∷ transfer (offered 4 (item asMove (at0 62 1) 4) ∷ []) ∷ []) is (2 ∷ 5 ∷ 5 ∷ 5 ∷ 0 ∷ [])
     ∷ numbers (end fresh three) (replace 0 (at0 61 1) 1 ∷ replace 0 (at0 62 1) 2 ∷ transfer (item asMove (at0 61 2) 0 ∷ []) ∷ transfer (item asCopy (at0 62 2) 0 ∷ []) ∷ transfer (item asMove (at0 62 2) 0 ∷ []) ∷ []) is (0 ∷ 0 ∷ 5 ∷ 5 ∷ 0 ∷ [])
     ∷ numbers (end fresh three) (prepareTransfer 0 buffered (some 70) (some 3) (item asMove v63 0 ∷ []) ∷ prepareTransfer 0 buffered (some 70) (some 9) (item asMove v63 0 ∷ []) ∷ prepareTransfer 0 buffered (some 9) (some 9) (ofKinds (some 9) none (item asMove v63 0) ∷ []) ∷ prepareTransfer 0 buffered none none (ofKinds none (some 9) (item asMove v63 0) ∷ []) ∷ prepareTransfer 0 buffered none none (ofKinds (some 3) (some 3) (item asMove v63 0) ∷ []) ∷ []) is (8 ∷ 5 ∷ 4 ∷ 4 ∷ 0 ∷ [])

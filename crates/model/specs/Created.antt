@@ -1,32 +1,22 @@
 -- Creation gives a well-formed state.
-use mathlib.Core.Path.{_≡_, refl, sym, ap, _∙_}
-use mathlib.Core.Bool.{Bool, true, false, not, _&&_}
-use mathlib.Core.List.{List, [], _∷_}
+use mathlib.Core.Path.{_≡_, refl, _∙_}
+use mathlib.Core.Bool.{Bool, true, false, _&&_}
+use mathlib.Core.List.{_∷_}
 use mathlib.Core.Option.{Option, none, some}
 use Prim.Native.Nat.{ℕ, zero, suc, _+_, _-_, _^_, _%_, _≤_, _<_}
 use native.Mathlib.Omega.{arith}
 use lib.ListN.{length}
-use lib.Dec.{eqb, ltb}
-use borrow.Author.Tests.{ltb-true, ltb-false, eqb-true, eqb-false, lt-ltb, le-ltb, eq-eqb, ne-eqb, not-true}
+use lib.Dec.{ltb}
+use borrow.Author.Tests.{ltb-true, le-ltb}
 use Rattle.codec.specs.Codec.{maskOf}
-use Rattle.model.specs.Base.{bit, atMost, pick, nth, every, between, range, occurs, sum, isSome}
-use Rattle.model.specs.State.{Sizes, Slot.absent, Page, Table, Object, State, Stage.stillNew, noPage, noTable, noObject}
-use Rattle.model.specs.State.{maxTables, maxFrames, maxObjects, maxRows, maxLimit, maxSlots}
-use Rattle.model.specs.Create.{TableParameters, ObjectParameters, Parameters, maxPages, tablePermitted, objectPermitted, permitted}
-use Rattle.model.specs.Create.{newTable, newObjectRecord, created, create}
-use Rattle.model.specs.WellFormed.{TableRange, ObjectRange, Ranges, Frames, Rising, Orders, Generations, Counts, Lifecycles, Ids, Marks, AtRest, WellFormed}
-use Rattle.model.specs.WellFormed.{pagesWith, handleCount, inSlot}
-
-split {ℓ} : {C : Type ℓ} (b : Bool) → (b ≡ true → C) → (b ≡ false → C) → C
-split true t f = t refl
-split false t f = f refl
-
-clash {ℓ} : {C : Type ℓ} {b : Bool} → b ≡ true → b ≡ false → C
-clash p q = let z : _≡_ {A = ℕ} 0 1 = cc in absurd (omega arith)
-
-both : (a b : Bool) → (a && b) ≡ true → (a ≡ true) × (b ≡ true)
-both true b e = (refl, e)
-both false b e = clash e refl
+use Rattle.model.specs.Base.{nth, every, between, range, sum}
+use Rattle.model.specs.State.{Sizes, Slot.absent, State, Stage.stillNew, noPage, maxTables, maxFrames, maxObjects, maxRows, maxLimit}
+use Rattle.model.specs.State.{maxSlots}
+use Rattle.model.specs.Create.{TableParameters, ObjectParameters, Parameters, maxPages, tablePermitted, objectPermitted, permitted, newTable}
+use Rattle.model.specs.Create.{newObjectRecord, created, create}
+use Rattle.model.specs.WellFormed.{TableRange, ObjectRange, Rising, Orders, WellFormed, pagesWith, inSlot}
+use Rattle.model.specs.Tests.{bool, apart, clash, and-left, within, nth-some, nth-past, nth-passes}
+use Rattle.model.specs.Sums.{range-all, sum-zero}
 
 all-six : (a b c d e f : Bool) → (a && (b && (c && (d && (e && f))))) ≡ true
     → (a ≡ true) × (b ≡ true) × (c ≡ true) × (d ≡ true) × (e ≡ true) × (f ≡ true)
@@ -36,41 +26,6 @@ all-six true true false d e f h = clash h refl
 all-six true true true false e f h = clash h refl
 all-six true true true true false f h = clash h refl
 all-six true true true true true f h = (refl, refl, refl, refl, refl, h)
-
-at-most : (a b : ℕ) → atMost a b ≡ true → a ≤ b
-at-most a b e = ltb-false b a (not-true (ltb b a) e)
-
-within : (a x b : ℕ) → between a x b ≡ true → (a ≤ x) × (x ≤ b)
-within a x b e = let q = both (atMost a x) (atMost x b) e in (at-most a x (q .0), at-most x b (q .1))
-
--- a list's elements by place
-nth-passes {ℓ} : {A : Type ℓ} (p : A → Bool) (l : List A) (k : ℕ) → every p l ≡ true → k < length l → (a : A) × (nth l k ≡ some a) × (p a ≡ true)
-nth-passes p [] k e h = absurd (omega arith)
-nth-passes p (x ∷ xs) zero e h = (x, refl, both (p x) (every p xs) e .0)
-nth-passes p (x ∷ xs) (suc k) e h = nth-passes p xs k (both (p x) (every p xs) e .1) (omega arith)
-
-nth-past {ℓ} : {A : Type ℓ} (l : List A) (k : ℕ) → length l ≤ k → nth l k ≡ none
-nth-past [] k h = refl
-nth-past (x ∷ xs) zero h = absurd (omega arith)
-nth-past (x ∷ xs) (suc k) h = nth-past xs k (omega arith)
-
-sum-zero : (n : ℕ) (f : ℕ → ℕ) → ((k : ℕ) → f k ≡ 0) → sum n f ≡ 0
-sum-zero zero f h = refl
-sum-zero (suc n) f h = omega (arith, sum-zero n f h, h n)
-
-range-below : (f k n : ℕ) → f < k → occurs f (range k n) ≡ 0
-range-below f k zero h = refl
-range-below f k (suc n) h = rw (ne-eqb f k (λ z. omega arith)) (omega (arith, range-below f (suc k) n (omega arith)))
-
-range-once : (f k n : ℕ) → k ≤ f → occurs f (range k n) ≡ bit (ltb f (k + n))
-range-once f k zero h = rw (le-ltb f (k + 0) (omega arith))
-range-once f k (suc n) h = split (eqb f k)
-    (λ e. let q : f ≡ k = eqb-true f k e in rw (e, lt-ltb f (k + suc n) (omega arith)) (omega (arith, range-below f (suc k) n (omega arith))))
-    (λ e. let q : f ≡ k → ⊥ = eqb-false f k e in let i : occurs f (range (suc k) n) ≡ bit (ltb f (suc k + n)) = range-once f (suc k) n (omega arith) in
-    let p : suc k + n ≡ k + suc n = omega arith in rw (e, ← p) (omega arith))
-
-range-all : (f n : ℕ) → occurs f (range 0 n) ≡ bit (ltb f n)
-range-all f n = let q : 0 + n ≡ n = omega arith in rw q at (range-once f 0 n (omega arith))
 
 range-rises : (k n : ℕ) → Rising (range k n)
 range-rises k zero = tt
@@ -96,7 +51,7 @@ orders-new z (some q) = record { there = λ k. refl; free = λ k. refl; empty = 
 
 table-new : (z : Sizes) (s : State) (q : TableParameters) → tablePermitted z q ≡ true → TableRange z s (newTable (some q))
 table-new z s q e = record {
-  limit = within 1 (q .pages) (maxPages z) (both (between 1 (q .pages) (maxPages z)) (ltb (q .seed) (2 ^ 64)) e .0);
+  limit = within 1 (q .pages) (maxPages z) (and-left (between 1 (q .pages) (maxPages z)) (ltb (q .seed) (2 ^ 64)) e);
   size = omega arith;
   mask = mask-fits (q .seed);
   epoch = omega arith;
@@ -135,13 +90,15 @@ created-well-formed z p e =
         objectCount = within 1 (length (p .objects)) maxObjects (t .3);
         capacity = within 1 (p .rows) maxRows (t .5);
         rowCount = omega arith;
-        tables = λ b h. let q = nth-passes (tablePermitted z) (p .tables) b (t .1) h in rw (q .1) (table-new z (created p) (q .0) (q .2));
-        objects = λ o h. let q = nth-passes objectPermitted (p .objects) o (t .4) h in rw (q .1) (object-new (q .0) (q .2));
+        tables = λ b h. let q = nth-some (p .tables) b h in
+            rw (q .1) (table-new z (created p) (q .0) (nth-passes (tablePermitted z) (p .tables) (t .1) b (q .0) (q .1)));
+        objects = λ o h. let q = nth-some (p .objects) o h in
+            rw (q .1) (object-new (q .0) (nth-passes objectPermitted (p .objects) (t .4) o (q .0) (q .1)));
         rows = tt;
       };
       frames = record {
         once = λ f. let n : pagesWith (created p) f ≡ 0 = sum-zero (length (p .tables)) _
-            (λ b. sum-zero (newTable (nth (p .tables) b) .limit) _ (λ k. rw (page-new (nth (p .tables) b) k))) in
+            (λ b m. sum-zero (newTable (nth (p .tables) b) .limit) _ (λ k l. rw (page-new (nth (p .tables) b) k))) in
             omega (arith, n, range-all f (p .frames));
         rising = range-rises 0 (p .frames);
       };
@@ -149,7 +106,7 @@ created-well-formed z p e =
       generations = λ b k n. clash (rw (slot-new (nth (p .tables) b) k)) n;
       counts = record {
         counted = λ o h. let n : (sum (length (p .tables)) λ b. sum maxSlots λ k. inSlot o (newTable (nth (p .tables) b) .slots k)) ≡ 0 =
-            sum-zero (length (p .tables)) _ (λ b. sum-zero maxSlots _ (λ k. rw (slot-new (nth (p .tables) b) k))) in
+            sum-zero (length (p .tables)) _ (λ b m. sum-zero maxSlots _ (λ k l. rw (slot-new (nth (p .tables) b) k))) in
             omega (arith, n, count-new (nth (p .objects) o));
         staged = λ o h. rw (stage-new (nth (p .objects) o)) (count-new (nth (p .objects) o));
         within = λ o h. rw (count-new (nth (p .objects) o)) (omega arith);
@@ -171,6 +128,6 @@ created-well-formed z p e =
     }
 
 pub create-well-formed : (z : Sizes) (p : Parameters) (s : State) → create z p ≡ some s → WellFormed z s
-create-well-formed z p s e = split (permitted z p)
+create-well-formed z p s e = bool (permitted z p)
     (λ q. let y : some (created p) ≡ some s = rw q at e in let x : created p ≡ s = cc in rw x at (created-well-formed z p q))
-    (λ q. let y : none ≡ some s = rw q at e in let x : _≡_ {A = ℕ} 0 1 = cc in absurd (omega arith))
+    (λ q. let y : none ≡ some s = rw q at e in apart (cc))

@@ -2,21 +2,27 @@
 use mathlib.Core.Path.{_≡_, refl, sym, ap, _∙_}
 use mathlib.Core.Bool.{Bool, true, false}
 use mathlib.Core.List.{List, [], _∷_, _++_, map, append-assoc}
-use mathlib.Core.Logic.{_⊎_, inl, inr}
+use mathlib.Core.Logic.{_⊎_}
 use mathlib.Core.Option.{Option, none, some}
 use Prim.Native.Nat.{ℕ, zero, suc, _+_, _-_, _*_, _/_, _≤_, _<_, min}
 use native.Mathlib.Omega.{arith}
-use lib.ListN.{length, take, drop, getD, length-append, length-drop, length-take}
-use lib.Dec.{eqb, ltb}
+use lib.ListN.{length, take, drop, getD, length-append, length-drop, length-take, length-map}
 use borrow.Author.Tests.{ltb-false, le-ltb}
 use Rattle.format.specs.Format.{musts, mays, transferItemMust, transferItemMay, parcelItemMust, parcelItemMay, fieldCount, answerWords}
-use Rattle.model.specs.Base.{pick, nth, atMost}
+use Rattle.model.specs.Base.{pick, nth}
 use Rattle.model.specs.State.{Sizes, Slot, Table, State, isOccupied, maxBatch}
-use Rattle.model.specs.Storage.{Walk, walk, lengthOf}
-use Rattle.model.specs.Request.{Snapshot, SnapshotPage, Answer, Answer.batch, Answer.scanned, Request, Request.newObject, Request.duplicate, Request.releaseParcel, Request.retireObject, Request.reserve, Request.trim, Request.abort, Request.publish, Request.getInfo, Request.resolve, Request.replace, Request.close, Request.scanHandles, Request.prepareTransfer, Request.prepareConsumption, Request.rollback, Request.commit, Request.directCommit, Request.directRollback, Request.removeStoppingOwner, Request.teardownStart, Request.teardownStep, Request.teardownFinish, Request.takeEmptyPage}
-use Rattle.model.specs.Step.{run, step, snapshotPage}
+use Rattle.model.specs.Storage.{walk, lengthOf}
+use Rattle.model.specs.Request.{Snapshot, Answer, Answer.batch, Answer.scanned, Request, Request.newObject, Request.duplicate}
+use Rattle.model.specs.Request.{Request.releaseParcel, Request.retireObject, Request.reserve, Request.trim, Request.abort, Request.publish}
+use Rattle.model.specs.Request.{Request.getInfo, Request.resolve, Request.replace, Request.close, Request.scanHandles}
+use Rattle.model.specs.Request.{Request.prepareTransfer, Request.prepareConsumption, Request.rollback, Request.commit, Request.directCommit}
+use Rattle.model.specs.Request.{Request.directRollback, Request.removeStoppingOwner, Request.teardownStart, Request.teardownStep}
+use Rattle.model.specs.Request.{Request.teardownFinish, Request.takeEmptyPage}
 use Rattle.model.specs.Lookup.{snapshotAt}
-use Rattle.model.specs.Words.{Reading, andThen, Fields, odd, readField, readFields, must, goodRecord, readRecord, readMany, readTransferItem, readParcelItem, plainRequests, withItems, readRequest, readUpTo, readList, usedWords, entryWords, padded, wordsOf, allWords, Outcome, ran, answerShort, onRequests, call}
+use Rattle.model.specs.Step.{run, step, snapshotPage}
+use Rattle.model.specs.Words.{Reading, andThen, Fields, odd, readField, readFields, must, goodRecord, readRecord, readMany, readTransferItem}
+use Rattle.model.specs.Words.{readParcelItem, plainRequests, withItems, readRequest, readUpTo, readList, usedWords, entryWords, padded}
+use Rattle.model.specs.Words.{wordsOf, allWords, ran, answerShort, onRequests, call}
 
 -- what was read stood in front of what is left, and has n words at least
 abbrev pub Front {ℓ} : {A : Type ℓ} → ℕ → List ℕ → Option (A × List ℕ) → Type 0
@@ -160,17 +166,13 @@ walk-bounds f k (suc n) (suc e) = go (isOccupied (f k)) (λ j. walk-bounds f (su
     go true h = (omega (arith, h e .0), omega (arith, h e .1), omega (arith, h e .2))
     go false h = (omega (arith, h (suc e) .0), omega (arith, h (suc e) .1), omega (arith, h (suc e) .2))
 
-map-length : {A B : Type 0} (f : A → B) (l : List A) → length (map f l) ≡ length l
-map-length f [] = refl
-map-length f (x ∷ l) = ap suc (map-length f l)
-
 -- "examined .. equal to the definition's stop minus start, at most 256"
 pub scan-bounds : (z : Sizes) (s : State) (t : Table) (c : ℕ) → (snapshotPage z s t c .examined ≤ z .scanSlots) × (length (snapshotPage z s t c .entries) ≤ z .scanEntries)
 scan-bounds z s t c =
     let start : ℕ = min c (lengthOf z t) in
     let n : ℕ = min (z .scanSlots) (lengthOf z t - start) in
     let h = walk-bounds (t .slots) start n (z .scanEntries) in
-    (omega (arith, h .0, h .1), omega (arith, h .2, map-length (snapshotAt s t) (walk (t .slots) start n (z .scanEntries) .found)))
+    (omega (arith, h .0, h .1), omega (arith, h .2, length-map (walk (t .slots) start n (z .scanEntries) .found) (snapshotAt s t)))
 
 -- the answers with most words are a reservation's and a scan's: both fit
 entry-words : (l : List Snapshot) → length (entryWords l) ≡ 5 * length l
@@ -179,7 +181,7 @@ entry-words (x ∷ l) = omega (arith, entry-words l)
 
 pub batch-fits : (i n : ℕ) (f : ℕ → ℕ) (l : List ℕ) → n ≤ maxBatch → length (usedWords (batch i (map f (take n l)))) ≤ answerWords
 unfolding usedWords maxBatch
-batch-fits i n f l h = omega (arith, map-length f (take n l), length-take n l)
+batch-fits i n f l h = omega (arith, length-map (take n l) f, length-take n l)
 
 pub scan-fits : (z : Sizes) → z .scanEntries ≤ 8 → (s : State) (t : Table) (c : ℕ) → length (usedWords (scanned (snapshotPage z s t c))) ≤ answerWords
 unfolding usedWords

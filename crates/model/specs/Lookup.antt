@@ -40,7 +40,7 @@ onHandle s b v f = onTable s b λ t. unless isActive (t .life) refuse 16 then on
 abbrev pub valueAt : Table → ℕ → ℕ
 valueAt t k = encode (t .mask) k (generation (t .slots k))
 
--- the handle of an occupied slot
+-- the handle of an occupied slot; of any other a handle of nothing, which no accepted request uses
 abbrev pub handleOr : Slot → Handle
 handleOr absent = record { object = 0; rights = 0; flags = 0 }
 handleOr (vacant g) = record { object = 0; rights = 0; flags = 0 }

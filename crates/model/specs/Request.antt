@@ -68,6 +68,7 @@ pub record SnapshotPage : Type 0 where
   pub next : Option ℕ
   pub examined : ℕ
 
+-- `closed` is a teardown step's, `infoOf` that of `get_info` and of closing
 pub data Answer : Type 0 where
   refused : (number : ℕ) → Answer
   done : Answer

@@ -1,14 +1,16 @@
 -- Lists and calls as words: every cause of 19, the order 18, 19, 20, and the words of an answer.
 use mathlib.Core.Path.{_≡_, refl}
-use mathlib.Core.List.{List, [], _∷_, _++_}
+use mathlib.Core.List.{List, [], _∷_, _++_, map}
 use mathlib.Core.Option.{Option, none, some}
 use Prim.Native.Nat.{ℕ, zero, suc}
 use Rattle.authority.specs.Rights.{contains}
 use Rattle.codec.specs.Codec.{pick as choose, encode, payload, maskOf, nextGeneration}
 use Rattle.format.specs.Format.{pick as choice, musts, mays, fieldKinds, fieldFits, knownOp}
-use Rattle.model.specs.Base.{pick, nth, isSome, range}
+use Rattle.model.specs.Base.{pick, nth, isSome, orElse, range}
 use Rattle.model.specs.State.{till, State, maxBatch, maxSlots, lastId}
 use Rattle.model.specs.Storage.{place, takeFree, pagesFor, attach}
+use Rattle.model.specs.Request.{Route, Route.buffered, Route.rendezvous, Route.stagedStartup, Operation, Operation.asMove, Operation.asCopy, Item}
+use Rattle.model.specs.Request.{Request, Request.newObject, Request.duplicate, Request.releaseParcel, Request.retireObject, Request.reserve, Request.trim, Request.abort, Request.publish, Request.getInfo, Request.resolve, Request.replace, Request.close, Request.scanHandles, Request.prepareTransfer, Request.prepareConsumption, Request.rollback, Request.commit, Request.directCommit, Request.directRollback, Request.removeStoppingOwner, Request.teardownStart, Request.teardownStep, Request.teardownFinish, Request.takeEmptyPage}
 use Rattle.model.specs.Step.{decide, step, newObjectOf, reserveOf}
 use Rattle.model.specs.Words.{Outcome, readRequest, readList, usedWords, wordsOf, answerShort, call}
 use Rattle.model.specs.Cases.{Case, _is_, line, fresh}
@@ -24,6 +26,57 @@ zeros (suc n) = 0 ∷ zeros n
 -- a call with the answer words 0, 1, 2 and so on
 abbrev ofCall : Option State → List ℕ → ℕ → Outcome
 ofCall s ws n = call till s ws (range 0 n)
+
+-- a request as its op number and its fields, in the order of docs/formats.md; what may be absent is 0, or one more than its word
+abbrev maybe : Option ℕ → ℕ
+maybe none = 0
+maybe (some n) = suc n
+
+abbrev routeWord : Route → ℕ
+routeWord buffered = 0
+routeWord rendezvous = 1
+routeWord stagedStartup = 2
+
+abbrev operationWord : Operation → ℕ
+operationWord asMove = 0
+operationWord asCopy = 1
+
+abbrev itemShown : Item → List ℕ
+itemShown q = operationWord (q .operation) ∷ q .value ∷ q .rights ∷ maybe (q .offeredRights) ∷ maybe (q .offeredKind) ∷ maybe (q .expectedKind) ∷ []
+
+abbrev joinAll : List (List ℕ) → List ℕ
+joinAll [] = []
+joinAll (x ∷ xs) = x ++ joinAll xs
+
+abbrev shown : Request → List ℕ
+shown (newObject o r f) = 1 ∷ o ∷ r ∷ f ∷ []
+shown (duplicate b v r) = 2 ∷ b ∷ v ∷ r ∷ []
+shown (releaseParcel i) = 3 ∷ i ∷ []
+shown (retireObject o) = 4 ∷ o ∷ []
+shown (reserve b n) = 5 ∷ b ∷ n ∷ []
+shown (trim i n) = 6 ∷ n ∷ i ∷ []
+shown (abort i) = 7 ∷ i ∷ []
+shown (publish i ids) = 8 ∷ i ∷ ids
+shown (getInfo b v) = 9 ∷ b ∷ v ∷ []
+shown (resolve b v r k) = 10 ∷ b ∷ v ∷ r ∷ k ∷ []
+shown (replace b v r) = 11 ∷ b ∷ v ∷ r ∷ []
+shown (close b v) = 12 ∷ b ∷ v ∷ []
+shown (scanHandles b c) = 13 ∷ b ∷ c ∷ []
+shown (prepareTransfer b route o k qs) = 14 ∷ b ∷ routeWord route ∷ maybe o ∷ maybe k ∷ joinAll (map itemShown qs)
+shown (prepareConsumption b v r k o) = 15 ∷ b ∷ v ∷ r ∷ k ∷ o ∷ []
+shown (rollback i) = 16 ∷ i ∷ []
+shown (commit i) = 17 ∷ i ∷ []
+shown (directCommit i j) = 18 ∷ i ∷ j ∷ []
+shown (directRollback i j) = 19 ∷ i ∷ j ∷ []
+shown (removeStoppingOwner b c) = 20 ∷ b ∷ c ∷ []
+shown (teardownStart b) = 21 ∷ b ∷ []
+shown (teardownStep b) = 22 ∷ b ∷ []
+shown (teardownFinish b) = 23 ∷ b ∷ []
+shown (takeEmptyPage b) = 24 ∷ b ∷ []
+
+-- the requests that a list is read as
+abbrev readsAs : List ℕ → List ℕ
+readsAs ws = joinAll (map shown (orElse (readList ws) []))
 
 pub readings : List Case
 unfolding fresh choose choice encode payload maskOf nextGeneration contains maxBatch maxSlots lastId place takeFree pagesFor attach decide step usedWords wordsOf answerShort
@@ -71,6 +124,22 @@ readings =
     ∷ reads (137 ∷ 8 ∷ 2 ∷ 9 ∷ 129 ∷ 0 ∷ 5 ∷ 129 ∷ 0 ∷ 6 ∷ []) is (0 ∷ [])
     ∷ reads (137 ∷ 8 ∷ 2 ∷ 9 ∷ 129 ∷ 0 ∷ 5 ∷ 129 ∷ 1 ∷ 6 ∷ []) is (19 ∷ [])
     ∷ reads (137 ∷ 8 ∷ 2 ∷ 9 ∷ 129 ∷ 0 ∷ 5 ∷ []) is (19 ∷ [])
+    -- the kinds of an item and of a transfer too wide; an item whose bit 0 does not stand; a parcel item with a field too many
+    ∷ reads (4107 ∷ 14 ∷ 0 ∷ 1 ∷ 2 ∷ 16433 ∷ 1 ∷ 0 ∷ 0 ∷ 4294967296 ∷ []) is (19 ∷ [])
+    ∷ reads (4107 ∷ 14 ∷ 0 ∷ 1 ∷ 2 ∷ 32817 ∷ 1 ∷ 0 ∷ 0 ∷ 4294967296 ∷ []) is (19 ∷ [])
+    ∷ reads (135179 ∷ 14 ∷ 0 ∷ 1 ∷ 2 ∷ 4294967296 ∷ 49 ∷ 1 ∷ 0 ∷ 0 ∷ []) is (19 ∷ [])
+    ∷ reads (4107 ∷ 14 ∷ 0 ∷ 1 ∷ 2 ∷ 48 ∷ 0 ∷ 0 ∷ []) is (19 ∷ [])
+    ∷ reads (137 ∷ 8 ∷ 1 ∷ 9 ∷ 161 ∷ 0 ∷ 0 ∷ 5 ∷ []) is (19 ∷ [])
+    -- what each op's fields mean
+    ∷ readsAs (101 ∷ 1 ∷ 31 ∷ 32 ∷ 3 ∷ 51 ∷ 2 ∷ 31 ∷ 32 ∷ 33 ∷ 129 ∷ 3 ∷ 31 ∷ 5 ∷ 4 ∷ 31 ∷ 11 ∷ 5 ∷ 31 ∷ 32 ∷ 137 ∷ 6 ∷ 31 ∷ 32 ∷ 129 ∷ 7 ∷ 31 ∷ [])
+    is (1 ∷ 31 ∷ 32 ∷ 3 ∷ 2 ∷ 31 ∷ 32 ∷ 33 ∷ 3 ∷ 31 ∷ 4 ∷ 31 ∷ 5 ∷ 31 ∷ 32 ∷ 6 ∷ 31 ∷ 32 ∷ 7 ∷ 31 ∷ [])
+    ∷ readsAs (137 ∷ 8 ∷ 2 ∷ 31 ∷ 129 ∷ 0 ∷ 32 ∷ 129 ∷ 0 ∷ 33 ∷ 19 ∷ 9 ∷ 31 ∷ 32 ∷ 563 ∷ 10 ∷ 31 ∷ 32 ∷ 33 ∷ 34 ∷ 51 ∷ 11 ∷ 31 ∷ 32 ∷ 33 ∷ 19 ∷ 12 ∷ 31 ∷ 32 ∷ 2051 ∷ 13 ∷ 31 ∷ 32 ∷ [])
+    is (8 ∷ 31 ∷ 32 ∷ 33 ∷ 9 ∷ 31 ∷ 32 ∷ 10 ∷ 31 ∷ 32 ∷ 33 ∷ 34 ∷ 11 ∷ 31 ∷ 32 ∷ 33 ∷ 12 ∷ 31 ∷ 32 ∷ 13 ∷ 31 ∷ 32 ∷ [])
+    ∷ readsAs (200715 ∷ 14 ∷ 31 ∷ 2 ∷ 2 ∷ 32 ∷ 33 ∷ 57393 ∷ 1 ∷ 34 ∷ 35 ∷ 36 ∷ 37 ∷ 38 ∷ 49 ∷ 0 ∷ 39 ∷ 40 ∷ 4107 ∷ 14 ∷ 31 ∷ 0 ∷ 1 ∷ [])
+    is (14 ∷ 31 ∷ 2 ∷ 33 ∷ 34 ∷ 1 ∷ 34 ∷ 35 ∷ 37 ∷ 38 ∷ 39 ∷ 0 ∷ 39 ∷ 40 ∷ 0 ∷ 0 ∷ 0 ∷ 14 ∷ 31 ∷ 1 ∷ 0 ∷ 0 ∷ [])
+    ∷ readsAs (1587 ∷ 15 ∷ 31 ∷ 32 ∷ 33 ∷ 34 ∷ 35 ∷ 129 ∷ 16 ∷ 31 ∷ 129 ∷ 17 ∷ 31 ∷ 385 ∷ 18 ∷ 31 ∷ 32 ∷ 385 ∷ 19 ∷ 31 ∷ 32 ∷ 2051 ∷ 20 ∷ 31 ∷ 32 ∷ [])
+    is (15 ∷ 31 ∷ 32 ∷ 33 ∷ 34 ∷ 35 ∷ 16 ∷ 31 ∷ 17 ∷ 31 ∷ 18 ∷ 31 ∷ 32 ∷ 19 ∷ 31 ∷ 32 ∷ 20 ∷ 31 ∷ 32 ∷ [])
+    ∷ readsAs (3 ∷ 21 ∷ 31 ∷ 3 ∷ 22 ∷ 31 ∷ 3 ∷ 23 ∷ 31 ∷ 3 ∷ 24 ∷ 31 ∷ []) is (21 ∷ 31 ∷ 22 ∷ 31 ∷ 23 ∷ 31 ∷ 24 ∷ 31 ∷ [])
     -- "Order: state check 18, list 19, answer length 20 .. while a call that passes them gives 0"
     ∷ (ofCall none (11 ∷ []) 0 .result ∷ []) is (18 ∷ [])
     ∷ (ofCall (some fresh) (11 ∷ []) 0 .result ∷ []) is (19 ∷ [])

@@ -1,0 +1,1 @@
+// When words represent a state of the model: specs/Represents.antt. No code stands here.

@@ -1,0 +1,6 @@
+pub mod Place
+pub mod Fields
+pub mod Lists
+pub mod Steps
+pub mod Answers
+pub mod Laws
