@@ -20,7 +20,8 @@ use Rattle.model.specs.Transfer.{afterId}
 use Rattle.model.specs.WellFormed.{WellFormed, isMovingBy, inClaim}
 use Rattle.noninterference.specs.Runs.{lowered, lowerAnswer, lowerSlot}
 use Rattle.noninterference.specs.Erase.{eraseSlot, eraseTable, eraseRows, erase}
-use Rattle.noninterference.specs.Basics.{bool, clash, lowered-above, lowered-next}
+use Rattle.model.specs.Tests.{bool, clash}
+use Rattle.noninterference.specs.Basics.{lowered-above, lowered-next}
 use Rattle.noninterference.specs.Marks.{Stems, stems-same, marked}
 use Rattle.noninterference.specs.Rows.{find-erase, length-erase, rise-below, claim-open}
 

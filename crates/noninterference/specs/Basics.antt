@@ -1,41 +1,14 @@
 -- Tests, stores in functions, and the lowering of ids.
 use mathlib.Core.Path.{_≡_, refl, sym, fun-ext}
-use mathlib.Core.Bool.{Bool, true, false, not, _&&_, _||_}
+use mathlib.Core.Bool.{false}
 use mathlib.Core.List.{List, [], _∷_, map}
 use Prim.Native.Nat.{ℕ, _+_, _-_, _≤_, _<_}
 use native.Mathlib.Omega.{arith}
 use lib.Dec.{ltb, eqb}
 use borrow.Author.Tests.{ltb-true, ltb-false, eqb-true, eqb-false, lt-ltb, le-ltb, eq-eqb, ne-eqb}
 use Rattle.model.specs.Base.{put, member}
+use Rattle.model.specs.Tests.{bool, clash}
 use Rattle.noninterference.specs.Runs.{lowered}
-
--- a split on a computed test that keeps the equation
-pub bool {ℓ} : {C : Type ℓ} (b : Bool) → (b ≡ true → C) → (b ≡ false → C) → C
-bool true t f = t refl
-bool false t f = f refl
-
-pub clash {ℓ} : {C : Type ℓ} {b : Bool} → b ≡ true → b ≡ false → C
-clash p q = let z : _≡_ {A = ℕ} 0 1 = cc in absurd (omega arith)
-
-pub and-left : (a b : Bool) → (a && b) ≡ true → a ≡ true
-and-left true b e = refl
-and-left false b e = clash e refl
-
-pub and-right : (a b : Bool) → (a && b) ≡ true → b ≡ true
-and-right true b e = e
-and-right false b e = clash e refl
-
-pub or-left : (a b : Bool) → (a || b) ≡ false → a ≡ false
-or-left true b e = clash refl e
-or-left false b e = refl
-
-pub or-right : (a b : Bool) → (a || b) ≡ false → b ≡ false
-or-right true b e = clash refl e
-or-right false b e = e
-
-pub not-is : (a : Bool) → not a ≡ true → a ≡ false
-not-is true e = clash e refl
-not-is false e = refl
 
 pub put-map {ℓ κ} : {A : Type ℓ} {B : Type κ} (f : ℕ → A → B) (l : ℕ → A) (k : ℕ) (x : A) → put (λ j. f j (l j)) k (f k x) ≡ (λ j. f j (put l k x j))
 put-map f l k x = fun-ext (λ j. bool (eqb j k) (λ e. rw (e, eqb-true j k e)) (λ e. rw e))

@@ -20,7 +20,8 @@ use Rattle.model.specs.Lookup.{valueAt}
 use Rattle.model.specs.Step.{reserveOf, trimOf, abortOf, publishOf}
 use Rattle.noninterference.specs.Runs.{lowered}
 use Rattle.noninterference.specs.Erase.{eraseTable, erase}
-use Rattle.noninterference.specs.Basics.{bool, clash, map-same}
+use Rattle.model.specs.Tests.{bool, clash}
+use Rattle.noninterference.specs.Basics.{map-same}
 use Rattle.noninterference.specs.Tables.{gen-erase}
 use Rattle.noninterference.specs.Marks.{stems-then}
 use Rattle.noninterference.specs.Rows.{handles-erase, distinct-erase}

@@ -18,7 +18,8 @@ use Rattle.model.specs.Step.{fillAll, restoreAll}
 use Rattle.model.specs.WellFormed.{isMovingBy}
 use Rattle.noninterference.specs.Runs.{lowered, lowerAnswer}
 use Rattle.noninterference.specs.Erase.{eraseSlot, eraseTable, eraseBook, erase}
-use Rattle.noninterference.specs.Basics.{bool, lowered-next}
+use Rattle.model.specs.Tests.{bool}
+use Rattle.noninterference.specs.Basics.{lowered-next}
 use Rattle.noninterference.specs.Tables.{gen-erase, place-erase, keepAll-erase, vacate-erase, vacateAll-erase, takeFree-erase, grow-erase, detach-erase, fillAll-erase, restoreAll-erase}
 use Rattle.noninterference.specs.Marks.{Stems, stems-same, stems-then, stems-place, stems-keepAll, stems-vacate, stems-vacateAll, stems-takeFree, stems-grow, stems-detach, stems-fillAll, stems-restoreAll, stems-life}
 use Rattle.noninterference.specs.Rows.{drop-erase, swap-erase, append-erase, find-drop, find-swap, find-append}

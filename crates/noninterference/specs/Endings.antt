@@ -21,7 +21,8 @@ use Rattle.model.specs.Step.{restoreAll, closeOf, rollbackOf, commitOf, decide,
 use Rattle.model.specs.WellFormed.{WellFormed, All, RowRange, BodyRange, isMovingBy, inClaim}
 use Rattle.noninterference.specs.Runs.{accepted, lowered, withSlots, lowerTable, lowerRow, lowerState}
 use Rattle.noninterference.specs.Erase.{handleAt, eraseTable, erase}
-use Rattle.noninterference.specs.Basics.{bool, put-map}
+use Rattle.model.specs.Tests.{bool}
+use Rattle.noninterference.specs.Basics.{put-map}
 use Rattle.noninterference.specs.Tables.{vacateAll-erase, restoreAll-erase}
 use Rattle.noninterference.specs.Rows.{find-gone, drop-twice, find-swapped}
 use Rattle.noninterference.specs.Alike.{Held, Open, Case, bare-slot, counted, is-active}

@@ -13,7 +13,7 @@ use Rattle.model.specs.State.{Handle, Slot, Slot.absent, Slot.vacant, Slot.rese
 use Rattle.model.specs.Request.{Route, Item}
 use Rattle.model.specs.Lookup.{View, View.invalid, View.busy, View.holds, viewSlot, lookup, handleOr}
 use Rattle.model.specs.Transfer.{firstFault, itemChecks, viewFault, itemFault, firstOf, itemsFault}
-use Rattle.noninterference.specs.Basics.{bool}
+use Rattle.model.specs.Tests.{bool}
 
 view-holds : (k g : ℕ) (x : Slot) (j : ℕ) (h : Handle) → viewSlot k g x ≡ holds j h → (j ≡ k) × (x ≡ occupied g h)
 view-holds k g absent j h e = (cc, cc)

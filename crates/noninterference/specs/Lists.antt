@@ -7,7 +7,7 @@ use Prim.Native.Nat.{ℕ, _≤_}
 use native.Mathlib.Omega.{arith}
 use lib.ListN.{length}
 use lib.Dec.{eqb}
-use borrow.Author.Tests.{eqb-true, eqb-false, le-ltb, eq-eqb, ne-eqb}
+use borrow.Author.Tests.{eqb-true, eqb-false, le-ltb, eq-eqb, ne-eqb, not-true}
 use Rattle.codec.specs.Codec.{generationIn}
 use Rattle.model.specs.Base.{bit, atMost, every, member, occurs}
 use Rattle.model.specs.State.{Sizes, Slot, Slot.absent, Slot.vacant, Slot.reserved, Slot.transferReserved, Slot.occupied, Table, Entry, Entry.moved, Entry.copied, Body.claim, State}
@@ -19,7 +19,7 @@ use Rattle.model.specs.Step.{decide, carry, step, run}
 use Rattle.model.specs.WellFormed.{WellFormed, isMovingBy}
 use Rattle.noninterference.specs.Runs.{valueOf, namesId, namesValue, walks, permitted, gives, pagesNeeded, wantsRow, wantsId, wanting, lowerRequest, lowerAnswer}
 use Rattle.noninterference.specs.Erase.{erase}
-use Rattle.noninterference.specs.Basics.{bool, clash, and-left, and-right, or-left, or-right, not-is}
+use Rattle.model.specs.Tests.{bool, clash, and-left, and-right, or-left, or-right}
 use Rattle.noninterference.specs.Marks.{Stems}
 use Rattle.noninterference.specs.Alike.{Held, Open, Case, Stays, wants, Twin, Alike, all-stem, spend-erase}
 use Rattle.noninterference.specs.Values.{alike-newObject, alike-duplicate, alike-releaseParcel, alike-retireObject, alike-getInfo, alike-resolve, alike-replace, alike-close}
@@ -39,7 +39,7 @@ tail-apart t i is m = rw (head-apart t i is m) at m
 
 values-apart : (w : ℕ) (vs : List ℕ) → every (λ v. not (eqb v w)) vs ≡ true → member w vs ≡ false
 values-apart w [] e = refl
-values-apart w (v ∷ vs) e = rw (ne-eqb w v (other v w (not-is (eqb v w) (and-left _ _ e)))) (values-apart w vs (and-right (not (eqb v w)) _ e))
+values-apart w (v ∷ vs) e = rw (ne-eqb w v (other v w (not-true (eqb v w) (and-left _ _ e)))) (values-apart w vs (and-right (not (eqb v w)) _ e))
 
 value-apart : (b c w : ℕ) (vs : List ℕ) → every (λ v. not (eqb c b && eqb v w)) vs ≡ true → (eqb c b && member w vs) ≡ false
 value-apart b c w vs e = bool (eqb c b) (λ q. rw q (values-apart w vs (rw q at e))) (λ q. rw q)
@@ -47,7 +47,7 @@ value-apart b c w vs e = bool (eqb c b) (λ q. rw q (values-apart w vs (rw q at 
 none-either : (w : ℕ) (ws vs : List ℕ) → every (λ v. not (member v (w ∷ ws))) vs ≡ true
     → (every (λ v. not (eqb v w)) vs ≡ true) × (every (λ v. not (member v ws)) vs ≡ true)
 none-either w ws [] e = (refl, refl)
-none-either w ws (v ∷ vs) e = let m : member v (w ∷ ws) ≡ false = not-is (member v (w ∷ ws)) (and-left _ _ e) in
+none-either w ws (v ∷ vs) e = let m : member v (w ∷ ws) ≡ false = not-true (member v (w ∷ ws)) (and-left _ _ e) in
     let r = none-either w ws vs (and-right (not (member v (w ∷ ws))) _ e) in
     (rw (head-apart v w ws m, r .0), rw (tail-apart v w ws m, r .1))
 
@@ -127,8 +127,8 @@ module _ (x : Case) where
       → Same (step (x .z) s r) (step (x .z) s₀ (lowerRequest (x .t) r))
   unfolding permitted wantsRow wantsId step
   step-alike r p a c = carried _ _ (
-      decided r (not-is _ (and-left _ _ p)) (and-left _ _ (and-right (not (namesId (x .t) r)) _ p))
-      (not-is _ (and-right (every (λ v. not (namesValue (x .b) v r)) (x .vs)) _ (and-right (not (namesId (x .t) r)) _ p)))
+      decided r (not-true _ (and-left _ _ p)) (and-left _ _ (and-right (not (namesId (x .t) r)) _ p))
+      (not-true _ (and-right (every (λ v. not (namesValue (x .b) v r)) (x .vs)) _ (and-right (not (namesId (x .t) r)) _ p)))
       .twin (no-want (Enough r) (decide (x .z) s r) a c))
 
 -- a slot that is marked with t

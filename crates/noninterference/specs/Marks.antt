@@ -14,7 +14,7 @@ use Rattle.model.specs.Change.{withLife}
 use Rattle.model.specs.Storage.{withFree, onPage, place, keep, keepAll, vacate, vacateAll, takeFree, attach, attachAll, grow, detach}
 use Rattle.model.specs.Step.{fillAll, restoreAll}
 use Rattle.model.specs.WellFormed.{isMovingBy}
-use Rattle.noninterference.specs.Basics.{bool, clash}
+use Rattle.model.specs.Tests.{bool, clash}
 
 -- from table x to table y
 pub record Stems (t : ℕ) (x y : Table) : Type 0 where

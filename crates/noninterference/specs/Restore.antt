@@ -14,7 +14,7 @@ use Rattle.model.specs.Book.{movedOf}
 use Rattle.model.specs.Step.{restoreAll}
 use Rattle.model.specs.WellFormed.{Generations}
 use Rattle.noninterference.specs.Erase.{handleAt, eraseTable}
-use Rattle.noninterference.specs.Basics.{bool}
+use Rattle.model.specs.Tests.{bool}
 use Rattle.noninterference.specs.Tables.{keep-erase}
 use Rattle.noninterference.specs.Alike.{Held}
 

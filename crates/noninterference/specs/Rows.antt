@@ -15,7 +15,8 @@ use Rattle.model.specs.Decision.{handlesOf, distinct}
 use Rattle.model.specs.WellFormed.{IdsRise}
 use Rattle.noninterference.specs.Runs.{lowered, lowerRow}
 use Rattle.noninterference.specs.Erase.{eraseRows}
-use Rattle.noninterference.specs.Basics.{bool, clash, lowered-eqb, lowered-below, lowered-member}
+use Rattle.model.specs.Tests.{bool, clash}
+use Rattle.noninterference.specs.Basics.{lowered-eqb, lowered-below, lowered-member}
 
 module _ (t i : ℕ) (p : i ≡ t → ⊥) where
   pub find-erase : (rs : List Row) → find (lowered t i) (eraseRows t rs) ≡ find i rs

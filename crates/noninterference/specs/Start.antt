@@ -7,7 +7,7 @@ use Prim.Native.Nat.{ℕ, _+_, _≤_}
 use native.Mathlib.Omega.{arith}
 use lib.ListN.{length}
 use lib.Dec.{ltb, eqb}
-use borrow.Author.Tests.{ltb-true, ltb-false, eqb-true, eq-eqb, ne-eqb}
+use borrow.Author.Tests.{ltb-true, ltb-false, eqb-true, eq-eqb, ne-eqb, not-true}
 use Rattle.codec.specs.Codec.{slotIn, generationIn}
 use Rattle.model.specs.Base.{bit, put, every, occurs, atMost}
 use Rattle.model.specs.State.{Sizes, Slot, Slot.absent, Slot.vacant, Slot.reserved, Slot.transferReserved, Slot.occupied, Table, Entry, Body.claim, State}
@@ -24,7 +24,8 @@ use Rattle.model.specs.Step.{restoreAll, prepareTransferOf, decide, carry, step
 use Rattle.model.specs.WellFormed.{WellFormed, isMovingBy}
 use Rattle.noninterference.specs.Runs.{isMove, valueOf, lowered, withSlots}
 use Rattle.noninterference.specs.Erase.{eraseSlot, eraseTable, erase}
-use Rattle.noninterference.specs.Basics.{bool, clash, and-left, and-right, not-is, lowered-above, lowered-below}
+use Rattle.model.specs.Tests.{bool, clash, and-left, and-right}
+use Rattle.noninterference.specs.Basics.{lowered-above, lowered-below}
 use Rattle.noninterference.specs.Rows.{rise-none, erase-new, find-new}
 use Rattle.noninterference.specs.Items.{AllName, all-name}
 use Rattle.noninterference.specs.Alike.{Held, Open}
@@ -86,7 +87,7 @@ module _ (z : Sizes) (s : State) (w : WellFormed z s) where
 
     no-copies : (qs : List Item) → every isMove qs ≡ true → copiesOf (map (entryFor y) qs) ≡ []
     no-copies [] m = refl
-    no-copies (q ∷ qs) m = go (q .operation) (not-is _ (and-left _ _ m)) (no-copies qs (and-right (isMove q) _ m))
+    no-copies (q ∷ qs) m = go (q .operation) (not-true _ (and-left _ _ m)) (no-copies qs (and-right (isMove q) _ m))
       where
         go : (a : Operation) → isCopy a ≡ false → copiesOf (map (entryFor y) qs) ≡ []
             → copiesOf (entryBy a (slotIn (y .mask) (q .value)) (handleOr (y .slots (slotIn (y .mask) (q .value)))) (q .rights)
@@ -110,7 +111,7 @@ module _ (z : Sizes) (s : State) (w : WellFormed z s) where
         → AllName s y route bo bk qs → ((k : ℕ) → 1 ≤ occurs k (movedOf (map (entryFor y) qs)) → isMovingBy n (x .slots k) ≡ true)
         → Held n x (map (entryFor y) qs) (map valueOf qs)
     held x p g [] m a o = tt
-    held x p g (q ∷ qs) m a o = go (q .operation) (not-is _ (and-left _ _ m)) o (held x p g qs (and-right (isMove q) _ m) (a .1))
+    held x p g (q ∷ qs) m a o = go (q .operation) (not-true _ (and-left _ _ m)) o (held x p g qs (and-right (isMove q) _ m) (a .1))
       where
         v : ℕ
         v = q .value

@@ -13,7 +13,8 @@ use Rattle.model.specs.Storage.{withFree, advance, raised, busyIn, pageOf, slot
 use Rattle.model.specs.Step.{fillAll, restoreAll}
 use Rattle.noninterference.specs.Runs.{withSlots}
 use Rattle.noninterference.specs.Erase.{eraseSlot, eraseTable}
-use Rattle.noninterference.specs.Basics.{bool, put-map}
+use Rattle.model.specs.Tests.{bool}
+use Rattle.noninterference.specs.Basics.{put-map}
 
 module _ (t : ℕ) (es : List Entry) where
   pub gen-erase : (k : ℕ) (x : Slot) → generation (eraseSlot t es k x) ≡ generation x

@@ -19,7 +19,8 @@ use Rattle.model.specs.Decision.{Decision, Decision.accept, unless_refuse_then_
 use Rattle.model.specs.Lookup.{handleOr, snapshotAt}
 use Rattle.model.specs.Step.{scanHandlesOf, nextOccupied, removeAt, removeStoppingOwnerOf, teardownStartOf, onTearing, tearAt, teardownStepOf, teardownFinishOf, takeAt, takeEmptyPageOf}
 use Rattle.noninterference.specs.Erase.{erase}
-use Rattle.noninterference.specs.Basics.{bool, clash, map-same}
+use Rattle.model.specs.Tests.{bool, clash}
+use Rattle.noninterference.specs.Basics.{map-same}
 use Rattle.noninterference.specs.Tables.{gen-erase}
 use Rattle.noninterference.specs.Rows.{open-erase}
 use Rattle.noninterference.specs.Alike.{Case, Alike, bare, bare-slot, is-active, lower-occupied, lower-handle, refuses, check}

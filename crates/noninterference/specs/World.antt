@@ -21,7 +21,7 @@ use Rattle.model.specs.Step.{newObjectOf, duplicateOf, releaseParcelOf, retireO
 use Rattle.model.specs.Step.{prepareConsumptionOf, rollbackOf, commitOf, directCommitOf, directRollbackOf, removeStoppingOwnerOf, teardownStartOf, teardownStepOf, teardownFinishOf, takeEmptyPageOf, decide, step, run}
 use Rattle.model.specs.Words.{usedWords}
 use Rattle.noninterference.specs.Runs.{permitted, wantsRow, wantsId, lowered}
-use Rattle.noninterference.specs.Basics.{clash, and-left, and-right}
+use Rattle.model.specs.Tests.{clash, and-left, and-right}
 
 -- pages of 4 slots, scans of at most 2 entries or 8 slots
 abbrev pub little : Sizes
