@@ -10,7 +10,7 @@ for edit in crates/*/must-fail/*.edit; do
   crate=$(basename "$(dirname "$(dirname "$edit")")")
   label=$(basename "$edit" .edit)
   log=target/must-fail/$crate/$label/.log
-  first=$(grep -m 1 'error' "$log" 2>/dev/null)
+  first=$(grep -m 1 -E 'error|it is not proved that what the function ensures holds' "$log" 2>/dev/null)
   if [ -z "$first" ] || echo "$first" | grep -qE 'can be named from here|is not in scope|cannot be parsed|Parse|expected `[^`]*` to close|`decide-fits`|operand is missing'; then
     wrong=$((wrong + 1))
     echo "$crate/$label: ${first:-no error in its log}" | cut -c1-300
