@@ -5,14 +5,14 @@ Rust gave (recorded/, see docs/oracle.md). Writes a crate `replay` with a table 
   model_replay.py [FILE..]     recorded files (default: cases.txt, plain.txt, edges.txt and scrambled.txt)
 """
 import re
-import shutil
 import subprocess
 import sys
 import tempfile
 from collections import Counter
 from pathlib import Path
 
-root = Path(__file__).resolve().parent.parent
+from scratch import copied, root
+
 MASK = 2**64 - 1
 
 
@@ -425,11 +425,7 @@ def main():
     )
     modules.append(("Creations", "cases.txt", "refused creations"))
     with tempfile.TemporaryDirectory() as folder:
-        scratch = Path(folder)
-        shutil.copytree(root / "crates", scratch / "crates")
-        for must_fail in scratch.glob("crates/*/must-fail"):
-            shutil.rmtree(must_fail)
-        shutil.copy(root / "crates.txt", scratch / "crates.txt")
+        scratch = copied(Path(folder))
         with open(scratch / "crates.txt", "a") as f:
             f.write("\nreplay: model codec authority format\n")
         crate = scratch / "crates" / "replay"

@@ -6,14 +6,14 @@ stands in `model`, and again with the tables of cases taken out of `model`, so t
 and where. Its last line is 'N passed, M failed'.
 """
 import re
-import shutil
 import subprocess
 import sys
 import tempfile
 from concurrent.futures import ThreadPoolExecutor
 from pathlib import Path
 
-root = Path(__file__).resolve().parent.parent
+from scratch import copied, root
+
 TOP = "noninterference"
 
 # name: (file below crates/, old, new)
@@ -54,9 +54,7 @@ SLIPS = {
 def attempt(name, bare):
     file, old, new = SLIPS[name]
     with tempfile.TemporaryDirectory() as folder:
-        scratch = Path(folder)
-        shutil.copytree(root / "crates", scratch / "crates")
-        shutil.copy(root / "crates.txt", scratch / "crates.txt")
+        scratch = copied(Path(folder))
         path = scratch / "crates" / file
         text = path.read_text()
         if text.count(old) != 1:
@@ -65,9 +63,9 @@ def attempt(name, bare):
         if bare:
             # the tables of computed cases go, in `model` and above: what is left are theorems
             for lib in scratch.glob("crates/*/specs/Lib.antt"):
-                kept = [l for l in lib.read_text().split("\n") if not re.fullmatch(r"pub mod (Cases|WordCases|Examples|Exclusions)", l)]
+                kept = [l for l in lib.read_text().split("\n") if not re.fullmatch(r"pub mod (Cases|Effects|WordCases|Examples|Exclusions)", l)]
                 lib.write_text("\n".join(kept))
-            for gone in ("Cases", "WordCases", "Examples", "Exclusions"):
+            for gone in ("Cases", "Effects", "WordCases", "Examples", "Exclusions"):
                 for f in scratch.glob(f"crates/*/specs/{gone}.antt"):
                     f.unlink()
         done = subprocess.run(["rt", "check", TOP], cwd=scratch, capture_output=True, text=True)
