@@ -1,1 +1,2 @@
 pub mod Represents
+pub mod Unique

@@ -1,0 +1,178 @@
+-- What creation makes of the words that it is lent. Assumes nothing.
+use mathlib.Core.Path.{_≡_, refl, sym, ap, _∙_}
+use mathlib.Core.Bool.{Bool, true, false}
+use mathlib.Core.List.{List, [], _∷_}
+use Prim.Native.Nat.{ℕ, zero, suc, _+_, _-_, _*_, _/_, _^_, _≤_, _<_, min}
+use native.Mathlib.Omega.{arith}
+use native.Mathlib.Numerals.{add-one}
+use native.Mathlib.Nat.{mul-le-mul}
+use lib.ListN.{length, getD, set}
+use lib.Dec.{leb}
+use Rattle.words.specs.Pick.{pick, yes-is, no-is}
+use Rattle.layout.specs.declared.Shape.{Shape}
+use Rattle.layout.specs.declared.ShapeRead.{ShapeRead}
+use Rattle.layout.specs.declared.ShapeRead.the-variants.{Shape as found, Bad}
+use Rattle.layout.specs.Layout.{Addr.reg, total, root, head, object, index, rank, save, Write, Write.at, writes, length-writes}
+use Rattle.layout.specs.ShapeOf.{onShape}
+use Rattle.codec.specs.Codec.{maskOf}
+use Rattle.create.specs.Parameters.{tableFrom, objectPlace, objectOf, pageSum, planOf}
+
+-- words 0 to n - 1 are 0
+unfoldable pub clearedW : List ℕ → ℕ → List ℕ
+clearedW ws zero = ws
+clearedW ws (suc n) = set (clearedW ws n) n 0
+
+-- n turns, each a plan of stores
+unfoldable pub rounds : List ℕ → Shape → (ℕ → List Write) → ℕ → List ℕ
+rounds ws sh f zero = ws
+rounds ws sh f (suc n) = writes (rounds ws sh f n) sh (f n)
+
+-- the header: version 1, the counts, next id 1; all frames are free
+abbrev pub headerP : Shape → List Write
+headerP sh =
+    at (root 0) 1 ∷ at (root 1) (sh .tables) ∷ at (root 2) (sh .frames) ∷ at (root 3) (sh .objects) ∷ at (root 4) (sh .rows)
+    ∷ at (root 5) 1 ∷ at (root 7) (sh .frames) ∷ at (root 8) (sh .pages) ∷ []
+
+unfoldable pub headerW : List ℕ → Shape → List ℕ
+headerW ws sh = writes ws sh (headerP sh)
+
+-- a table's head: limit, mask, and its first page entry after those of the tables before it
+abbrev pub headP : List ℕ → ℕ → List Write
+headP ps b = at (head b 0) (tableFrom ps b .pages) ∷ at (head b 1) (maskOf (tableFrom ps b .seed)) ∷ at (head b 10) (pageSum ps b) ∷ []
+
+abbrev pub headsW : List ℕ → Shape → List ℕ → ℕ → List ℕ
+headsW ws sh ps n = rounds ws sh (headP ps) n
+
+-- an object, new and without handles
+abbrev pub objectP : List ℕ → ℕ → ℕ → List Write
+objectP ps t o =
+    at (object o 0) (objectOf ps t o .koid) ∷ at (object o 1) (objectOf ps t o .kind) ∷ at (object o 2) (objectOf ps t o .class)
+    ∷ at (object o 3) (objectOf ps t o .supported) ∷ at (object o 4) (objectOf ps t o .exportable) ∷ at (object o 7) (objectOf ps t o .limit) ∷ []
+
+abbrev pub objectsW : List ℕ → Shape → List ℕ → ℕ → List ℕ
+objectsW ws sh ps n = rounds ws sh (objectP ps (sh .tables)) n
+
+-- the frames of a group: its size, or what is left
+abbrev pub groupP : Shape → ℕ → ℕ → ℕ → List Write
+groupP sh k size g = at (reg k g 0 0) (min size (sh .frames - g * size)) ∷ []
+
+abbrev pub groupsW : List ℕ → Shape → ℕ → ℕ → ℕ → List ℕ
+groupsW ws sh k size n = rounds ws sh (groupP sh k size) n
+
+-- each place has the rank of its number
+abbrev pub placeP : ℕ → List Write
+placeP i = at (index i) i ∷ at (rank i) i ∷ []
+
+abbrev pub placesW : List ℕ → Shape → ℕ → List ℕ
+placesW ws sh n = rounds ws sh placeP n
+
+-- the three levels of groups
+unfoldable pub levelsW : List ℕ → Shape → List ℕ
+levelsW ws sh =
+    groupsW (groupsW (groupsW ws sh 4 16 ((sh .frames + 15) / 16)) sh 5 256 ((sh .frames + 255) / 256)) sh 6 4096 ((sh .frames + 4095) / 4096)
+
+-- the whole: out of use is 0, words past the state keep their values
+unfoldable pub builtW : List ℕ → List ℕ → Shape → List ℕ
+builtW ws ps sh =
+    placesW (levelsW (objectsW (headsW (headerW (clearedW ws (total sh)) sh) sh ps (sh .tables)) sh ps (sh .objects)) sh) sh (sh .rows)
+
+-- the number and the words at the end
+pub record After : Type 0 where
+  pub result : ℕ
+  pub words : List ℕ
+
+abbrev pub after : ℕ → List ℕ → After
+after r ws = record { result = r; words = ws }
+
+-- with room for the state
+unfoldable pub placedW : List ℕ → List ℕ → Shape → After
+placedW ws ps sh = pick (leb (total sh) (length ws)) (after 0 (builtW ws ps sh)) (after 18 ws)
+
+-- THE CALL
+unfoldable pub createW : List ℕ → List ℕ → After
+createW ws ps = onShape (planOf ps) (after 18 ws) (λ sh. placedW ws ps sh)
+
+-- ---- arms
+
+on-found' : {A : Type 0} (x : ShapeRead) (bad : A) (good : Shape → A) (sh : Shape) (r : A) → x ≡ found sh → r ≡ good sh → r ≡ onShape x bad good
+on-found' x bad good sh r e p = rw e p
+
+on-bad' : {A : Type 0} (x : ShapeRead) (bad : A) (good : Shape → A) (r : A) → x ≡ Bad → r ≡ bad → r ≡ onShape x bad good
+on-bad' x bad good r e p = rw e p
+
+-- ---- what the loops say
+
+pub cleared-more : (ws : List ℕ) (k : ℕ) (us vs : List ℕ) → us ≡ clearedW ws k → vs ≡ set us k 0 → vs ≡ clearedW ws (k + 1)
+unfolding clearedW
+cleared-more ws k us vs e q = rw add-one (cc)
+
+pub cleared-at : (ws : List ℕ) (k n : ℕ) (us : List ℕ) → us ≡ clearedW ws k → k ≡ n → us ≡ clearedW ws n
+cleared-at ws k n us e q = rw (← q) e
+
+module _ (ws : List ℕ) (sh : Shape) (f : ℕ → List Write) where
+  pub rounds-more : (k : ℕ) (us vs : List ℕ) → us ≡ rounds ws sh f k → vs ≡ writes us sh (f k) → vs ≡ rounds ws sh f (k + 1)
+  unfolding rounds
+  rounds-more k us vs e q = rw (add-one, ← e) q
+
+  pub rounds-at : (k n : ℕ) (us : List ℕ) → us ≡ rounds ws sh f k → k ≡ n → us ≡ rounds ws sh f n
+  rounds-at k n us e q = rw (← q) e
+
+-- no group's first frame is large
+pub group-small : (g size : ℕ) → g < 65536 → size < 65536 → g * size < 2 ^ 64
+group-small g size a b = let z : g * size ≤ 65535 * 65535 = mul-le-mul {n₁ = g} {m₁ = size} {n₂ = 65535} {m₂ = 65535} (omega arith) (omega arith) in omega arith
+
+-- ---- what the stores say
+
+pub header-by : (ws : List ℕ) (sh : Shape) (s1 s2 s3 s4 s5 s6 s7 s8 : List ℕ) → s1 ≡ save ws sh (root 0) 1 → s2 ≡ save s1 sh (root 1) (sh .tables) → s3 ≡ save s2 sh (root 2) (sh .frames)
+    → s4 ≡ save s3 sh (root 3) (sh .objects) → s5 ≡ save s4 sh (root 4) (sh .rows) → s6 ≡ save s5 sh (root 5) 1 → s7 ≡ save s6 sh (root 7) (sh .frames)
+    → s8 ≡ save s7 sh (root 8) (sh .pages) → s8 ≡ headerW ws sh
+unfolding headerW
+header-by ws sh s1 s2 s3 s4 s5 s6 s7 s8 e1 e2 e3 e4 e5 e6 e7 e8 = cc
+
+pub header-length : (ws us : List ℕ) (sh : Shape) → us ≡ headerW ws sh → length us ≡ length ws
+unfolding headerW
+header-length ws us sh e = ap length e ∙ length-writes ws sh (headerP sh)
+
+pub head-by : (ws : List ℕ) (sh : Shape) (ps : List ℕ) (b pages seed mask first : ℕ) (s1 s2 s3 : List ℕ) → pages ≡ getD ps (4 + b * 2) 0 → seed ≡ getD ps (4 + b * 2 + 1) 0 → mask ≡ maskOf seed → first ≡ pageSum ps b
+    → s1 ≡ save ws sh (head b 0) pages → s2 ≡ save s1 sh (head b 1) mask → s3 ≡ save s2 sh (head b 10) first → s3 ≡ writes ws sh (headP ps b)
+head-by ws sh ps b pages seed mask first s1 s2 s3 a d e f e1 e2 e3 =
+    rw (← a, ← d, ← e, ← f) (cc)
+
+pub object-by : (ws : List ℕ) (sh : Shape) (ps : List ℕ) (t o i v1 v2 v3 v4 v5 v6 : ℕ) (s1 s2 s3 s4 s5 s6 : List ℕ) → i ≡ objectPlace t o → v1 ≡ getD ps i 0 → v2 ≡ getD ps (i + 1) 0
+    → v3 ≡ getD ps (i + 2) 0 → v4 ≡ getD ps (i + 3) 0 → v5 ≡ getD ps (i + 4) 0 → v6 ≡ getD ps (i + 5) 0
+    → s1 ≡ save ws sh (object o 0) v1 → s2 ≡ save s1 sh (object o 1) v2 → s3 ≡ save s2 sh (object o 2) v3
+    → s4 ≡ save s3 sh (object o 3) v4 → s5 ≡ save s4 sh (object o 4) v5 → s6 ≡ save s5 sh (object o 7) v6 → s6 ≡ writes ws sh (objectP ps t o)
+object-by ws sh ps t o i v1 v2 v3 v4 v5 v6 s1 s2 s3 s4 s5 s6 q a1 a2 a3 a4 a5 a6 e1 e2 e3 e4 e5 e6 =
+    rw (← q, ← a1, ← a2, ← a3, ← a4, ← a5, ← a6) (cc)
+
+pub plan-length : (ws us : List ℕ) (sh : Shape) (xs : List Write) → us ≡ writes ws sh xs → length us ≡ length ws
+plan-length ws us sh xs e = ap length e ∙ length-writes ws sh xs
+
+pub levels-by : (ws : List ℕ) (sh : Shape) (s1 s2 s3 : List ℕ) → s1 ≡ groupsW ws sh 4 16 ((sh .frames + 15) / 16) → s2 ≡ groupsW s1 sh 5 256 ((sh .frames + 255) / 256)
+    → s3 ≡ groupsW s2 sh 6 4096 ((sh .frames + 4095) / 4096) → s3 ≡ levelsW ws sh
+unfolding levelsW
+levels-by ws sh s1 s2 s3 e1 e2 e3 =
+    e3 ∙ ap (λ (w : List ℕ). groupsW w sh 6 4096 ((sh .frames + 4095) / 4096)) (e2 ∙ ap (λ (w : List ℕ). groupsW w sh 5 256 ((sh .frames + 255) / 256)) e1)
+
+pub built-by : (ws ps : List ℕ) (sh : Shape) (n : ℕ) (s1 s2 s3 s4 s5 s6 : List ℕ) → n ≡ total sh → s1 ≡ clearedW ws n → s2 ≡ headerW s1 sh → s3 ≡ headsW s2 sh ps (sh .tables)
+    → s4 ≡ objectsW s3 sh ps (sh .objects) → s5 ≡ levelsW s4 sh → s6 ≡ placesW s5 sh (sh .rows) → s6 ≡ builtW ws ps sh
+unfolding builtW
+built-by ws ps sh n s1 s2 s3 s4 s5 s6 e0 e1 e2 e3 e4 e5 e6 =
+    e6 ∙ ap (λ (w : List ℕ). placesW w sh (sh .rows)) (e5 ∙ ap (λ (w : List ℕ). levelsW w sh) (e4 ∙ ap (λ (w : List ℕ). objectsW w sh ps (sh .objects))
+    (e3 ∙ ap (λ (w : List ℕ). headsW w sh ps (sh .tables)) (e2 ∙ ap (λ (w : List ℕ). headerW w sh) (e1 ∙ ap (λ (k : ℕ). clearedW ws k) e0)))))
+
+pub placed-yes : (ws ps : List ℕ) (sh : Shape) (m n : ℕ) (b : Bool) (us : List ℕ) → m ≡ total sh → n ≡ length ws → b ≡ leb m n → b ≡ true → us ≡ builtW ws ps sh → after 0 us ≡ placedW ws ps sh
+unfolding placedW
+placed-yes ws ps sh m n b us em en eb h e = yes-is (leb (total sh) (length ws)) (after 0 us) (after 0 (builtW ws ps sh)) (after 18 ws) (rw (← em, ← en) (sym eb ∙ h)) (ap (after 0) e)
+
+pub placed-no : (ws ps : List ℕ) (sh : Shape) (m n : ℕ) (b : Bool) → m ≡ total sh → n ≡ length ws → b ≡ leb m n → b ≡ false → after 18 ws ≡ placedW ws ps sh
+unfolding placedW
+placed-no ws ps sh m n b em en eb h = no-is (leb (total sh) (length ws)) (after 18 ws) (after 0 (builtW ws ps sh)) (after 18 ws) (rw (← em, ← en) (sym eb ∙ h)) refl
+
+pub create-bad : (ws ps : List ℕ) (x : ShapeRead) → x ≡ planOf ps → x ≡ Bad → after 18 ws ≡ createW ws ps
+unfolding createW
+create-bad ws ps x e q = on-bad' (planOf ps) (after 18 ws) (λ sh. placedW ws ps sh) (after 18 ws) (sym e ∙ q) refl
+
+pub create-placed : (ws ps : List ℕ) (x : ShapeRead) (sh : Shape) (r : After) → x ≡ planOf ps → x ≡ found sh → r ≡ placedW ws ps sh → r ≡ createW ws ps
+unfolding createW
+create-placed ws ps x sh r e q p = on-found' (planOf ps) (after 18 ws) (λ sh. placedW ws ps sh) sh r (sym e ∙ q) p

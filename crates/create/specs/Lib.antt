@@ -1,0 +1,4 @@
+pub mod Parameters
+pub mod Creation
+pub mod Memory
+pub mod Meets

@@ -1,0 +1,290 @@
+-- What the addresses show after creation. Assumes nothing.
+use mathlib.Core.Path.{_≡_, refl, ap, _∙_, fun-ext}
+use mathlib.Core.List.{List}
+use Prim.Native.Nat.{ℕ, zero, suc, _+_, _-_, _*_, _/_, _≤_, _<_, min}
+use native.Mathlib.Omega.{arith}
+use lib.ListN.{length, getD, length-set}
+use lib.Dec.{eqb, ltb}
+use borrow.Author.Tests.{eq-eqb, ne-eqb, eqb-true, eqb-false, ltb-false}
+use Rattle.words.specs.Pick.{pick, bool}
+use Rattle.words.specs.Words.{get-past, get-put, get-other}
+use Rattle.codec.specs.Codec.{maskOf}
+use Rattle.layout.specs.declared.Shape.{Shape}
+use Rattle.layout.specs.Layout.{Addr, Mem, total, root, head, owner, group, object, index, rank, load, place, place-low, isIn, in-is, load-out, Write, writes, upds, InAll, length-writes, load-writes, writes-past}
+use Rattle.layout.specs.Layout.{in-root, in-head, in-object, in-index, in-rank}
+use Rattle.create.specs.Parameters.{tableFrom, objectOf, pageSum}
+use Rattle.create.specs.Creation.{clearedW, rounds, headerP, headerW, headP, objectP, groupP, levelsW, placeP, builtW}
+
+-- ---- cleared words
+
+pub length-cleared : (ws : List ℕ) (n : ℕ) → length (clearedW ws n) ≡ length ws
+unfolding clearedW
+length-cleared ws zero = refl
+length-cleared ws (suc n) = length-set (clearedW ws n) n 0 ∙ length-cleared ws n
+
+pub get-cleared : (ws : List ℕ) (n i : ℕ) → i < n → getD (clearedW ws n) i 0 ≡ 0
+unfolding clearedW
+get-cleared ws zero i h = absurd (omega arith)
+get-cleared ws (suc n) i h = get-put (clearedW ws n) n 0 i ∙ bool (eqb i n)
+    (λ e. rw e (bool (ltb n (length (clearedW ws n)))
+    (λ g. rw g)
+    (λ g. rw g (get-past (clearedW ws n) i (omega (arith, eqb-true i n e, ltb-false n (length (clearedW ws n)) g))))))
+    (λ e. rw e (get-cleared ws n i (omega (arith, eqb-false i n e))))
+
+pub cleared-past : (ws : List ℕ) (n i : ℕ) → n ≤ i → getD (clearedW ws n) i 0 ≡ getD ws i 0
+unfolding clearedW
+cleared-past ws zero i h = refl
+cleared-past ws (suc n) i h = get-other (clearedW ws n) n 0 i (λ e. omega arith) ∙ cleared-past ws n i (omega arith)
+
+abbrev pub zeros : Mem
+zeros a = 0
+
+pub load-cleared : (ws : List ℕ) (sh : Shape) → load (clearedW ws (total sh)) sh ≡ zeros
+unfolding load
+load-cleared ws sh = fun-ext λ a. bool (isIn sh a)
+    (λ e. get-cleared ws (total sh) (place (length (clearedW ws (total sh))) sh a) (place-low (length (clearedW ws (total sh))) sh a (in-is sh a e)))
+    (λ e. load-out (clearedW ws (total sh)) sh a e)
+
+-- ---- turns
+
+abbrev pub roundsM : Mem → (ℕ → List Write) → ℕ → Mem
+roundsM m f zero = m
+roundsM m f (suc n) = upds (roundsM m f n) (f n)
+
+module _ (ws : List ℕ) (sh : Shape) (f : ℕ → List Write) where
+  pub length-rounds : (n : ℕ) → length (rounds ws sh f n) ≡ length ws
+  unfolding rounds
+  length-rounds zero = refl
+  length-rounds (suc n) = length-writes (rounds ws sh f n) sh (f n) ∙ length-rounds n
+
+  pub rounds-past : (n i : ℕ) → total sh ≤ i → getD (rounds ws sh f n) i 0 ≡ getD ws i 0
+  unfolding rounds
+  rounds-past zero i h = refl
+  rounds-past (suc n) i h = writes-past (rounds ws sh f n) sh (f n) i h ∙ rounds-past n i h
+
+  pub load-rounds : total sh ≤ length ws → (n : ℕ) → ((i : ℕ) → i < n → InAll sh (f i)) → load (rounds ws sh f n) sh ≡ roundsM (load ws sh) f n
+  unfolding rounds
+  load-rounds h zero c = refl
+  load-rounds h (suc n) c =
+      load-writes (rounds ws sh f n) sh (omega (arith, length-rounds n)) (f n) (c n (omega arith))
+      ∙ ap (λ (m : Mem). upds m (f n)) (load-rounds h n (λ i g. c i (omega arith)))
+
+module _ (m : Mem) (f : ℕ → List Write) (a : Addr) where
+  -- no turn stores there
+  pub miss : ((i : ℕ) (k : Mem) → upds k (f i) a ≡ k a) → (n : ℕ) → roundsM m f n a ≡ m a
+  miss c zero = refl
+  miss c (suc n) = c n (roundsM m f n) ∙ miss c n
+
+  -- one turn stores there
+  pub hit : (i v : ℕ) → ((k : Mem) → upds k (f i) a ≡ v) → ((j : ℕ) (k : Mem) → (i ≡ j → ⊥) → upds k (f j) a ≡ k a) → (n : ℕ) → i < n → roundsM m f n a ≡ v
+  hit i v c d zero h = absurd (omega arith)
+  hit i v c d (suc n) h = bool (eqb i n)
+      (λ e. rw (← eqb-true i n e) (c (roundsM m f i)))
+      (λ e. d n (roundsM m f n) (eqb-false i n e) ∙ hit i v c d n (omega (arith, eqb-false i n e)))
+
+-- the tests that are left of such a store
+pub here : (i v w : ℕ) → pick (eqb i i) v w ≡ v
+here i v w = rw (eq-eqb i i refl)
+
+pub there : (i j v w : ℕ) → (i ≡ j → ⊥) → pick (eqb i j) v w ≡ w
+there i j v w h = rw (ne-eqb i j h)
+
+-- ---- the memory of a new state
+
+module _ (ps : List ℕ) (sh : Shape) where
+  abbrev pub mRoot : Mem
+  mRoot = upds zeros (headerP sh)
+
+  abbrev pub mHeads : Mem
+  mHeads = roundsM mRoot (headP ps) (sh .tables)
+
+  abbrev pub mObjects : Mem
+  mObjects = roundsM mHeads (objectP ps (sh .tables)) (sh .objects)
+
+  abbrev pub mSixteens : Mem
+  mSixteens = roundsM mObjects (groupP sh 4 16) ((sh .frames + 15) / 16)
+
+  abbrev pub mHundreds : Mem
+  mHundreds = roundsM mSixteens (groupP sh 5 256) ((sh .frames + 255) / 256)
+
+  abbrev pub mThousands : Mem
+  mThousands = roundsM mHundreds (groupP sh 6 4096) ((sh .frames + 4095) / 4096)
+
+  abbrev pub mNew : Mem
+  mNew = roundsM mThousands placeP (sh .rows)
+
+  pub load-built : (ws : List ℕ) → total sh ≤ length ws → load (builtW ws ps sh) sh ≡ mNew
+  unfolding builtW headerW levelsW
+  load-built ws h =
+      let w0 = clearedW ws (total sh) in let l0 = length-cleared ws (total sh) in
+      let w1 = writes w0 sh (headerP sh) in let l1 = length-writes w0 sh (headerP sh) in
+      let w2 = rounds w1 sh (headP ps) (sh .tables) in let l2 = length-rounds w1 sh (headP ps) (sh .tables) in
+      let w3 = rounds w2 sh (objectP ps (sh .tables)) (sh .objects) in let l3 = length-rounds w2 sh (objectP ps (sh .tables)) (sh .objects) in
+      let w4 = rounds w3 sh (groupP sh 4 16) ((sh .frames + 15) / 16) in let l4 = length-rounds w3 sh (groupP sh 4 16) ((sh .frames + 15) / 16) in
+      let w5 = rounds w4 sh (groupP sh 5 256) ((sh .frames + 255) / 256) in let l5 = length-rounds w4 sh (groupP sh 5 256) ((sh .frames + 255) / 256) in
+      let w6 = rounds w5 sh (groupP sh 6 4096) ((sh .frames + 4095) / 4096) in let l6 = length-rounds w5 sh (groupP sh 6 4096) ((sh .frames + 4095) / 4096) in
+      load-rounds w6 sh placeP (omega arith) (sh .rows) (λ i g. (in-index sh i g, (in-rank sh i g, tt)))
+      ∙ ap (λ (m : Mem). roundsM m placeP (sh .rows))
+      (load-rounds w5 sh (groupP sh 6 4096) (omega arith) ((sh .frames + 4095) / 4096) (λ i g. (record { xs = g; ys = omega arith; fs = omega arith }, tt))
+      ∙ ap (λ (m : Mem). roundsM m (groupP sh 6 4096) ((sh .frames + 4095) / 4096))
+      (load-rounds w4 sh (groupP sh 5 256) (omega arith) ((sh .frames + 255) / 256) (λ i g. (record { xs = g; ys = omega arith; fs = omega arith }, tt))
+      ∙ ap (λ (m : Mem). roundsM m (groupP sh 5 256) ((sh .frames + 255) / 256))
+      (load-rounds w3 sh (groupP sh 4 16) (omega arith) ((sh .frames + 15) / 16) (λ i g. (record { xs = g; ys = omega arith; fs = omega arith }, tt))
+      ∙ ap (λ (m : Mem). roundsM m (groupP sh 4 16) ((sh .frames + 15) / 16))
+      (load-rounds w2 sh (objectP ps (sh .tables)) (omega arith) (sh .objects)
+      (λ i g. (in-object sh i 0 g (omega arith), (in-object sh i 1 g (omega arith), (in-object sh i 2 g (omega arith), (in-object sh i 3 g (omega arith), (in-object sh i 4 g (omega arith), (in-object sh i 7 g (omega arith), tt)))))))
+      ∙ ap (λ (m : Mem). roundsM m (objectP ps (sh .tables)) (sh .objects))
+      (load-rounds w1 sh (headP ps) (omega arith) (sh .tables) (λ i g. (in-head sh i 0 g (omega arith), (in-head sh i 1 g (omega arith), (in-head sh i 10 g (omega arith), tt))))
+      ∙ ap (λ (m : Mem). roundsM m (headP ps) (sh .tables))
+      (load-writes w0 sh (omega arith) (headerP sh)
+      (in-root sh 0 (omega arith), (in-root sh 1 (omega arith), (in-root sh 2 (omega arith), (in-root sh 3 (omega arith), (in-root sh 4 (omega arith), (in-root sh 5 (omega arith), (in-root sh 7 (omega arith), (in-root sh 8 (omega arith), tt))))))))
+      ∙ ap (λ (m : Mem). upds m (headerP sh)) (load-cleared ws sh)))))))
+
+  pub length-built : (ws : List ℕ) → length (builtW ws ps sh) ≡ length ws
+  unfolding builtW headerW levelsW
+  length-built ws =
+      let w0 = clearedW ws (total sh) in let w1 = writes w0 sh (headerP sh) in
+      let w2 = rounds w1 sh (headP ps) (sh .tables) in
+      let w3 = rounds w2 sh (objectP ps (sh .tables)) (sh .objects) in
+      let w4 = rounds w3 sh (groupP sh 4 16) ((sh .frames + 15) / 16) in
+      let w5 = rounds w4 sh (groupP sh 5 256) ((sh .frames + 255) / 256) in
+      let w6 = rounds w5 sh (groupP sh 6 4096) ((sh .frames + 4095) / 4096) in
+      length-rounds w6 sh placeP (sh .rows) ∙ length-rounds w5 sh (groupP sh 6 4096) ((sh .frames + 4095) / 4096) ∙ length-rounds w4 sh (groupP sh 5 256) ((sh .frames + 255) / 256)
+      ∙ length-rounds w3 sh (groupP sh 4 16) ((sh .frames + 15) / 16) ∙ length-rounds w2 sh (objectP ps (sh .tables)) (sh .objects) ∙ length-rounds w1 sh (headP ps) (sh .tables)
+      ∙ length-writes w0 sh (headerP sh) ∙ length-cleared ws (total sh)
+
+  -- words past the state keep their values
+  pub built-past : (ws : List ℕ) (i : ℕ) → total sh ≤ i → getD (builtW ws ps sh) i 0 ≡ getD ws i 0
+  unfolding builtW headerW levelsW
+  built-past ws i h =
+      let w0 = clearedW ws (total sh) in let w1 = writes w0 sh (headerP sh) in
+      let w2 = rounds w1 sh (headP ps) (sh .tables) in
+      let w3 = rounds w2 sh (objectP ps (sh .tables)) (sh .objects) in
+      let w4 = rounds w3 sh (groupP sh 4 16) ((sh .frames + 15) / 16) in
+      let w5 = rounds w4 sh (groupP sh 5 256) ((sh .frames + 255) / 256) in
+      let w6 = rounds w5 sh (groupP sh 6 4096) ((sh .frames + 4095) / 4096) in
+      rounds-past w6 sh placeP (sh .rows) i h ∙ rounds-past w5 sh (groupP sh 6 4096) ((sh .frames + 4095) / 4096) i h ∙ rounds-past w4 sh (groupP sh 5 256) ((sh .frames + 255) / 256) i h
+      ∙ rounds-past w3 sh (groupP sh 4 16) ((sh .frames + 15) / 16) i h ∙ rounds-past w2 sh (objectP ps (sh .tables)) (sh .objects) i h ∙ rounds-past w1 sh (headP ps) (sh .tables) i h
+      ∙ writes-past w0 sh (headerP sh) i h ∙ cleared-past ws (total sh) i h
+
+  -- ---- what it shows
+
+  offPlaces : (a : Addr) → ((i : ℕ) (k : Mem) → upds k (placeP i) a ≡ k a) → mNew a ≡ mThousands a
+  offPlaces a c = miss mThousands placeP a c (sh .rows)
+
+  offGroups : (a : Addr) → ((i : ℕ) (k : Mem) → upds k (groupP sh 4 16 i) a ≡ k a) → ((i : ℕ) (k : Mem) → upds k (groupP sh 5 256 i) a ≡ k a)
+      → ((i : ℕ) (k : Mem) → upds k (groupP sh 6 4096 i) a ≡ k a) → mThousands a ≡ mObjects a
+  offGroups a c d e =
+      miss mHundreds (groupP sh 6 4096) a e ((sh .frames + 4095) / 4096) ∙ miss mSixteens (groupP sh 5 256) a d ((sh .frames + 255) / 256)
+      ∙ miss mObjects (groupP sh 4 16) a c ((sh .frames + 15) / 16)
+
+  pub new-root : (f : ℕ) → mNew (root f) ≡ mRoot (root f)
+  new-root f =
+      offPlaces (root f) (λ i k. refl) ∙ offGroups (root f) (λ i k. refl) (λ i k. refl) (λ i k. refl)
+      ∙ miss mHeads (objectP ps (sh .tables)) (root f) (λ i k. refl) (sh .objects) ∙ miss mRoot (headP ps) (root f) (λ i k. refl) (sh .tables)
+
+  new-head : (b f : ℕ) → mNew (head b f) ≡ mHeads (head b f)
+  new-head b f =
+      offPlaces (head b f) (λ i k. refl) ∙ offGroups (head b f) (λ i k. refl) (λ i k. refl) (λ i k. refl)
+      ∙ miss mHeads (objectP ps (sh .tables)) (head b f) (λ i k. refl) (sh .objects)
+
+  pub new-limit : (b : ℕ) → b < sh .tables → mNew (head b 0) ≡ tableFrom ps b .pages
+  new-limit b h = new-head b 0 ∙ hit mRoot (headP ps) (head b 0) b (tableFrom ps b .pages)
+      (λ k. here b (tableFrom ps b .pages) (k (head b 0))) (λ j k d. there b j (tableFrom ps j .pages) (k (head b 0)) d) (sh .tables) h
+
+  pub new-mask : (b : ℕ) → b < sh .tables → mNew (head b 1) ≡ maskOf (tableFrom ps b .seed)
+  new-mask b h = new-head b 1 ∙ hit mRoot (headP ps) (head b 1) b (maskOf (tableFrom ps b .seed))
+      (λ k. here b (maskOf (tableFrom ps b .seed)) (k (head b 1))) (λ j k d. there b j (maskOf (tableFrom ps j .seed)) (k (head b 1)) d) (sh .tables) h
+
+  pub new-first : (b : ℕ) → b < sh .tables → mNew (head b 10) ≡ pageSum ps b
+  new-first b h = new-head b 10 ∙ hit mRoot (headP ps) (head b 10) b (pageSum ps b)
+      (λ k. here b (pageSum ps b) (k (head b 10))) (λ j k d. there b j (pageSum ps j) (k (head b 10)) d) (sh .tables) h
+
+  -- the other fields of a head
+  pub new-life : (b : ℕ) → mNew (head b 2) ≡ 0
+  new-life b = new-head b 2 ∙ miss mRoot (headP ps) (head b 2) (λ i k. refl) (sh .tables)
+
+  pub new-epoch : (b : ℕ) → mNew (head b 4) ≡ 0
+  new-epoch b = new-head b 4 ∙ miss mRoot (headP ps) (head b 4) (λ i k. refl) (sh .tables)
+
+  pub new-size : (b : ℕ) → mNew (head b 5) ≡ 0
+  new-size b = new-head b 5 ∙ miss mRoot (headP ps) (head b 5) (λ i k. refl) (sh .tables)
+
+  pub new-free : (b : ℕ) → mNew (head b 6) ≡ 0
+  new-free b = new-head b 6 ∙ miss mRoot (headP ps) (head b 6) (λ i k. refl) (sh .tables)
+
+  pub new-count : (b : ℕ) → mNew (head b 7) ≡ 0
+  new-count b = new-head b 7 ∙ miss mRoot (headP ps) (head b 7) (λ i k. refl) (sh .tables)
+
+  pub new-empty : (b : ℕ) → mNew (head b 8) ≡ 0
+  new-empty b = new-head b 8 ∙ miss mRoot (headP ps) (head b 8) (λ i k. refl) (sh .tables)
+
+  pub new-detached : (b : ℕ) → mNew (head b 9) ≡ 0
+  new-detached b = new-head b 9 ∙ miss mRoot (headP ps) (head b 9) (λ i k. refl) (sh .tables)
+
+  pub new-owner : (f : ℕ) → mNew (owner f) ≡ 0
+  new-owner f =
+      offPlaces (owner f) (λ i k. refl) ∙ offGroups (owner f) (λ i k. refl) (λ i k. refl) (λ i k. refl)
+      ∙ miss mHeads (objectP ps (sh .tables)) (owner f) (λ i k. refl) (sh .objects) ∙ miss mRoot (headP ps) (owner f) (λ i k. refl) (sh .tables)
+
+  -- groups
+  pub new-sixteen : (g : ℕ) → g < (sh .frames + 15) / 16 → mNew (group 0 g) ≡ min 16 (sh .frames - g * 16)
+  new-sixteen g h =
+      offPlaces (group 0 g) (λ i k. refl) ∙ miss mHundreds (groupP sh 6 4096) (group 0 g) (λ i k. refl) ((sh .frames + 4095) / 4096)
+      ∙ miss mSixteens (groupP sh 5 256) (group 0 g) (λ i k. refl) ((sh .frames + 255) / 256)
+      ∙ hit mObjects (groupP sh 4 16) (group 0 g) g (min 16 (sh .frames - g * 16)) (λ k. here g (min 16 (sh .frames - g * 16)) (k (group 0 g)))
+      (λ j k d. there g j (min 16 (sh .frames - j * 16)) (k (group 0 g)) d) ((sh .frames + 15) / 16) h
+
+  pub new-hundred : (g : ℕ) → g < (sh .frames + 255) / 256 → mNew (group 1 g) ≡ min 256 (sh .frames - g * 256)
+  new-hundred g h =
+      offPlaces (group 1 g) (λ i k. refl) ∙ miss mHundreds (groupP sh 6 4096) (group 1 g) (λ i k. refl) ((sh .frames + 4095) / 4096)
+      ∙ hit mSixteens (groupP sh 5 256) (group 1 g) g (min 256 (sh .frames - g * 256)) (λ k. here g (min 256 (sh .frames - g * 256)) (k (group 1 g)))
+      (λ j k d. there g j (min 256 (sh .frames - j * 256)) (k (group 1 g)) d) ((sh .frames + 255) / 256) h
+
+  pub new-thousand : (g : ℕ) → g < (sh .frames + 4095) / 4096 → mNew (group 2 g) ≡ min 4096 (sh .frames - g * 4096)
+  new-thousand g h =
+      offPlaces (group 2 g) (λ i k. refl)
+      ∙ hit mHundreds (groupP sh 6 4096) (group 2 g) g (min 4096 (sh .frames - g * 4096)) (λ k. here g (min 4096 (sh .frames - g * 4096)) (k (group 2 g)))
+      (λ j k d. there g j (min 4096 (sh .frames - j * 4096)) (k (group 2 g)) d) ((sh .frames + 4095) / 4096) h
+
+  -- objects
+  new-object : (o f : ℕ) → mNew (object o f) ≡ mObjects (object o f)
+  new-object o f = offPlaces (object o f) (λ i k. refl) ∙ offGroups (object o f) (λ i k. refl) (λ i k. refl) (λ i k. refl)
+
+  module _ (o : ℕ) (h : o < sh .objects) where
+    pub new-koid : mNew (object o 0) ≡ objectOf ps (sh .tables) o .koid
+    new-koid = new-object o 0 ∙ hit mHeads (objectP ps (sh .tables)) (object o 0) o (objectOf ps (sh .tables) o .koid)
+        (λ k. here o (objectOf ps (sh .tables) o .koid) (k (object o 0))) (λ j k d. there o j (objectOf ps (sh .tables) j .koid) (k (object o 0)) d) (sh .objects) h
+
+    pub new-kind : mNew (object o 1) ≡ objectOf ps (sh .tables) o .kind
+    new-kind = new-object o 1 ∙ hit mHeads (objectP ps (sh .tables)) (object o 1) o (objectOf ps (sh .tables) o .kind)
+        (λ k. here o (objectOf ps (sh .tables) o .kind) (k (object o 1))) (λ j k d. there o j (objectOf ps (sh .tables) j .kind) (k (object o 1)) d) (sh .objects) h
+
+    pub new-class : mNew (object o 2) ≡ objectOf ps (sh .tables) o .class
+    new-class = new-object o 2 ∙ hit mHeads (objectP ps (sh .tables)) (object o 2) o (objectOf ps (sh .tables) o .class)
+        (λ k. here o (objectOf ps (sh .tables) o .class) (k (object o 2))) (λ j k d. there o j (objectOf ps (sh .tables) j .class) (k (object o 2)) d) (sh .objects) h
+
+    pub new-supported : mNew (object o 3) ≡ objectOf ps (sh .tables) o .supported
+    new-supported = new-object o 3 ∙ hit mHeads (objectP ps (sh .tables)) (object o 3) o (objectOf ps (sh .tables) o .supported)
+        (λ k. here o (objectOf ps (sh .tables) o .supported) (k (object o 3))) (λ j k d. there o j (objectOf ps (sh .tables) j .supported) (k (object o 3)) d) (sh .objects) h
+
+    pub new-exportable : mNew (object o 4) ≡ objectOf ps (sh .tables) o .exportable
+    new-exportable = new-object o 4 ∙ hit mHeads (objectP ps (sh .tables)) (object o 4) o (objectOf ps (sh .tables) o .exportable)
+        (λ k. here o (objectOf ps (sh .tables) o .exportable) (k (object o 4))) (λ j k d. there o j (objectOf ps (sh .tables) j .exportable) (k (object o 4)) d) (sh .objects) h
+
+    pub new-most : mNew (object o 7) ≡ objectOf ps (sh .tables) o .limit
+    new-most = new-object o 7 ∙ hit mHeads (objectP ps (sh .tables)) (object o 7) o (objectOf ps (sh .tables) o .limit)
+        (λ k. here o (objectOf ps (sh .tables) o .limit) (k (object o 7))) (λ j k d. there o j (objectOf ps (sh .tables) j .limit) (k (object o 7)) d) (sh .objects) h
+
+    pub new-stage : mNew (object o 5) ≡ 0
+    new-stage = new-object o 5 ∙ miss mHeads (objectP ps (sh .tables)) (object o 5) (λ i k. refl) (sh .objects) ∙ miss mRoot (headP ps) (object o 5) (λ i k. refl) (sh .tables)
+
+    pub new-handles : mNew (object o 6) ≡ 0
+    new-handles = new-object o 6 ∙ miss mHeads (objectP ps (sh .tables)) (object o 6) (λ i k. refl) (sh .objects) ∙ miss mRoot (headP ps) (object o 6) (λ i k. refl) (sh .tables)
+
+  -- the row index
+  pub new-index : (i : ℕ) → i < sh .rows → mNew (index i) ≡ i
+  new-index i h = hit mThousands placeP (index i) i i (λ k. here i i (k (index i))) (λ j k d. there i j j (k (index i)) d) (sh .rows) h
+
+  pub new-rank : (i : ℕ) → i < sh .rows → mNew (rank i) ≡ i
+  new-rank i h = hit mThousands placeP (rank i) i i (λ k. here i i (k (rank i))) (λ j k d. there i j j (k (rank i)) d) (sh .rows) h

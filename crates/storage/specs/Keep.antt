@@ -1,0 +1,110 @@
+-- A table whose busy slot gets other busy contents of the same generation, as it is seen, is the model's. Assumes nothing.
+use mathlib.Core.Path.{_≡_, refl, sym, ap, _∙_, fun-ext}
+use mathlib.Core.Bool.{Bool, true, false, not, _&&_}
+use mathlib.Core.List.{List, [], _∷_}
+use Prim.Native.Nat.{ℕ, zero, suc, _+_, _-_, _*_, _/_, _%_, _≤_, _<_, min, max}
+use native.Mathlib.Omega.{arith}
+use lib.ListN.{length}
+use lib.Dec.{eqb, ltb}
+use borrow.Author.Tests.{eqb-true, eqb-false, eq-eqb, ne-eqb}
+use Rattle.words.specs.Pick.{bool, clash}
+use Rattle.model.specs.Base.{put, occurs, isSome}
+use Rattle.model.specs.State.{till, Handle, Slot, Slot.transferReserved, Slot.occupied, Table, generation, isBusy, isVacant, isAbsent}
+use Rattle.model.specs.Storage.{busyOf, pageOf, place, keep}
+use Rattle.model.specs.WellFormed.{isAttached}
+use Rattle.model.specs.Tests.{and-false}
+use Rattle.invariant.specs.Pointwise.{place-alike, place-slots}
+use Rattle.invariant.specs.Pages.{till-sane, busy-there, busy-vacant, busy-other}
+use Rattle.invariant.specs.Orders.{Sound}
+use Rattle.layout.specs.Layout.{Mem, row}
+use Rattle.representation.specs.Represents.{linkOf, tagged}
+use Rattle.storage.specs.Order.{chain-frame, linked-frame}
+use Rattle.storage.specs.Sight.{Spot, Spot.hd, Spot.pg, Spot.sl, puts}
+use Rattle.storage.specs.Slots.{frameV, framed, slotV, Seen, framed-is, slot-there, slot-gen, free-vacant}
+use Rattle.storage.specs.Ops.{moveP, occupyP}
+
+abbrev pub moveV : (Spot → ℕ) → ℕ → ℕ → ℕ → Spot → ℕ
+moveV v k r j = puts v (moveP k r j)
+
+abbrev pub occupyV : (Spot → ℕ) → ℕ → ℕ → ℕ → ℕ → Spot → ℕ
+occupyV v k o r f = puts v (occupyP k o r f)
+
+-- the mark
+pub moving-mark : (v : Spot → ℕ) (k r j : ℕ) → (moveV v k r j (sl k 0) ≡ 2) × (moveV v k r j (sl k 2) ≡ r) × (moveV v k r j (sl k 3) ≡ j)
+unfolding moveP
+moving-mark v k r j = (rw (eq-eqb (suc k) (suc k) refl), rw (eq-eqb (suc k) (suc k) refl), rw (eq-eqb (suc k) (suc k) refl))
+
+-- words that differ in slot k alone
+pub record Within (v w : Spot → ℕ) (k : ℕ) : Type 0 where
+  pub heads : (f : ℕ) → w (hd f) ≡ v (hd f)
+  pub pages : (p f : ℕ) → w (pg p f) ≡ v (pg p f)
+  pub slots : (i f : ℕ) → (i ≡ k → ⊥) → w (sl i f) ≡ v (sl i f)
+
+module _ (m : Mem) (v w : Spot → ℕ) (t : Table) (z : Seen m v t) (o : Sound till t (t .free)) (k : ℕ) (x : Slot) (h : Within v w k)
+    (was : isBusy (t .slots k) ≡ true) (now : isBusy x ≡ true) (gen : generation x ≡ generation (t .slots k)) (is : slotV m w k ≡ x) where
+  other-slots : (i : ℕ) → (i ≡ k → ⊥) → slotV m w i ≡ slotV m v i
+  other-slots i n = rw (h .heads 5, h .pages (i / 64) 0, h .slots i 0 n, h .slots i 1 n, h .slots i 2 n, h .slots i 3 n, h .slots i 4 n)
+
+  busy-same : (p : ℕ) → busyOf till (put (t .slots) k x) p ≡ busyOf till (t .slots) p
+  busy-same p = busy-other till till-sane (put (t .slots) k x) (t .slots) p (λ i e l. bool (eqb i k) (λ d. rw (d, eqb-true i k d, was) now) (λ d. rw d))
+
+  -- a slot of the free order is another
+  free-other : (i : ℕ) → 0 < occurs i (t .free) → i ≡ k → ⊥
+  free-other i q e = let y : isVacant (t .slots i) ≡ false = rw e (busy-vacant (t .slots k) was) in clash (free-vacant t o i q) y
+
+  pub keep-seen : Seen m w (place till t k x)
+  unfolding place
+  keep-seen = record {
+    limit = h .heads 0 ∙ z .limit;
+    mask = h .heads 1 ∙ z .mask;
+    life = rw (h .heads 2, h .heads 3) (z .life);
+    epoch = h .heads 4 ∙ z .epoch;
+    size = h .heads 5 ∙ z .size;
+    frame = λ p l. h .pages p 0 ∙ z .frame p l ∙ ap linkOf (sym (place-alike till t k x .frame p));
+    high = λ p l. h .pages p 1 ∙ z .high p l ∙ bool (eqb p (k / 64))
+        (λ e. rw (e, eqb-true p (k / 64) e) (omega (arith, gen, o .generations k (busy-there (t .slots k) was) .2)))
+        (λ e. rw e);
+    busy = λ p l a. h .pages p 2 ∙ z .busy p l (sym (ap isSome (place-alike till t k x .frame p)) ∙ a) ∙ sym (busy-same p);
+    slots = λ i. bool (eqb i k)
+        (λ e. rw (e, eqb-true i k e) is)
+        (λ e. rw e (other-slots i (eqb-false i k e) ∙ z .slots i));
+    free = rw (h .heads 6) (chain-frame (λ i. v (sl i 2)) (λ i. v (sl i 3)) _ _ (v (hd 6)) 0 (t .free) (z .free)
+        (λ i q. (h .slots i 2 (free-other i q), h .slots i 3 (free-other i q))));
+    freeCount = h .heads 7 ∙ z .freeCount;
+    empty = rw (was, now, h .heads 8) (chain-frame (λ p. v (pg p 3)) (λ p. v (pg p 4)) _ _ (v (hd 8)) 0 (t .empty) (z .empty) (λ p q. (h .pages p 3, h .pages p 4)));
+    detached = rw (h .heads 9) (linked-frame (λ p. v (pg p 3)) _ (v (hd 9)) (t .detached) (z .detached) (λ p q. h .pages p 3));
+  }
+
+module _ (m : Mem) (v : Spot → ℕ) (t : Table) (z : Seen m v t) (o : Sound till t (t .free)) (k : ℕ) (was : isBusy (t .slots k) ≡ true) where
+  pub move-within : (r j : ℕ) → Within v (moveV v k r j) k
+  unfolding moveP
+  move-within r j = record {
+    heads = λ f. refl;
+    pages = λ p f. refl;
+    slots = λ i f n. rw (ne-eqb (suc k) (suc i) (λ y. n (omega arith)), and-false (eqb f 0), and-false (eqb f 2), and-false (eqb f 3));
+  }
+
+  pub occupy-within : (a r f : ℕ) → Within v (occupyV v k a r f) k
+  unfolding occupyP
+  occupy-within a r f = record {
+    heads = λ g. refl;
+    pages = λ p g. refl;
+    slots = λ i g n. rw (ne-eqb (suc k) (suc i) (λ y. n (omega arith)), and-false (eqb g 0), and-false (eqb g 2), and-false (eqb g 3), and-false (eqb g 4));
+  }
+
+  -- TransferReserved by position j of the row in place r
+  pub move-seen : (r j : ℕ) → Seen m (moveV v k r j) (keep till (λ g. transferReserved g (m (row r 0))) t k)
+  unfolding moveP
+  move-seen r j = let here : isAbsent (t .slots k) ≡ false = busy-there (t .slots k) was in
+      let e : slotV m (moveV v k r j) k ≡ transferReserved (generation (t .slots k)) (m (row r 0)) =
+      rw (eq-eqb (suc k) (suc k) refl, slot-gen m v t z k here) (framed-is (frameV v k) (transferReserved (v (sl k 1)) (m (row r 0))) (slot-there m v t z k here)) in
+      keep-seen m v (moveV v k r j) t z o k (transferReserved (generation (t .slots k)) (m (row r 0))) (move-within r j) was refl refl e
+
+  -- occupied by a handle
+  pub occupy-seen : (a r f : ℕ) → Seen m (occupyV v k a r f) (keep till (λ g. occupied g (record { object = a; rights = r; flags = f })) t k)
+  unfolding occupyP
+  occupy-seen a r f = let here : isAbsent (t .slots k) ≡ false = busy-there (t .slots k) was in
+      let x : Handle = record { object = a; rights = r; flags = f } in
+      let e : slotV m (occupyV v k a r f) k ≡ occupied (generation (t .slots k)) x =
+      rw (eq-eqb (suc k) (suc k) refl, slot-gen m v t z k here) (framed-is (frameV v k) (occupied (v (sl k 1)) x) (slot-there m v t z k here)) in
+      keep-seen m v (occupyV v k a r f) t z o k (occupied (generation (t .slots k)) x) (occupy-within a r f) was refl refl e

@@ -1,0 +1,11 @@
+pub mod Order
+pub mod Sight
+pub mod Slots
+pub mod Ops
+pub mod Vacate
+pub mod Take
+pub mod Keep
+pub mod Turns
+pub mod Code
+pub mod Whole
+pub mod Reps

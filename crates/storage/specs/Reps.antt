@@ -1,0 +1,170 @@
+-- The operations on a table in the state: words that represent a state come to represent the model's state after the operation. Assumes nothing.
+use mathlib.Core.Path.{_≡_, refl, sym, ap, _∙_}
+use mathlib.Core.Bool.{Bool, true, false}
+use mathlib.Core.Logic.{_⊎_, ⊎-elim}
+use mathlib.Core.List.{List, [], _∷_}
+use Prim.Native.Nat.{ℕ, suc, _+_, _-_, _/_, _≤_, _<_}
+use native.Mathlib.Omega.{arith}
+use lib.ListN.{length}
+use lib.Dec.{eqb}
+use borrow.Author.Tests.{eqb-true, eqb-false, eq-eqb, ne-eqb}
+use Rattle.words.specs.Pick.{bool, clash}
+use Rattle.codec.specs.Codec.{nextGeneration, generationLimit}
+use Rattle.model.specs.Base.{put, pick}
+use Rattle.model.specs.State.{till, Handle, Slot, Slot.absent, Slot.vacant, Slot.reserved, Slot.transferReserved, Slot.occupied, Table, State, generation, isBusy, isVacant, isAbsent}
+use Rattle.model.specs.Storage.{withFree, place, keep, vacate}
+use Rattle.model.specs.Change.{withTable}
+use Rattle.invariant.specs.Pointwise.{Alike, place-alike, place-slots, vacate-alike, vacate-slots}
+use Rattle.invariant.specs.Pages.{till-sane, vacant-there}
+use Rattle.invariant.specs.Orders.{Sound, order-is, good-of, with-order, place-taken, keep-sound, vacate-good}
+use Rattle.layout.specs.declared.Shape.{Shape}
+use Rattle.layout.specs.Layout.{Addr.reg, Mem, total, root, head, rank, row, item, load}
+use Rattle.layout.specs.ShapeOf.{Shaped, Roots, roots-kept}
+use Rattle.representation.specs.Represents.{slotWord, isMarked, TableIs, Represents, Reps}
+use Rattle.storage.specs.Order.{same?, occurs-head}
+use Rattle.storage.specs.Sight.{Spot, Spot.hd, Spot.pg, Spot.sl, look, OnlyTable}
+use Rattle.storage.specs.Slots.{see, free-vacant}
+use Rattle.storage.specs.Ops.{vacateW, takeW, moveW, occupyW}
+use Rattle.storage.specs.Take.{taken, reserved-mark}
+use Rattle.storage.specs.Keep.{moving-mark}
+use Rattle.storage.specs.Turns.{Turns, Ready, vacate-turns, take-turns, move-turns, occupy-turns}
+use Rattle.storage.specs.Whole.{Placed, placed-with, fit-of, off-table, MarkIs, mark-kept, with-table}
+
+-- words that represent a state whose tables are in place: what each operation keeps
+pub record Held (ws : List ℕ) (sh : Shape) (s : State) : Type 0 where
+  pub reps : Reps ws sh s
+  pub placed : Placed s
+
+pub ready-of : (ws : List ℕ) (sh : Shape) (s : State) → Held ws sh s → (b : ℕ) → b < s .tableCount → Ready ws sh b (s .tables b)
+ready-of ws sh s h b l = record {
+  room = h .reps .shaped .room;
+  fit = fit-of sh (load ws sh) s (h .reps .memory) (h .placed) b l;
+  table = h .reps .memory .tables b l;
+  sound = h .placed .sound b l;
+}
+
+marked-full : (x : Slot) → isMarked x ≡ true → isVacant x ≡ false
+marked-full absent e = refl
+marked-full (vacant g) e = clash e refl
+marked-full (reserved g i) e = refl
+marked-full (transferReserved g i) e = refl
+marked-full (occupied g h) e = refl
+
+-- position j of the row in place x names slot k of table b; field f of the item does
+pub record Names (m : Mem) (s : State) (b k x j f : ℕ) : Type 0 where
+  pub place : x < s .book .capacity
+  pub used : m (rank x) < length (s .book .rows)
+  pub within : j < m (row x 3)
+  pub table : m (row x 2) ≡ b
+  pub slot : m (item x j f) ≡ k
+
+module _ (ws ws′ : List ℕ) (sh : Shape) (s : State) (h : Held ws sh s) (b : ℕ) (l : b < s .tableCount) (k : ℕ) (c : ℕ → ℕ) (u : Table)
+    (turn : Turns ws ws′ sh b (s .tables b) k c u) where
+  off : (r y f x : ℕ) → (r ≡ 1 → ⊥) → (r ≡ 2 → ⊥) → (r ≡ 7 → ⊥) → load ws′ sh (reg r x y f) ≡ load ws sh (reg r x y f)
+  off r y f x = off-table b (load ws sh) (load ws′ sh) (turn .only) r x y f
+
+  off-rank : (i : ℕ) → load ws′ sh (rank i) ≡ load ws sh (rank i)
+  off-rank i = off 9 0 1 i (λ e. omega arith) (λ e. omega arith) (λ e. omega arith)
+
+  off-row : (x f : ℕ) → load ws′ sh (row x f) ≡ load ws sh (row x f)
+  off-row x f = off 10 0 f x (λ e. omega arith) (λ e. omega arith) (λ e. omega arith)
+
+  off-item : (x j f : ℕ) → load ws′ sh (item x j f) ≡ load ws sh (item x j f)
+  off-item x j f = off 10 (suc j) f x (λ e. omega arith) (λ e. omega arith) (λ e. omega arith)
+
+  -- a mark that the slot's words name
+  pub mark-is : (x j f tag : ℕ) → c 0 ≡ tag → c 2 ≡ x → c 3 ≡ j → f ≡ tag - 1 → Names (load ws sh) s b k x j f → MarkIs (load ws′ sh) s b k
+  mark-is x j f tag e₀ e₂ e₃ d p =
+      go (slotWord (load ws′ sh) b k 0) (slotWord (load ws′ sh) b k 2) (slotWord (load ws′ sh) b k 3) (turn .slot 0 ∙ e₀) (turn .slot 2 ∙ e₂) (turn .slot 3 ∙ e₃)
+    where
+      go : (a₀ a₂ a₃ : ℕ) → a₀ ≡ tag → a₂ ≡ x → a₃ ≡ j
+          → (a₂ < s .book .capacity) × (load ws′ sh (rank a₂) < length (s .book .rows)) × (a₃ < load ws′ sh (row a₂ 3)) × (load ws′ sh (row a₂ 2) ≡ b) × (load ws′ sh (item a₂ a₃ (a₀ - 1)) ≡ k)
+      go a₀ a₂ a₃ q₀ q₂ q₃ = rw (q₀, q₂, q₃) (p .place, rw (off-rank x) (p .used), rw (off-row x 3) (p .within), off-row x 2 ∙ p .table, rw (off-item x j (tag - 1), ← d) (p .slot))
+
+  -- a turn of one table, in the state
+  pub turned : Alike till (s .tables b) u → Sound till u (u .free) → ((j : ℕ) → (j ≡ k → ⊥) → u .slots j ≡ s .tables b .slots j)
+      → (isMarked (u .slots k) ≡ true → MarkIs (load ws′ sh) s b k) → Held ws′ sh (withTable s b u)
+  turned al sound others mark = record {
+    reps = record {
+      shaped = let q = h .reps .shaped in record {
+        limits = q .limits;
+        room = omega (arith, turn .long, q .room);
+        roots = roots-kept sh (load ws sh) (load ws′ sh) (λ f. off 0 0 f 0 (λ e. omega arith) (λ e. omega arith) (λ e. omega arith)) (q .roots);
+      };
+      memory = with-table sh (load ws sh) s (h .reps .memory) (h .placed) b l (load ws′ sh) (turn .only) u (turn .table) al
+          (λ j e. ⊎-elim
+          (λ (d : j ≡ k). let e′ : isMarked (u .slots k) ≡ true = rw d at e in rw d (mark e′))
+          (λ (d : j ≡ k → ⊥). let i : isMarked (s .tables b .slots j) ≡ true = rw (others j d) at e in
+          let w : (f : ℕ) → slotWord (load ws′ sh) b j f ≡ slotWord (load ws sh) b j f = λ f. turn .others j f d (marked-full (s .tables b .slots j) i) in
+          mark-kept (load ws sh) (load ws′ sh) s b j off-rank off-row off-item (w 0) (w 2) (w 3) (h .reps .memory .book .marks b j l i))
+          (same? j k));
+    };
+    placed = placed-with s b u (h .placed) sound al;
+  }
+
+put-off : (f : ℕ → Slot) (k : ℕ) (x : Slot) (j : ℕ) → (j ≡ k → ⊥) → put f k x j ≡ f j
+put-off f k x j n = rw (ne-eqb j k n)
+
+put-on : (f : ℕ → Slot) (k : ℕ) (x : Slot) → put f k x k ≡ x
+put-on f k x = rw (eq-eqb k k refl)
+
+take-sound : (t : Table) (k : ℕ) (ks : List ℕ) → t .free ≡ k ∷ ks → Sound till t (t .free) → (y : Slot)
+    → (1 ≤ generation y) × (generation y ≤ generationLimit) → isBusy y ≡ true → Sound till (place till (withFree t ks) k y) (place till (withFree t ks) k y .free)
+unfolding place
+take-sound t k ks first o y g d = place-taken till till-sane (withFree t ks) ks k y (with-order till t (k ∷ ks) (order-is till t (t .free) (k ∷ ks) first o) ks) d g
+
+keep-good : (f : ℕ → Slot) → ((g : ℕ) → isBusy (f g) ≡ true) → ((g : ℕ) → generation (f g) ≡ g) → (t : Table) (k : ℕ) → Sound till t (t .free) → isBusy (t .slots k) ≡ true
+    → Sound till (keep till f t k) (keep till f t k .free)
+unfolding place
+keep-good f p q t k o was = keep-sound till till-sane f p q t (t .free) k o was
+
+module _ (ws : List ℕ) (sh : Shape) (s : State) (h : Held ws sh s) (b : ℕ) (l : b < s .tableCount) where
+  -- VACATE
+  pub vacate-held : (k : ℕ) → isBusy (s .tables b .slots k) ≡ true → Held (vacateW ws sh b k) sh (withTable s b (vacate till (s .tables b) k))
+  vacate-held k was = let t : Table = s .tables b in
+      turned ws (vacateW ws sh b k) sh s h b l k _ (vacate till t k) (vacate-turns ws sh b t (ready-of ws sh s h b l) k was)
+      (vacate-alike till t k) (vacate-good till till-sane t k (h .placed .sound b l) was)
+      (λ j n. ap (λ (f : ℕ → Slot). f j) (vacate-slots till t k) ∙ put-off (t .slots) k (vacant (nextGeneration (generation (t .slots k)))) j n)
+      (λ e. let q : vacate till t k .slots k ≡ vacant (nextGeneration (generation (t .slots k)))
+      = ap (λ (f : ℕ → Slot). f k) (vacate-slots till t k) ∙ put-on (t .slots) k (vacant (nextGeneration (generation (t .slots k)))) in
+      clash (sym (ap isMarked q) ∙ e) refl)
+
+  -- TAKE: the row in place x names the slot
+  pub take-held : (k : ℕ) (ks : List ℕ) (x j : ℕ) → s .tables b .free ≡ k ∷ ks → Names (load ws sh) s b k x j 0
+      → Held (takeW ws sh b k x j) sh (withTable s b (taken (s .tables b) k ks (load ws sh (row x 0))))
+  take-held k ks x j first p = let t : Table = s .tables b in
+      let o : Sound till t (t .free) = h .placed .sound b l in
+      let y : Slot = reserved (generation (t .slots k)) (load ws sh (row x 0)) in
+      let u : Table = taken t k ks (load ws sh (row x 0)) in
+      let here : isAbsent (t .slots k) ≡ false = vacant-there (t .slots k) (free-vacant t o k (rw first (occurs-head k ks))) in
+      let turn = take-turns ws sh b t (ready-of ws sh s h b l) k ks first x j in
+      let mk = reserved-mark (look (load ws sh) b) k x j in
+      let a = place-alike till (withFree t ks) k y in
+      turned ws (takeW ws sh b k x j) sh s h b l k _ u turn
+      (record { limit = a .limit; mask = a .mask; life = a .life; epoch = a .epoch; size = a .size; detached = a .detached; frame = a .frame })
+      (take-sound t k ks first o y (good-of till till-sane t (t .free) o k here) refl)
+      (λ i n. ap (λ (f : ℕ → Slot). f i) (place-slots till (withFree t ks) k y) ∙ put-off (t .slots) k y i n)
+      (λ e. mark-is ws (takeW ws sh b k x j) sh s h b l k _ u turn x j 0 1 (mk .0) (mk .1) (mk .2) (omega arith) p)
+
+  -- MOVE: the row in place x names the slot
+  pub move-held : (k x j : ℕ) → isBusy (s .tables b .slots k) ≡ true → Names (load ws sh) s b k x j 1
+      → Held (moveW ws sh b k x j) sh (withTable s b (keep till (λ g. transferReserved g (load ws sh (row x 0))) (s .tables b) k))
+  move-held k x j was p = let t : Table = s .tables b in
+      let y : Slot = transferReserved (generation (t .slots k)) (load ws sh (row x 0)) in
+      let turn = move-turns ws sh b t (ready-of ws sh s h b l) k was x j in
+      let mk = moving-mark (look (load ws sh) b) k x j in
+      turned ws (moveW ws sh b k x j) sh s h b l k _ (place till t k y) turn (place-alike till t k y)
+      (keep-good (λ g. transferReserved g (load ws sh (row x 0))) (λ g. refl) (λ g. refl) t k (h .placed .sound b l) was)
+      (λ i n. ap (λ (f : ℕ → Slot). f i) (place-slots till t k y) ∙ put-off (t .slots) k y i n)
+      (λ e. mark-is ws (moveW ws sh b k x j) sh s h b l k _ (place till t k y) turn x j 1 2 (mk .0) (mk .1) (mk .2) (omega arith) p)
+
+  -- OCCUPY
+  pub occupy-held : (k : ℕ) (x : Handle) → isBusy (s .tables b .slots k) ≡ true
+      → Held (occupyW ws sh b k (x .object) (x .rights) (x .flags)) sh (withTable s b (keep till (λ g. occupied g x) (s .tables b) k))
+  occupy-held k x was = let t : Table = s .tables b in
+      let y : Slot = occupied (generation (t .slots k)) x in
+      turned ws (occupyW ws sh b k (x .object) (x .rights) (x .flags)) sh s h b l k _ (place till t k y)
+      (occupy-turns ws sh b t (ready-of ws sh s h b l) k was (x .object) (x .rights) (x .flags)) (place-alike till t k y)
+      (keep-good (λ g. occupied g x) (λ g. refl) (λ g. refl) t k (h .placed .sound b l) was)
+      (λ i n. ap (λ (f : ℕ → Slot). f i) (place-slots till t k y) ∙ put-off (t .slots) k y i n)
+      (λ e. clash (sym (ap isMarked (ap (λ (f : ℕ → Slot). f k) (place-slots till t k y) ∙ put-on (t .slots) k y)) ∙ e) refl)
