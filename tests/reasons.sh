@@ -11,7 +11,7 @@ for edit in crates/*/must-fail/*.edit; do
   label=$(basename "$edit" .edit)
   log=target/must-fail/$crate/$label/.log
   first=$(grep -m 1 -E 'error|it is not proved that what the function ensures holds' "$log" 2>/dev/null)
-  if [ -z "$first" ] || echo "$first" | grep -qE 'can be named from here|is not in scope|cannot be parsed|Parse|expected `[^`]*` to close|`decide-fits`|operand is missing'; then
+  if [ -z "$first" ] || echo "$first" | grep -qE 'can be named from here|is not in scope|cannot be parsed|Parse|expected `[^`]*` to close|`decide-fits`|operand is missing|no occurrence of'; then
     wrong=$((wrong + 1))
     echo "$crate/$label: ${first:-no error in its log}" | cut -c1-300
   fi
