@@ -11,6 +11,7 @@ pool (`frames 8`, `rows 8`) or a request (`reserve table=0 count=1`); an item of
 import os
 import re
 import shutil
+import signal
 import subprocess
 import sys
 import tempfile
@@ -175,4 +176,5 @@ def main():
         sys.exit(f"run.py: {fault}")
 
 
+signal.signal(signal.SIGPIPE, signal.SIG_DFL)  # ends quietly where its reader stops reading
 main()
