@@ -1,2 +1,3 @@
+pub mod All
 pub mod Pick
 pub mod Words
