@@ -1,13 +1,15 @@
 #!/usr/bin/env python3
 """Runs a list of requests, written in words, on a fresh state and prints what was asked and what was answered.
 
-  ./run.py [FILE]      default: examples/two-counters.txt
+  ./run.py [--oracle] [FILE]      default: examples/old-value.txt
 
-The list is turned into the words of docs/formats.md and run by the oracle: on the Rust where its sources stand beside the repository, else on the plain
-reading of document 01. A line of FILE is a table (`table pages=4 seed=0`), an object (`object koid=70 kind=3 class=0 rights=15 exportable=1 limit=100`), the
+The list is turned into the words of docs/formats.md and run by the proved code, through its C calls; the first time, that code is proved and compiled, which
+takes some minutes. With --oracle it is run by the oracle instead: on the Rust where its sources stand beside the repository, else on the plain reading of
+document 01. A line of FILE is a table (`table pages=4 seed=0`), an object (`object koid=70 kind=3 class=0 rights=15 exportable=1 limit=100`), the
 pool (`frames 8`, `rows 8`) or a request (`reserve table=0 count=1`); an item of a publish or a transfer follows its request on a line that starts with `-`
 (`- parcel id=1`, `- move value=V rights=3`, `- copy value=V rights=1`). A value can be given as `@N`, the first value of the answer to request N, or `@N.K`.
 """
+import ctypes
 import os
 import re
 import shutil
@@ -92,6 +94,72 @@ def expand(text):
     return out
 
 
+class Port:
+    """The proved code, behind its C calls (c/gurtxozal.h)."""
+
+    name = "the proved code"
+
+    def __init__(self, create):
+        folder = root / "target" / "staticlib"
+        for crate in ("create", "runner"):
+            if not (folder / f"lib{crate}.a").is_file():
+                if shutil.which("rt") is None:
+                    raise Fault(f"{folder}/lib{crate}.a is not there, and the Rattle toolchain's command 'rt', which makes it, is not on the PATH")
+                print(f"proving and compiling the crate {crate}, once; this takes some minutes", file=sys.stderr)
+                made = subprocess.run(["rt", "staticlib", crate], cwd=root, capture_output=True, text=True)
+                if made.returncode != 0:
+                    raise Fault(made.stdout[-2000:] + made.stderr[-2000:])
+        with tempfile.TemporaryDirectory() as work:
+            shared = f"{work}/gurtxozal.so"
+            parts = [str(folder / f"lib{crate}.a") for crate in ("create", "runner")]
+            linked = subprocess.run(["cc", "-shared", "-o", shared, "-Wl,--whole-archive", *parts, "-Wl,--no-whole-archive"], capture_output=True, text=True)
+            if linked.returncode != 0:
+                raise Fault(linked.stderr)
+            self.library = ctypes.CDLL(shared)
+        for call in (self.library.gurtxozal_create, self.library.gurtxozal_run):
+            call.restype = ctypes.c_uint64
+        tables, frames, objects, rows = create[:4]
+        pages = sum(create[4 : 4 + 2 * tables : 2])
+        words = 16 + 16 * tables + 5 * pages + frames + -(-frames // 16) - (-frames // 256) - (-frames // 4096) + 384 * frames + 8 * objects + 392 * rows
+        self.state = (ctypes.c_uint64 * words)()
+        if self.call(self.library.gurtxozal_create, self.state, self.words(create)) != 0:
+            raise Fault("creation gives 18: a parameter is outside its limits (docs/formats.md)")
+
+    def words(self, numbers):
+        return (ctypes.c_uint64 * len(numbers))(*numbers)
+
+    def call(self, function, *slices):
+        return function(*[x for words in slices for x in (words, ctypes.c_size_t(len(words)))])
+
+    def run(self, words):
+        answer = self.words([0] * 72)
+        return self.call(self.library.gurtxozal_run, self.state, self.words(words), answer), list(answer)
+
+
+class Oracle:
+    """The oracle, which runs the lists so far again from creation."""
+
+    def __init__(self, create):
+        if shutil.which("cargo") is None:
+            raise Fault("cargo is not on the PATH, and the oracle is built with it")
+        build = subprocess.run(["cargo", "build", "--release", "--offline", "--quiet"], cwd=root / "oracle", capture_output=True, text=True)
+        if build.returncode != 0:
+            raise Fault(build.stderr)
+        target = Path(os.environ.get("CARGO_TARGET_DIR", root / "oracle" / "target"))
+        self.program = str(target / "release" / "oracle")
+        rust = subprocess.run([self.program, "sources"], capture_output=True, text=True)
+        self.subject = "rust" if rust.returncode == 0 and "authority" in rust.stdout else "reading"
+        self.name = "the Rust" if self.subject == "rust" else "the plain reading of document 01"
+        self.create, self.lists = create, []
+
+    def run(self, words):
+        results, found = oracle(self.program, self.create, self.lists + [words], self.subject)
+        if results[-1] != 0:
+            return results[-1], [0] * 72
+        self.lists.append(words)
+        return 0, found[-1]
+
+
 def oracle(program, create, lists, subject):
     text = "create " + " ".join(f"{w:x}" for w in create) + "\n" + "".join(" ".join(f"{w:x}" for w in l) + "\n" for l in lists)
     with tempfile.NamedTemporaryFile("w", suffix=".txt") as work:
@@ -142,36 +210,30 @@ def parse(path):
 
 
 def main():
-    path = Path(sys.argv[1]) if len(sys.argv) > 1 else root / "examples" / "two-counters.txt"
-    if len(sys.argv) > 2 or not path.is_file():
-        sys.exit(f"usage: run.py [FILE]{'' if len(sys.argv) > 2 else f': {path} cannot be read'}")
-    if shutil.which("cargo") is None:
-        sys.exit("run.py: cargo is not on the PATH, and the oracle is built with it")
-    build = subprocess.run(["cargo", "build", "--release", "--offline", "--quiet"], cwd=root / "oracle", capture_output=True, text=True)
-    if build.returncode != 0:
-        sys.exit(build.stderr)
-    target = Path(os.environ.get("CARGO_TARGET_DIR", root / "oracle" / "target"))
-    program = str(target / "release" / "oracle")
+    words = sys.argv[1:]
+    runs = Port
+    if words[:1] == ["--oracle"]:
+        runs, words = Oracle, words[1:]
+    path = Path(words[0]) if words else root / "examples" / "old-value.txt"
+    if len(words) > 1 or not path.is_file():
+        sys.exit(f"usage: run.py [--oracle] [FILE]{'' if len(words) > 1 else f': {path} cannot be read'}")
     try:
         create, requests = parse(path)
-        rust = subprocess.run([program, "sources"], capture_output=True, text=True)
-        subject = "rust" if rust.returncode == 0 and "authority" in rust.stdout else "reading"
-        print(f"{path.name}, on the {'Rust' if subject == 'rust' else 'plain reading of document 01'}")
-        lists, answers = [], []
+        subject = runs(create)
+        print(f"{path.name}, on {subject.name}")
+        answers = []
         for n, (op, line, fields, items) in enumerate(requests, 1):
             words = record([("op", str(OPS.index(op)))] + fields + ([("count", str(len(items)))] if op in ("publish", "prepare_transfer") else []), answers)
             for kind, item in items:
                 words += record([("op", "1" if kind == "copy" else "0")] + item, answers)
-            lists.append(words)
-            results, found = oracle(program, create, lists, subject)
             print(f"{n:3} {line}" + "".join(f"\n      - {kind} {' '.join('='.join(f) for f in item)}" for kind, item in items))
-            if results[-1] != 0:
-                print(f"      {results[-1]} {NUMBERS[results[-1]]}: the whole call")
-                lists.pop()
-                answers.append((op, [results[-1]] + [0] * 71))
-                continue
-            answers.append((op, found[-1]))
-            print("      " + told(op, found[-1]))
+            result, answer = subject.run(words)
+            if result != 0:
+                print(f"      {result} {NUMBERS[result]}: the whole call")
+                answer = [result] + [0] * 71
+            else:
+                print("      " + told(op, answer))
+            answers.append((op, answer))
     except Fault as fault:
         sys.exit(f"run.py: {fault}")
 

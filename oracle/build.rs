@@ -31,6 +31,8 @@ fn write(path: &Path, text: &[u8]) {
 
 fn main() {
     println!("cargo::rustc-check-cfg=cfg(rust_sources)");
+    println!("cargo::rustc-check-cfg=cfg(port)");
+    println!("cargo::rerun-if-env-changed=ORACLE_PORT");
     println!("cargo::rerun-if-env-changed=ORACLE_RUST_SOURCES");
     println!("cargo::rerun-if-changed=build.rs");
     println!("cargo::rerun-if-changed=src/stand_ins");
@@ -38,6 +40,16 @@ fn main() {
     let manifest = PathBuf::from(env::var_os("CARGO_MANIFEST_DIR").expect("cargo sets CARGO_MANIFEST_DIR"));
     let out = PathBuf::from(env::var_os("OUT_DIR").expect("cargo sets OUT_DIR"));
     let repository = manifest.parent().expect("oracle/ stands in the repository");
+    // The port: static libraries in the folder that ORACLE_PORT names.
+    if let Some(folder) = env::var_os("ORACLE_PORT").map(PathBuf::from).filter(|folder| !folder.as_os_str().is_empty()) {
+        let folder = repository.join(folder);
+        println!("cargo::rustc-cfg=port");
+        println!("cargo::rustc-link-search=native={}", folder.display());
+        for name in ["create", "runner"] {
+            println!("cargo::rustc-link-lib=static={name}");
+            println!("cargo::rerun-if-changed={}", folder.join(format!("lib{name}.a")).display());
+        }
+    }
     let given = env::var_os("ORACLE_RUST_SOURCES").map(PathBuf::from);
     let place = repository.join(given.clone().unwrap_or_else(|| PathBuf::from("../shared/docs/src")));
 

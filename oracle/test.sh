@@ -29,7 +29,7 @@ bad() {
     echo "WRONG $1"
 }
 
-for name in cases states plain edges scrambled last-page; do
+for name in cases states plain edges scrambled last-page served; do
     if grep -q '^case ' "$recorded/$name.txt" 2>/dev/null; then
         good "recorded/$name.txt has cases"
     else

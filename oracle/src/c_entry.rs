@@ -1,19 +1,29 @@
-//! A subject behind two C calls over lent words, as the runner will be. Until the runner is there, the reading stands behind the same
-//! two calls, so that everything the comparison needs of words is tried now: parameters, state, lists and answers as words, and the
-//! state shown by the second reader.
+//! A subject behind two C calls over lent words: the port, or the reading, which tries the comparison itself. Parameters, state, lists
+//! and answers are words, and the state is shown by the second reader.
 
 use crate::reading::{Reading, Slip};
 use crate::second_reader;
 use crate::subject::{Start, Subject};
 use crate::words;
 
-/// Creation: parameters, state words; the result.
-pub type CreateCall = unsafe extern "C" fn(*const u64, usize, *mut u64, usize) -> u64;
+/// Creation: state words, parameters; the result.
+pub type CreateCall = unsafe extern "C" fn(*mut u64, usize, *const u64, usize) -> u64;
 /// A list: state words, list words, answer words; the result.
 pub type RunCall = unsafe extern "C" fn(*mut u64, usize, *const u64, usize, *mut u64, usize) -> u64;
 
 /// Words past the need, which every call must leave alone.
 const PAST: [u64; 3] = [0x1111_2222_3333_4444, u64::MAX, 0x5A5A_5A5A_5A5A_5A5A];
+
+#[cfg(port)]
+unsafe extern "C" {
+    fn gurtxozal_create(state: *mut u64, state_length: usize, parameters: *const u64, parameters_length: usize) -> u64;
+    fn gurtxozal_run(state: *mut u64, state_length: usize, list: *const u64, list_length: usize, answers: *mut u64, answers_length: usize) -> u64;
+}
+
+/// The ops that the port's runner serves; every other op is unknown to it (19).
+pub fn served(op: u64) -> bool {
+    matches!(op, 1..=13 | 24)
+}
 
 pub struct CEntry {
     create: CreateCall,
@@ -26,9 +36,19 @@ impl CEntry {
     pub fn new(create: CreateCall, run: RunCall) -> Self {
         Self { create, run, state: Vec::new(), broken: None }
     }
+    /// The port, through its C entry.
+    #[cfg(port)]
+    pub fn of_the_port() -> Self {
+        Self::new(gurtxozal_create, gurtxozal_run)
+    }
     /// The reading behind words.
     pub fn of_the_reading() -> Self {
         Self::new(reading_create, reading_run)
+    }
+    /// A list on lent words, and nothing else.
+    pub fn bare(&mut self, state: &mut [u64], list: &[u64], answers: &mut [u64]) -> u64 {
+        // The slices are lent for the call alone.
+        unsafe { (self.run)(state.as_mut_ptr(), state.len(), list.as_ptr(), list.len(), answers.as_mut_ptr(), answers.len()) }
     }
     fn past_is_kept(&mut self) {
         if !self.state.ends_with(&PAST) {
@@ -56,7 +76,7 @@ impl Subject for CEntry {
                 self.state.extend(PAST);
                 let before = self.state.clone();
                 // The slices are lent for the call alone.
-                let result = unsafe { (self.create)(params.as_ptr(), params.len(), self.state.as_mut_ptr(), self.state.len()) };
+                let result = unsafe { (self.create)(self.state.as_mut_ptr(), self.state.len(), params.as_ptr(), params.len()) };
                 if result != 0 && self.state != before {
                     self.broken = Some("a refused creation changed a word".to_string());
                 }
@@ -92,7 +112,7 @@ impl Subject for CEntry {
     }
 }
 
-unsafe extern "C" fn reading_create(params: *const u64, params_len: usize, state: *mut u64, state_len: usize) -> u64 {
+unsafe extern "C" fn reading_create(state: *mut u64, state_len: usize, params: *const u64, params_len: usize) -> u64 {
     let (params, state) = unsafe { (std::slice::from_raw_parts(params, params_len), std::slice::from_raw_parts_mut(state, state_len)) };
     let Some(made) = words::create(params) else { return 18 };
     let words = words::encode(&made);

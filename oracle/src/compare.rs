@@ -5,7 +5,7 @@ use std::collections::BTreeMap;
 use crate::check::explained;
 use crate::tally::Tally;
 use crate::coverage::Coverage;
-use crate::generate::{KINDS, Kind, Sequence, last_call, sequence, shrink};
+use crate::generate::{KINDS, Kind, Sequence, Served, last_call, sequence_of, shrink};
 use crate::oracle::Oracle;
 use crate::requests::{ANSWER, NAMES, read_list};
 use crate::second_reader;
@@ -14,9 +14,15 @@ use crate::subject::{Call, FILL, Runs, Start, Trace, difference};
 use crate::words;
 
 pub struct Settings {
+    /// The command's name, for its lines.
+    pub name: &'static str,
     pub seed: u64,
     pub requests: u64,
     pub length: usize,
+    /// The ops in the lists.
+    pub served: Served,
+    /// Whether every possible pair of a served request and a number must occur.
+    pub covers: bool,
 }
 
 pub fn show(start: &Start, calls: &[Call]) {
@@ -48,7 +54,7 @@ pub fn random(settings: &Settings, mut other: Option<&mut dyn Runs>, tally: &mut
             _ => Kind::Scrambled,
         };
         let length = if kind == Kind::LastPage { 30 } else { settings.length };
-        let Sequence { start, calls, trace } = sequence(seed, kind, length);
+        let Sequence { start, calls, trace } = sequence_of(seed, kind, length, settings.served);
         per_kind[kind as usize] += 1;
         let found = oracle.run(&start, &calls);
         let compared = match other.as_mut() {
@@ -123,8 +129,8 @@ pub fn random(settings: &Settings, mut other: Option<&mut dyn Runs>, tally: &mut
         }
     }
     let whole = other.is_none();
-    let (unseen, strange) = if whole { coverage.print() } else { (0, 0) };
-    let name = if whole { "random" } else { "entry" };
+    let (unseen, strange) = if settings.covers { coverage.print(settings.served) } else { (0, 0) };
+    let name = settings.name;
     let stopped: u64 = violations.values().sum();
     for (why, count) in &violations {
         println!("not comparable: {count} lists ended at an explained invariant_violation: {why}");
@@ -140,10 +146,12 @@ pub fn random(settings: &Settings, mut other: Option<&mut dyn Runs>, tally: &mut
         ),
     );
     tally.line(unexplained == 0, &format!("{name}: {unexplained} unexplained invariant_violation, {stopped} explained"));
+    if settings.covers {
+        tally.line(unseen == 0 && strange == 0, &format!("{name}: coverage, {unseen} possible cells unseen, {strange} impossible cells seen"));
+    }
     if !whole {
         return;
     }
-    tally.line(unseen == 0 && strange == 0, &format!("random: coverage, {unseen} possible cells unseen, {strange} impossible cells seen"));
     tally.line(reader_faults == 0, &format!("random: {readers} end states through their words: the second reader's text equals the driver's"));
     tally.line(lists > 0 && loads > 0 && differences == 0, &format!("random: {lists} lists run as one call, {loads} states loaded from words: the same answers and states"));
 }

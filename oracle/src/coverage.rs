@@ -1,5 +1,6 @@
 //! Requests against answer numbers: what was seen, and which cells can't occur and why.
 
+use crate::generate::Served;
 use crate::requests::*;
 use crate::subject::{Call, Trace};
 
@@ -96,9 +97,9 @@ impl Coverage {
         }
     }
     /// The possible cells that were not seen, as (request, number), and how many were.
-    pub fn unseen(&self) -> (Vec<(usize, usize)>, usize) {
+    pub fn unseen(&self, served: Served) -> (Vec<(usize, usize)>, usize) {
         let (mut none, mut some) = (Vec::new(), 0);
-        for op in 1..OPS {
+        for op in (1..OPS).filter(|op| served(*op as u64)) {
             for number in POSSIBLE[op] {
                 if self.cells[op][*number] == 0 {
                     none.push((op, *number));
@@ -110,14 +111,14 @@ impl Coverage {
         (none, some)
     }
     /// The table; gives how many possible cells were not seen and how many impossible ones were.
-    pub fn print(&self) -> (usize, usize) {
+    pub fn print(&self, served: Served) -> (usize, usize) {
         let (mut unseen, mut strange) = (0, 0);
         print!("{:>22} |", "request \\ answer");
         for number in 0..19 {
             print!("{number:>8}");
         }
         println!();
-        for op in 1..OPS {
+        for op in (1..OPS).filter(|op| served(*op as u64)) {
             print!("{op:>2} {:>19} |", &NAMES[op][..NAMES[op].len().min(19)]);
             for number in 0..19 {
                 let possible = POSSIBLE[op].contains(&number);
@@ -141,7 +142,7 @@ impl Coverage {
         println!("cells marked '.' can't occur:");
         for number in 1..18 {
             let mut reasons: Vec<(&str, Vec<String>)> = Vec::new();
-            for op in 1..OPS {
+            for op in (1..OPS).filter(|op| served(*op as u64)) {
                 if !POSSIBLE[op].contains(&number) {
                     let why = why_not(op as u64, number);
                     match reasons.iter_mut().find(|(reason, _)| *reason == why) {

@@ -80,10 +80,17 @@ fn parameters(rng: &mut Rng) -> Vec<u64> {
     words
 }
 
+/// Which ops the lists hold.
+pub type Served = fn(u64) -> bool;
+pub fn every_op(_op: u64) -> bool {
+    true
+}
+
 /// What a request can name in a state.
 struct View<'a> {
     s: &'a State,
     rng: &'a mut Rng,
+    served: Served,
 }
 
 impl View<'_> {
@@ -231,12 +238,17 @@ impl View<'_> {
     }
 
     fn request(&mut self) -> Request {
-        let weights: [(u64, u64); 24] = [
+        let mut weights: [(u64, u64); 24] = [
             (NEW_OBJECT, 60), (DUPLICATE, 160), (RELEASE, 10), (RETIRE, 2), (RESERVE, 110), (TRIM, 15), (ABORT, 15), (PUBLISH, 170),
             (GET_INFO, 25), (RESOLVE, 25), (REPLACE, 35), (CLOSE, 30), (SCAN, 30), (TRANSFER, 120), (CONSUME, 25), (ROLLBACK, 45),
             (COMMIT, 45), (DIRECT_COMMIT, 60), (DIRECT_ROLLBACK, 25), (STOPPING, 6), (TEARDOWN_START, 2), (TEARDOWN_STEP, 25),
             (TEARDOWN_FINISH, 10), (TAKE_PAGE, 40),
         ];
+        for (op, weight) in &mut weights {
+            if !(self.served)(*op) {
+                *weight = 0;
+            }
+        }
         let total: u64 = weights.iter().map(|(_, weight)| weight).sum();
         let mut op = TAKE_PAGE;
         // Requests that have nothing to work on are mostly passed over.
@@ -558,10 +570,15 @@ fn spoil(rng: &mut Rng, words: &mut Vec<u64>) {
     }
 }
 
-pub fn next_call(rng: &mut Rng, state: &State) -> Call {
-    let mut list = View { s: state, rng: &mut *rng }.request().words();
+pub fn next_call(rng: &mut Rng, state: &State, served: Served) -> Call {
+    let mut list = View { s: state, rng: &mut *rng, served }.request().words();
     if rng.chance(15) {
+        let good = list.clone();
         spoil(rng, &mut list);
+        // A spoilt list can be well formed, with another op.
+        if read_list(&list).is_some_and(|requests| requests.iter().any(|request| !served(request.op()))) {
+            list = good;
+        }
     }
     let lent = if rng.chance(5) { rng.below(72) as usize } else { ANSWER + 1 };
     Call { list, lent }
@@ -575,7 +592,7 @@ fn grown(rng: &mut Rng, params: &[u64], steps: usize) -> State {
     }
     for _ in 0..steps {
         let Some(state) = reading.state() else { break };
-        let list = View { s: state, rng: &mut *rng }.request().words();
+        let list = View { s: state, rng: &mut *rng, served: every_op }.request().words();
         let mut answers = vec![0; ANSWER];
         reading.call(&list, &mut answers);
     }
@@ -819,6 +836,11 @@ pub struct Sequence {
 }
 
 pub fn sequence(seed: u64, kind: Kind, length: usize) -> Sequence {
+    sequence_of(seed, kind, length, every_op)
+}
+
+/// The state that a list starts from is one that any requests can have left; its calls are of served ops alone.
+pub fn sequence_of(seed: u64, kind: Kind, length: usize, served: Served) -> Sequence {
     let mut rng = Rng::new(seed ^ (kind as u64) << 56);
     let params = parameters(&mut rng);
     let start = match kind {
@@ -858,7 +880,7 @@ pub fn sequence(seed: u64, kind: Kind, length: usize) -> Sequence {
     let mut calls = Vec::new();
     for _ in 0..length {
         let Some(state) = reading.state() else { break };
-        let call = next_call(&mut rng, state);
+        let call = next_call(&mut rng, state, served);
         let mut answers = vec![FILL; call.lent];
         let result = reading.call(&call.list, &mut answers);
         trace.steps.push(Step { result, answers, text: reading.text().unwrap_or_default() });

@@ -1,7 +1,7 @@
 //! The held and the plain run (demand 3) on the Rust: run H prepares a transfer of moves, runs a list, then rolls back or commits; run P
 //! runs the same list without it and, where H commits, closes the moved values in the transfer's order.
 
-use crate::generate::{Kind, Rng, next_call, sequence};
+use crate::generate::{Kind, Rng, every_op, next_call, sequence};
 use crate::oracle::Oracle;
 use crate::reading::{Reading, Slip};
 use crate::requests::*;
@@ -85,7 +85,7 @@ fn trial(seed: u64) -> Option<Trial> {
     for _ in 0..40 {
         let now = reading.state()?;
         let full = now.rows.len() as u64 >= now.row_capacity;
-        let call = next_call(&mut rng, now);
+        let call = next_call(&mut rng, now, every_op);
         let Some(list) = read_list(&call.list) else { continue };
         let [request] = list.as_slice() else { continue };
         if !permitted(request, table, &trial.values, trial.from.next) {

@@ -26,6 +26,8 @@ include!(concat!(env!("OUT_DIR"), "/sources.rs"));
 
 #[cfg(rust_sources)]
 pub mod oracle;
+#[cfg(all(rust_sources, port))]
+pub mod bench;
 #[cfg(rust_sources)]
 pub mod check;
 #[cfg(rust_sources)]

@@ -17,10 +17,12 @@ const HELP: &str = "usage: oracle COMMAND
   check                       P1 to P12, every corner case and difference, on the Rust itself
   random [SEED [REQUESTS]]    random lists on the Rust, compared with the reading; coverage table
   held [SEED LISTS]           the held and the plain run (demand 3) on the Rust
-  entry [SEED REQUESTS]       the same against a subject behind the C entry's words (the reading, until the runner is there)
+  entry [SEED REQUESTS]       the same against the reading behind the C entry's words: a test of the comparison
+  port [SEED REQUESTS]        the same against the port, through its C entry, with lists of the requests that it serves; coverage table
+  bench                       the benchmark: the Rust and the port in one run (docs/performance.md)
   record DIR                  write the recorded lists, from the Rust
   same DIR                    make the recorded lists again and compare them with the files, byte for byte
-  replay DIR [rust]           replay the recorded lists on the reading, or on the Rust
+  replay DIR [rust|port]      replay the recorded lists on the reading, on the Rust or on the port
   slips DIR                   each deliberately wrong reading must be caught by the recorded lists
   shrink SEED                 let a random list find a slip, and shorten it (a test of the comparison)
   run FILE [rust|reading]     run a file of words: `create W..` or `words W..` or `text` and a state text up to `end`, then
@@ -54,10 +56,16 @@ fn main() -> ExitCode {
         ["entry", seed, requests] => {
             number(seed).and_then(|seed| number(requests).and_then(|requests| entry(&mut tally, seed, requests)))
         }
+        ["port"] => port(&mut tally, 0, 1_000_000),
+        ["port", seed, requests] => {
+            number(seed).and_then(|seed| number(requests).and_then(|requests| port(&mut tally, seed, requests)))
+        }
+        ["bench"] => bench(),
         ["record", dir] => record(Path::new(dir)),
         ["same", dir] => same(&mut tally, Path::new(dir)),
-        ["replay", dir] => replay(&mut tally, Path::new(dir), false),
-        ["replay", dir, "rust"] => replay(&mut tally, Path::new(dir), true),
+        ["replay", dir] => replay(&mut tally, Path::new(dir), Replayed::Reading),
+        ["replay", dir, "rust"] => replay(&mut tally, Path::new(dir), Replayed::Rust),
+        ["replay", dir, "port"] => replay(&mut tally, Path::new(dir), Replayed::Port),
         ["slips", dir] => slips(&mut tally, Path::new(dir)),
         ["shrink", seed] => number(seed).and_then(|seed| shrink(&mut tally, seed)),
         ["run", file] | ["run", file, "rust"] => run(Path::new(file), true),
@@ -116,6 +124,13 @@ fn missing<T>() -> Result<T, String> {
         .to_string())
 }
 
+#[cfg(not(port))]
+fn portless<T>() -> Result<T, String> {
+    Err("this command needs the port, and the oracle was built without it: name the folder of its libraries, which `rt staticlib create` and \
+         `rt staticlib runner` write, in ORACLE_PORT, and build again"
+        .to_string())
+}
+
 #[cfg(rust_sources)]
 fn check(tally: &mut Tally) -> Result<(), String> {
     oracle::check::run(tally);
@@ -127,8 +142,13 @@ fn check(_tally: &mut Tally) -> Result<(), String> {
 }
 
 #[cfg(rust_sources)]
+fn settings(name: &'static str, seed: u64, requests: u64, served: oracle::generate::Served, covers: bool) -> oracle::compare::Settings {
+    oracle::compare::Settings { name, seed, requests, length: 120, served, covers }
+}
+
+#[cfg(rust_sources)]
 fn random(tally: &mut Tally, seed: u64, requests: u64) -> Result<(), String> {
-    oracle::compare::random(&oracle::compare::Settings { seed, requests, length: 120 }, None, tally);
+    oracle::compare::random(&settings("random", seed, requests, oracle::generate::every_op, true), None, tally);
     Ok(())
 }
 #[cfg(not(rust_sources))]
@@ -149,12 +169,41 @@ fn held(_tally: &mut Tally, _seed: u64, _lists: u64) -> Result<(), String> {
 #[cfg(rust_sources)]
 fn entry(tally: &mut Tally, seed: u64, requests: u64) -> Result<(), String> {
     let mut subject = oracle::c_entry::CEntry::of_the_reading();
-    oracle::compare::random(&oracle::compare::Settings { seed, requests, length: 120 }, Some(&mut subject), tally);
+    oracle::compare::random(&settings("entry", seed, requests, oracle::generate::every_op, false), Some(&mut subject), tally);
     Ok(())
 }
 #[cfg(not(rust_sources))]
 fn entry(_tally: &mut Tally, _seed: u64, _requests: u64) -> Result<(), String> {
     missing()
+}
+
+#[cfg(all(rust_sources, port))]
+fn port(tally: &mut Tally, seed: u64, requests: u64) -> Result<(), String> {
+    let mut subject = oracle::c_entry::CEntry::of_the_port();
+    oracle::compare::random(&settings("port", seed, requests, oracle::c_entry::served, true), Some(&mut subject), tally);
+    Ok(())
+}
+#[cfg(all(not(rust_sources), port))]
+fn port(_tally: &mut Tally, _seed: u64, _requests: u64) -> Result<(), String> {
+    missing()
+}
+#[cfg(not(port))]
+fn port(_tally: &mut Tally, _seed: u64, _requests: u64) -> Result<(), String> {
+    portless()
+}
+
+#[cfg(all(rust_sources, port))]
+fn bench() -> Result<(), String> {
+    oracle::bench::run();
+    Ok(())
+}
+#[cfg(all(not(rust_sources), port))]
+fn bench() -> Result<(), String> {
+    missing()
+}
+#[cfg(not(port))]
+fn bench() -> Result<(), String> {
+    portless()
 }
 
 #[cfg(rust_sources)]
@@ -194,9 +243,29 @@ fn the_rust() -> Result<Box<dyn Runs>, String> {
     missing()
 }
 
-fn replay(tally: &mut Tally, dir: &Path, rust: bool) -> Result<(), String> {
-    let mut subject: Box<dyn Runs> = if rust { the_rust()? } else { Box::new(Reading::new(Slip::None)) };
-    let name = if rust { "the Rust" } else { "the reading" };
+#[cfg(port)]
+fn the_port() -> Result<Box<dyn Runs>, String> {
+    Ok(Box::new(oracle::c_entry::CEntry::of_the_port()))
+}
+#[cfg(not(port))]
+fn the_port() -> Result<Box<dyn Runs>, String> {
+    portless()
+}
+
+#[derive(Clone, Copy, Eq, PartialEq)]
+enum Replayed {
+    Reading,
+    Rust,
+    Port,
+}
+
+fn replay(tally: &mut Tally, dir: &Path, on: Replayed) -> Result<(), String> {
+    let (mut subject, name): (Box<dyn Runs>, _) = match on {
+        Replayed::Reading => (Box::new(Reading::new(Slip::None)), "the reading"),
+        Replayed::Rust => (the_rust()?, "the Rust"),
+        Replayed::Port => (the_port()?, "the port"),
+    };
+    let rust = on == Replayed::Rust;
     let mut coverage = oracle::coverage::Coverage::default();
     for (path, cases) in files(dir)? {
         for line in cases.iter().flat_map(|case| &case.lines) {
@@ -207,7 +276,9 @@ fn replay(tally: &mut Tally, dir: &Path, rust: bool) -> Result<(), String> {
             }
         }
         let (mut calls, mut wrong) = (0, Vec::new());
-        for case in &cases {
+        // The port runs each list up to the first request that it does not serve.
+        let cut: Vec<recorded::Case> = cases.iter().map(|case| if on == Replayed::Port { case.up_to(oracle::c_entry::served) } else { case.clone() }).collect();
+        for case in &cut {
             match recorded::replay(case, subject.as_mut(), rust) {
                 Ok(count) => calls += count,
                 Err(error) => wrong.push(format!("{}: {error}", case.name)),
@@ -234,7 +305,7 @@ fn replay(tally: &mut Tally, dir: &Path, rust: bool) -> Result<(), String> {
             &format!("recorded {file}: each list's last state through its words: the second reader's text equals the recorded one {}", faults.join(" ")),
         );
     }
-    let (none, some) = coverage.unseen();
+    let (none, some) = coverage.unseen(oracle::generate::every_op);
     tally.line(
         none.is_empty(),
         &format!("recorded lists: {} requests answered by the Rust, {some} possible pairs of request and number seen, {} not {none:?}", coverage.requests, none.len()),
