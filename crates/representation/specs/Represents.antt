@@ -159,10 +159,11 @@ pub record BookIs (m : Mem) (s : State) : Type 0 where
   pub rows : RowsAre m 0 (s .book .rows)
   -- the index names each place once: a place knows where it stands in the index
   pub places : (i : ℕ) → i < s .book .capacity → (m (index i) < s .book .capacity) × (m (rank (m (index i))) ≡ i)
-  -- a mark names a row in use and the position of the slot in it
+  -- a mark names a row in use and the position of the slot in it; in a claim a moved item stands there
   pub marks : (b k : ℕ) → b < s .tableCount → isMarked (s .tables b .slots k) ≡ true
       → (slotWord m b k 2 < s .book .capacity) × (m (rank (slotWord m b k 2)) < length (s .book .rows)) × (slotWord m b k 3 < m (row (slotWord m b k 2) 3))
       × (m (row (slotWord m b k 2) 2) ≡ b) × (m (item (slotWord m b k 2) (slotWord m b k 3) (slotWord m b k 0 - 1)) ≡ k)
+      × (slotWord m b k 0 ≡ 2 → m (item (slotWord m b k 2) (slotWord m b k 3) 0) ≡ 0)
 
 -- The whole
 

@@ -57,6 +57,7 @@ pub record Names (m : Mem) (s : State) (b k x j f : ℕ) : Type 0 where
   pub within : j < m (row x 3)
   pub table : m (row x 2) ≡ b
   pub slot : m (item x j f) ≡ k
+  pub moved : f ≡ 1 → m (item x j 0) ≡ 0
 
 module _ (ws ws′ : List ℕ) (sh : Shape) (s : State) (h : Held ws sh s) (b : ℕ) (l : b < s .tableCount) (k : ℕ) (c : ℕ → ℕ) (u : Table)
     (turn : Turns ws ws′ sh b (s .tables b) k c u) where
@@ -79,7 +80,9 @@ module _ (ws ws′ : List ℕ) (sh : Shape) (s : State) (h : Held ws sh s) (b : 
     where
       go : (a₀ a₂ a₃ : ℕ) → a₀ ≡ tag → a₂ ≡ x → a₃ ≡ j
           → (a₂ < s .book .capacity) × (load ws′ sh (rank a₂) < length (s .book .rows)) × (a₃ < load ws′ sh (row a₂ 3)) × (load ws′ sh (row a₂ 2) ≡ b) × (load ws′ sh (item a₂ a₃ (a₀ - 1)) ≡ k)
-      go a₀ a₂ a₃ q₀ q₂ q₃ = rw (q₀, q₂, q₃) (p .place, rw (off-rank x) (p .used), rw (off-row x 3) (p .within), off-row x 2 ∙ p .table, rw (off-item x j (tag - 1), ← d) (p .slot))
+          × (a₀ ≡ 2 → load ws′ sh (item a₂ a₃ 0) ≡ 0)
+      go a₀ a₂ a₃ q₀ q₂ q₃ = rw (q₀, q₂, q₃) (p .place, rw (off-rank x) (p .used), rw (off-row x 3) (p .within), off-row x 2 ∙ p .table, rw (off-item x j (tag - 1), ← d) (p .slot),
+          λ e. off-item x j 0 ∙ p .moved (omega arith))
 
   -- a turn of one table, in the state
   pub turned : Alike till (s .tables b) u → Sound till u (u .free) → ((j : ℕ) → (j ≡ k → ⊥) → u .slots j ≡ s .tables b .slots j)

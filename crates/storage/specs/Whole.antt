@@ -52,7 +52,7 @@ placed-with s b u p o a = record {
       (λ e. p .frames c q f l (rw e at h) (rw e at i));
 }
 
-sum-up : (n : ℕ) (f : ℕ → ℕ) (b : ℕ) → b < n → sum b f + f b ≤ sum n f
+pub sum-up : (n : ℕ) (f : ℕ → ℕ) (b : ℕ) → b < n → sum b f + f b ≤ sum n f
 sum-up zero f b h = absurd (omega arith)
 sum-up (suc n) f b h = ⊎-elim
     (λ (e : b ≡ n). rw e (omega arith))
@@ -60,14 +60,14 @@ sum-up (suc n) f b h = ⊎-elim
     (same? b n)
 
 -- runs that stand one after the other do not meet
-runs-apart : (f : ℕ → ℕ) (b c p q : ℕ) → p < f b → q < f c → sum b f + p ≡ sum c f + q → b ≡ c
+pub runs-apart : (f : ℕ → ℕ) (b c p q : ℕ) → p < f b → q < f c → sum b f + p ≡ sum c f + q → b ≡ c
 runs-apart f b c p q h i e = ⊎-elim (λ z. z)
     (λ (z : b ≡ c → ⊥). bool (ltb b c)
     (λ l. absurd (omega (arith, sum-up c f b (ltb-true b c l))))
     (λ l. absurd (omega (arith, sum-up b f c (omega (arith, ltb-false b c l))))))
     (same? b c)
 
-link-some : (x : Option ℕ) (f : ℕ) → linkOf x ≡ suc f → x ≡ some f
+pub link-some : (x : Option ℕ) (f : ℕ) → linkOf x ≡ suc f → x ≡ some f
 link-some none f e = absurd (omega arith)
 link-some (some g) f e = let y : g ≡ f = omega arith in rw y
 
@@ -191,6 +191,7 @@ abbrev pub MarkIs : Mem → State → ℕ → ℕ → Type 0
 MarkIs m s b k =
     (slotWord m b k 2 < s .book .capacity) × (m (rank (slotWord m b k 2)) < length (s .book .rows)) × (slotWord m b k 3 < m (row (slotWord m b k 2) 3))
     × (m (row (slotWord m b k 2) 2) ≡ b) × (m (item (slotWord m b k 2) (slotWord m b k 3) (slotWord m b k 0 - 1)) ≡ k)
+    × (slotWord m b k 0 ≡ 2 → m (item (slotWord m b k 2) (slotWord m b k 3) 0) ≡ 0)
 
 -- it stays, if the slot's words 0, 2 and 3 do and the rows too
 pub mark-kept : (m n : Mem) (s : State) (b k : ℕ) → ((r : ℕ) → n (rank r) ≡ m (rank r)) → ((r f : ℕ) → n (row r f) ≡ m (row r f)) → ((r j f : ℕ) → n (item r j f) ≡ m (item r j f))
@@ -200,11 +201,13 @@ mark-kept m n s b k rks rws its e₀ e₂ e₃ p =
   where
     go : (a₀ a₂ a₃ c₀ c₂ c₃ : ℕ) → c₀ ≡ a₀ → c₂ ≡ a₂ → c₃ ≡ a₃
         → (a₂ < s .book .capacity) × (m (rank a₂) < length (s .book .rows)) × (a₃ < m (row a₂ 3)) × (m (row a₂ 2) ≡ b) × (m (item a₂ a₃ (a₀ - 1)) ≡ k)
+        × (a₀ ≡ 2 → m (item a₂ a₃ 0) ≡ 0)
         → (c₂ < s .book .capacity) × (n (rank c₂) < length (s .book .rows)) × (c₃ < n (row c₂ 3)) × (n (row c₂ 2) ≡ b) × (n (item c₂ c₃ (c₀ - 1)) ≡ k)
-    go a₀ a₂ a₃ c₀ c₂ c₃ q₀ q₂ q₃ p = rw (q₀, q₂, q₃) (p .0, rw (rks a₂) (p .1), rw (rws a₂ 3) (p .2), rws a₂ 2 ∙ p .3, its a₂ a₃ (a₀ - 1) ∙ p .4)
+        × (c₀ ≡ 2 → n (item c₂ c₃ 0) ≡ 0)
+    go a₀ a₂ a₃ c₀ c₂ c₃ q₀ q₂ q₃ p = rw (q₀, q₂, q₃) (p .0, rw (rks a₂) (p .1), rw (rws a₂ 3) (p .2), rws a₂ 2 ∙ p .3, its a₂ a₃ (a₀ - 1) ∙ p .4, λ e. its a₂ a₃ 0 ∙ p .5 e)
 
 -- a table that is like another in what F shows is so in the state
-put-like : {A : Type 0} (F : Table → A) (f : ℕ → Table) (b : ℕ) (u : Table) → F u ≡ F (f b) → (c : ℕ) → F (put f b u c) ≡ F (f c)
+pub put-like : {A : Type 0} (F : Table → A) (f : ℕ → Table) (b : ℕ) (u : Table) → F u ≡ F (f b) → (c : ℕ) → F (put f b u c) ≡ F (f c)
 put-like F f b u e c = bool (eqb c b) (λ q. rw (q, eqb-true c b q) e) (λ q. rw q)
 
 module _ (sh : Shape) (m : Mem) (s : State) (r : Represents sh m s) (pl : Placed s) (b : ℕ) (lb : b < s .tableCount) (n : Mem) (o : OnlyTable b m n)
