@@ -81,8 +81,14 @@ module _ (ws ws′ : List ℕ) (sh : Shape) (s : State) (h : Held ws sh s) (b : 
       go : (a₀ a₂ a₃ : ℕ) → a₀ ≡ tag → a₂ ≡ x → a₃ ≡ j
           → (a₂ < s .book .capacity) × (load ws′ sh (rank a₂) < length (s .book .rows)) × (a₃ < load ws′ sh (row a₂ 3)) × (load ws′ sh (row a₂ 2) ≡ b) × (load ws′ sh (item a₂ a₃ (a₀ - 1)) ≡ k)
           × (a₀ ≡ 2 → load ws′ sh (item a₂ a₃ 0) ≡ 0)
-      go a₀ a₂ a₃ q₀ q₂ q₃ = rw (q₀, q₂, q₃) (p .place, rw (off-rank x) (p .used), rw (off-row x 3) (p .within), off-row x 2 ∙ p .table, rw (off-item x j (tag - 1), ← d) (p .slot),
-          λ e. off-item x j 0 ∙ p .moved (omega arith))
+      go a₀ a₂ a₃ q₀ q₂ q₃ = rw (q₀, q₂, q₃) (
+        p .place,
+        rw (off-rank x) (p .used),
+        rw (off-row x 3) (p .within),
+        off-row x 2 ∙ p .table,
+        rw (off-item x j (tag - 1), ← d) (p .slot),
+        λ e. off-item x j 0 ∙ p .moved (omega arith),
+      )
 
   -- a turn of one table, in the state
   pub turned : Alike till (s .tables b) u → Sound till u (u .free) → ((j : ℕ) → (j ≡ k → ⊥) → u .slots j ≡ s .tables b .slots j)

@@ -1,0 +1,118 @@
+#!/usr/bin/env bash
+# The port's outside tests: makes its static libraries and runs C programs over them and the comparison with the Rust through the same C calls.
+# No arguments. Ends with 'c: N passed, M failed'.
+set -u
+if [ $# -ne 0 ]; then
+  echo "usage: c/test.sh (no arguments)" >&2
+  exit 2
+fi
+cd "$(dirname "$0")/.." || exit 2
+root=$PWD
+passed=0
+failed=0
+good() { passed=$((passed + 1)); echo "ok    $1"; }
+bad() { failed=$((failed + 1)); echo "WRONG $1"; }
+finish() {
+  echo "c: $passed passed, $failed failed"
+  [ "$failed" -eq 0 ]
+  exit
+}
+work=$(mktemp -d) || exit 2
+trap 'rm -rf "$work"' EXIT
+
+for crate in create runner; do
+  if rt staticlib "$crate" >"$work/out" 2>&1; then good "the static library of $crate"; else
+    tail -n 5 "$work/out"
+    bad "the static library of $crate"
+  fi
+done
+libraries="target/staticlib/librunner.a target/staticlib/libcreate.a"
+for library in $libraries; do
+  [ -f "$library" ] || finish
+done
+if ! command -v cc >/dev/null 2>&1; then
+  bad "there is no C compiler"
+  finish
+fi
+flags="-std=gnu11 -Wall -Wextra -Werror -Ic"
+
+# P6, P7, P9 to P12 and the other requests, through the header.
+# shellcheck disable=SC2086
+if cc $flags -O1 c/cases.c $libraries -o "$work/cases" && "$work/cases"; then good "the cases of document 01, through the C header"; else bad "the cases of document 01, through the C header"; fi
+
+# A wrong header is caught: each number that a request or an answer of the cases goes by, one higher, and fields swapped.
+wrong=0
+caught=0
+missed=""
+while read -r name; do
+  mkdir -p "$work/header"
+  awk -v name="$name" '{
+    if (match($0, "(^| )" name "( = | UINT64_C\\()[0-9]+")) {
+      head = substr($0, 1, RSTART + RLENGTH - 1); tail = substr($0, RSTART + RLENGTH)
+      match(head, /[0-9]+$/); print substr(head, 1, RSTART - 1) (substr(head, RSTART) + 1) tail
+    } else print
+  }' c/gurtxozal.h >"$work/header/gurtxozal.h"
+  wrong=$((wrong + 1))
+  # shellcheck disable=SC2086
+  if cmp -s c/gurtxozal.h "$work/header/gurtxozal.h"; then missed="$missed $name(unchanged)"; elif cc -std=gnu11 -w -I"$work/header" -x c - $libraries -o "$work/wrong" <c/cases.c 2>/dev/null && "$work/wrong" >/dev/null 2>&1; then missed="$missed $name"; else caught=$((caught + 1)); fi
+done < <(
+  for name in DONE ALLOCATION INVALID_HANDLE WRONG_OBJECT_TYPE ACCESS_DENIED UNSUPPORTED_RIGHTS UNSUPPORTED_FLAGS OBJECT_RETIRED OBJECT_ALREADY_ACTIVE RESERVATION_TOO_LARGE EMPTY_RESERVATION \
+    MISUSE MALFORMED ANSWER_SHORT OP_NEW_OBJECT OP_DUPLICATE OP_RELEASE_PARCEL OP_RETIRE_OBJECT OP_RESERVE OP_TRIM OP_ABORT OP_PUBLISH OP_GET_INFO OP_RESOLVE OP_REPLACE OP_CLOSE OP_SCAN_HANDLES \
+    OP_TAKE_EMPTY_PAGE FIELD_OP FIELD_TABLE FIELD_OBJECT FIELD_COUNT FIELD_VALUE FIELD_RIGHTS FIELD_FLAGS FIELD_ID FIELD_KIND FIELD_CURSOR MUST_NEW_OBJECT MUST_DUPLICATE MUST_RESERVE MUST_TRIM MUST_ABORT \
+    MUST_PUBLISH MUST_GET_INFO MUST_RESOLVE MUST_REPLACE MUST_CLOSE MUST_SCAN_HANDLES MUST_TAKE_EMPTY_PAGE MUST_PARCEL_ITEM ANSWER_NUMBER ANSWER_ID ANSWER_BATCH_COUNT ANSWER_BATCH_VALUES ANSWER_INFO_KOID ANSWER_INFO_KIND \
+    ANSWER_INFO_RIGHTS ANSWER_INFO_FLAGS ANSWER_RESOLVED_OBJECT ANSWER_RESOLVED_KOID ANSWER_RESOLVED_RIGHTS ANSWER_NEW_VALUE ANSWER_SCAN_LENGTH ANSWER_SCAN_HAS_NEXT ANSWER_SCAN_NEXT ANSWER_SCAN_EXAMINED \
+    ANSWER_SCAN_ENTRIES SCAN_ENTRY_VALUE SCAN_ENTRY_KOID SCAN_ENTRY_KIND SCAN_ENTRY_RIGHTS SCAN_ENTRY_FLAGS ANSWER_TAKEN ANSWER_TAKEN_PAGE; do
+    echo "GURTXOZAL_$name"
+  done
+)
+if [ -z "$missed" ]; then good "$caught of $wrong wrong headers, each with one number changed, are caught by the cases"; else bad "wrong headers that were not caught:$missed"; fi
+sed -e 's/FIELD_VALUE = 4/FIELD_VALUE = 5/' -e 's/FIELD_RIGHTS = 5/FIELD_RIGHTS = 4/' c/gurtxozal.h >"$work/header/gurtxozal.h"
+# shellcheck disable=SC2086
+if cc -std=gnu11 -w -I"$work/header" -x c - $libraries -o "$work/wrong" <c/cases.c && "$work/wrong" >/dev/null 2>&1; then bad "value and rights swapped in the header are not caught"; else good "value and rights swapped in the header are caught"; fi
+
+# Any words, under the sanitizers where the compiler has them.
+sanitize="-fsanitize=address,undefined -fno-sanitize-recover=all"
+# shellcheck disable=SC2086
+if ! cc $flags -O1 -g $sanitize c/any_words.c $libraries -o "$work/any" 2>"$work/out"; then
+  echo "the driver is built without sanitizers: $(tail -n 1 "$work/out")"
+  # shellcheck disable=SC2086
+  cc $flags -O1 -g c/any_words.c $libraries -o "$work/any" || bad "the driver of any words builds"
+fi
+if "$work/any" 1 1000000; then good "any words: a million calls"; else bad "any words: a million calls"; fi
+
+# Stack.
+# shellcheck disable=SC2086
+if cc $flags -O1 c/stack.c $libraries -o "$work/stack" && "$work/stack"; then good "each call uses less than 4,096 bytes of stack"; else bad "each call uses less than 4,096 bytes of stack"; fi
+
+# The Rust, through the C calls.
+if ! command -v cargo >/dev/null 2>&1; then
+  echo "c: there is no cargo here, so neither the Rust nor the recorded lists were run through the C calls"
+  finish
+fi
+export CARGO_TARGET_DIR="$root/target/oracle-port" ORACLE_PORT=target/staticlib
+if ! (cd oracle && cargo build --release --offline --quiet) 2>"$work/out"; then
+  cat "$work/out"
+  bad "the oracle builds with the port"
+  finish
+fi
+program=$CARGO_TARGET_DIR/release/oracle
+part() {
+  "$program" "$@" >"$work/out" 2>&1
+  local status=$? last
+  cat "$work/out"
+  last=$(tail -n 1 "$work/out")
+  if [[ $last =~ ^[a-z]+:\ ([0-9]+)\ passed,\ ([0-9]+)\ failed$ ]]; then
+    passed=$((passed + BASH_REMATCH[1]))
+    failed=$((failed + BASH_REMATCH[2]))
+    if [ "${BASH_REMATCH[2]}" -eq 0 ] && [ "$status" -ne 0 ]; then bad "oracle $1 ends with status $status"; fi
+  else
+    bad "oracle $1 ends with status $status and no count"
+  fi
+}
+part replay recorded port
+if [ "$("$program" sources)" = none ]; then
+  echo "c: the Rust sources are not beside the repository, so the port was compared with the recorded lists only"
+  finish
+fi
+part port 0 1000000
+finish

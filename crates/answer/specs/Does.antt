@@ -1,0 +1,69 @@
+-- What a request's function over words does: the state's words come to represent the model's next state, and the answer's words are those of
+-- the model's answer. Assumes nothing.
+use mathlib.Core.Path.{_≡_, ap, _∙_}
+use mathlib.Core.List.{List, [], _∷_, _++_}
+use Prim.Native.Nat.{ℕ, suc, _+_}
+use native.Mathlib.Omega.{arith}
+use lib.ListN.{length, set}
+use Rattle.model.specs.State.{till, State}
+use Rattle.model.specs.Request.{Request, Answer, Answer.refused}
+use Rattle.model.specs.Decision.{Decision.refusal, Decision.refusalAfterId, Decision.accept}
+use Rattle.model.specs.Book.{spendId}
+use Rattle.model.specs.Step.{decide, step}
+use Rattle.model.specs.Words.{usedWords}
+use Rattle.layout.specs.declared.Shape.{Shape}
+use Rattle.representation.specs.Represents.{Reps}
+use Rattle.request.specs.Answers.{puts}
+
+-- the words of a state and the words for answers
+pub record Both : Type 0 where
+  pub state : List ℕ
+  pub answers : List ℕ
+
+abbrev pub both : List ℕ → List ℕ → Both
+both ws os = record { state = ws; answers = os }
+
+-- the answer whose words begin at `base` gets the words of a list, from its first on
+abbrev pub answered : List ℕ → ℕ → List ℕ → List ℕ
+answered os base vs = puts os base 0 vs
+
+-- a refusal: the number, and no word of the state changes
+abbrev pub refuseR : List ℕ → List ℕ → ℕ → ℕ → Both
+refuseR ws os base n = both ws (answered os base (n ∷ []))
+
+-- THE STEP over words: what the words x are after request r in state s
+pub record Does (os : List ℕ) (sh : Shape) (base : ℕ) (s : State) (r : Request) (x : Both) : Type 0 where
+  pub state : Reps (x .state) sh (step till s r .0)
+  pub answers : x .answers ≡ answered os base (usedWords (step till s r .1))
+
+module _ (os : List ℕ) (sh : Shape) (base : ℕ) (s : State) (r : Request) where
+  pub does-refused : (ws : List ℕ) (n : ℕ) → Reps ws sh s → decide till s r ≡ refusal n → Does os sh base s r (refuseR ws os base n)
+  unfolding step usedWords
+  does-refused ws n i e = record { state = rw e i; answers = rw e }
+
+  -- a transfer preparation refused after its id step: the id is spent
+  pub does-refused-after-id : (ws : List ℕ) (n : ℕ) → Reps ws sh (spendId s) → decide till s r ≡ refusalAfterId n → Does os sh base s r (refuseR ws os base n)
+  unfolding step usedWords
+  does-refused-after-id ws n i e = record { state = rw e i; answers = rw e }
+
+  pub does-accepted : (ws : List ℕ) (u : State) (a : Answer) → Reps ws sh u → decide till s r ≡ accept u a → Does os sh base s r (both ws (answered os base (usedWords a)))
+  unfolding step
+  does-accepted ws u a i e = record { state = rw e i; answers = rw e }
+
+-- words that are the same do the same
+pub does-is : (os : List ℕ) (sh : Shape) (base : ℕ) (s : State) (r : Request) (x y : Both) → x ≡ y → Does os sh base s r y → Does os sh base s r x
+does-is os sh base s r x y e d = rw e d
+
+-- ---- answers of many words
+
+-- one word more at the end
+pub puts-more : (os : List ℕ) (base i : ℕ) (vs : List ℕ) (v : ℕ) → puts os base i (vs ++ (v ∷ [])) ≡ set (puts os base i vs) (base + (i + length vs)) v
+unfolding puts
+puts-more os base i [] v = ap (λ (k : ℕ). set os (base + k) v) (omega arith)
+puts-more os base i (x ∷ vs) v = puts-more (set os (base + i) x) base (suc i) vs v ∙ ap (λ (k : ℕ). set (puts (set os (base + i) x) base (suc i) vs) (base + k) v) (omega arith)
+
+-- words after words
+pub puts-append : (os : List ℕ) (base i : ℕ) (us vs : List ℕ) → puts os base i (us ++ vs) ≡ puts (puts os base i us) base (i + length us) vs
+unfolding puts
+puts-append os base i [] vs = ap (λ (k : ℕ). puts os base k vs) (omega arith)
+puts-append os base i (x ∷ us) vs = puts-append (set os (base + i) x) base (suc i) us vs ∙ ap (λ (k : ℕ). puts (puts (set os (base + i) x) base (suc i) us) base k vs) (omega arith)

@@ -1,0 +1,95 @@
+use borrow.Author.Needs.{needs}
+use mathlib.Core.Path.{_≡_, refl}
+use Prim.Native.Nat.{_-_, _≤_}
+use Rattle.layout.specs.Layout.{load}
+use native.Mathlib.Omega.{arith}
+use Rattle.book.specs.Code.{link-start, link-yes, link-no, link-end}
+use Rattle.book.specs.Ops.{rowLink, linkFrom}
+use Rattle.book.proofs.row_of.Statement.{statement}
+use Rattle.book.proofs.row_of.Tie as tie
+use Rattle.book.proofs.row_of.Reads as reads
+use Rattle.book.proofs.row_of.Lts as lts
+use Rattle.layout.proofs.index_word.Reads as index-word-reads
+use Rattle.layout.proofs.root_word.Reads as root-word-reads
+use Rattle.layout.proofs.row_word.Reads as row-word-reads
+use Rattle.words.proofs.eq.Reads as eq-reads
+use Rattle.words.proofs.inc.Reads as inc-reads
+use Rattle.words.proofs.smaller.Reads as smaller-reads
+
+abbrev Inv-loop : tie.InvT-loop
+Inv-loop s sh id rows n i₀ i = (i ≤ n) × (rowLink (load s sh) sh id ≡ linkFrom (load s sh) id i (n - i))
+
+abbrev μ-loop : tie.MeasureT-loop
+μ-loop s sh id rows n i₀ i = n - i
+
+-- src/lib.rt:13:16
+cast-rows : tie.Need-cast-rows Inv-loop μ-loop
+cast-rows c = search needs
+
+-- src/lib.rt:14:28
+root-word-requires : tie.Need-root-word-requires Inv-loop μ-loop
+root-word-requires c κs = tt
+
+-- src/lib.rt:14:9
+smaller-requires : tie.Need-smaller-requires Inv-loop μ-loop
+smaller-requires c κs = tt
+
+-- src/lib.rt:16:5
+loop-holds : tie.Need-loop-holds Inv-loop μ-loop
+loop-holds c = (search needs, link-start (load (c .before .before .before .before .args .s .now) (c .before .before .before .before .args .sh)) (c .before .before .before .before .args .sh) (c .before .before .before .before .args .id) _ _ (c .before .root-word .ensures) (c .smaller .ensures))
+
+-- src/lib.rt:17:13
+index-word-requires : tie.Need-index-word-requires Inv-loop μ-loop
+index-word-requires c κs = tt
+
+-- src/lib.rt:18:22
+row-word-requires : tie.Need-row-word-requires Inv-loop μ-loop
+row-word-requires c κs = tt
+
+-- src/lib.rt:18:12
+eq-requires : tie.Need-eq-requires Inv-loop μ-loop
+eq-requires c κs = tt
+
+-- src/lib.rt:19:13
+inc-requires : tie.Need-inc-requires Inv-loop μ-loop
+inc-requires c κs = tt
+
+-- src/lib.rt:19:13
+returns : tie.Need-returns Inv-loop μ-loop
+returns c = link-yes (load (c .before .before .before .before .before .before .before .before .before .before .before .args .s .now) (c .before .before .before .before .before .before .before .before .before .before .before .args .sh)) (c .before .before .before .before .before .before .before .before .before .before .before .args .sh) (c .before .before .before .before .before .before .before .before .before .before .before .args .id) _ _ (c .before .before .before .before .before .before .loop .inv .1) (c .before .before .before .before .before .loop-test .taken) _ _ _ (c .before .before .before .before .index-word .ensures) (c .before .before .before .row-word .ensures) (c .before .before .eq .ensures) _ (c .before .if1 .taken) (c .inc .ensures)
+
+-- src/lib.rt:21:9
+add-i : tie.Need-add-i Inv-loop μ-loop
+add-i c = search needs
+
+-- src/lib.rt:16:5
+loop-less : tie.Need-loop-less Inv-loop μ-loop
+loop-less c = search needs
+
+-- src/lib.rt:16:5
+loop-again : tie.Need-loop-again Inv-loop μ-loop
+loop-again c = (search needs, link-no (load (c .before .before .before .before .before .before .before .before .before .before .args .s .now) (c .before .before .before .before .before .before .before .before .before .before .args .sh)) (c .before .before .before .before .before .before .before .before .before .before .args .sh) (c .before .before .before .before .before .before .before .before .before .before .args .id) _ _ (c .before .before .before .before .before .loop .inv .1) (omega arith) _ _ _ (c .before .before .before .index-word .ensures) (c .before .before .row-word .ensures) (c .before .eq .ensures) (c .if1 .left))
+
+-- src/lib.rt:10:1
+returns-2 : tie.Need-returns-2 Inv-loop μ-loop
+returns-2 c = link-end (load (c .before .before .before .before .before .before .args .s .now) (c .before .before .before .before .before .before .args .sh)) (c .before .before .before .before .before .before .args .sh) (c .before .before .before .before .before .before .args .id) _ _ (c .before .loop .inv .1) (c .loop-test .left)
+
+pub row-of-spec : {M : Type 1} → statement M
+row-of-spec =
+    tie.close
+    (tie.spec
+    Inv-loop
+    μ-loop
+    cast-rows
+    root-word-requires
+    smaller-requires
+    loop-holds
+    index-word-requires
+    row-word-requires
+    eq-requires
+    inc-requires
+    returns
+    add-i
+    loop-less
+    loop-again
+    returns-2)

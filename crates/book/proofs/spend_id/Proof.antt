@@ -1,0 +1,34 @@
+use Rattle.book.specs.Ops.{spendW}
+use borrow.Author.Needs.{needs}
+use Rattle.book.proofs.spend_id.Statement.{statement}
+use Rattle.book.proofs.spend_id.Tie as tie
+use Rattle.book.proofs.spend_id.Reads as reads
+use Rattle.book.proofs.spend_id.Lts as lts
+use Rattle.layout.proofs.put_root.Reads as put-root-reads
+use Rattle.layout.proofs.root_word.Reads as root-word-reads
+use Rattle.words.proofs.inc.Reads as inc-reads
+
+-- src/lib.rt:98:27
+root-word-requires : tie.Need-root-word-requires
+root-word-requires c κs = tt
+
+-- src/lib.rt:98:9
+inc-requires : tie.Need-inc-requires
+inc-requires c κs = tt
+
+-- src/lib.rt:99:5
+put-root-requires : tie.Need-put-root-requires
+put-root-requires c κs = tt
+
+-- src/lib.rt:95:1
+same-length : tie.Need-same-length
+same-length c = search needs
+
+-- src/lib.rt:95:1
+returns : tie.Need-returns
+unfolding spendW
+returns c = cc
+
+pub spend-id-spec : {M : Type 1} → statement M
+spend-id-spec =
+    tie.close (tie.spec root-word-requires inc-requires put-root-requires same-length returns)

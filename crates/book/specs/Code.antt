@@ -1,0 +1,88 @@
+-- What the code's loops and stores say, in the terms of the definitions. Assumes nothing.
+use mathlib.Core.Path.{_≡_, sym, ap, _∙_}
+use mathlib.Core.Bool.{Bool, true, false}
+use mathlib.Core.List.{List}
+use Prim.Native.Nat.{ℕ, suc, _+_, _-_, _≤_, _<_, min}
+use native.Mathlib.Omega.{arith}
+use lib.Dec.{eqb}
+use Rattle.words.specs.Pick.{pick}
+use Rattle.layout.specs.declared.Shape.{Shape}
+use Rattle.layout.specs.Layout.{Mem, root, index, rank, row, item, load, save}
+use Rattle.storage.specs.Ops.{up, vacateW}
+use Rattle.book.specs.Ops.{linkFrom, usedOf, rowLink, spare, openP, openW, shiftW, closeW, vacateItemsW}
+
+-- ---- `row_of`
+
+pub link-start : (m : Mem) (sh : Shape) (id u n : ℕ) → u ≡ m (root 6) → n ≡ min u (sh .rows) → rowLink m sh id ≡ linkFrom m id 0 (n - 0)
+unfolding rowLink
+link-start m sh id u n d e = let z : n - 0 ≡ usedOf m sh = omega (arith, ap (λ (v : ℕ). min v (sh .rows)) d) in rw z
+
+module _ (m : Mem) (sh : Shape) (id i n : ℕ) (inv : rowLink m sh id ≡ linkFrom m id i (n - i)) where
+  one-more : i < n → linkFrom m id i (n - i) ≡ pick (eqb (m (row (m (index i)) 0)) id) (up (m (index i))) (linkFrom m id (suc i) (n - suc i))
+  one-more l = let z : n - i ≡ suc (n - suc i) = omega arith in rw z
+
+  module _ (l : i < n) (x w : ℕ) (t : Bool) (ex : x ≡ m (index i)) (ew : w ≡ m (row x 0)) (et : t ≡ eqb w id) where
+    test-is : eqb (m (row (m (index i)) 0)) id ≡ t
+    test-is = rw (et, ew, ex)
+
+    pub link-yes : (y : ℕ) → t ≡ true → y ≡ up x → y ≡ rowLink m sh id
+    link-yes y d e = let q : eqb (m (row (m (index i)) 0)) id ≡ true = test-is ∙ d in
+        e ∙ ap up ex ∙ sym (inv ∙ one-more l ∙ ap (λ (v : Bool). pick v (up (m (index i))) (linkFrom m id (suc i) (n - suc i))) q)
+
+    pub link-no : t ≡ false → rowLink m sh id ≡ linkFrom m id (i + 1) (n - (i + 1))
+    link-no d = let q : eqb (m (row (m (index i)) 0)) id ≡ false = test-is ∙ d in let z : i + 1 ≡ suc i = omega arith in
+        rw z (inv ∙ one-more l ∙ ap (λ (v : Bool). pick v (up (m (index i))) (linkFrom m id (suc i) (n - suc i))) q)
+
+  pub link-end : n ≤ i → 0 ≡ rowLink m sh id
+  link-end l = let z : n - i ≡ 0 = omega arith in sym (inv ∙ ap (linkFrom m id i) z)
+
+-- ---- `open_row`
+
+pub open-is : (ws : List ℕ) (sh : Shape) (what b n x id used next more : ℕ) (w₁ w₂ w₃ w₄ w₅ w₆ : List ℕ)
+    → x ≡ spare (load ws sh) → id ≡ load ws sh (root 5) → used ≡ load ws sh (root 6) → next ≡ up id → more ≡ up used
+    → w₁ ≡ save ws sh (row x 0) id → w₂ ≡ save w₁ sh (row x 1) what → w₃ ≡ save w₂ sh (row x 2) b → w₄ ≡ save w₃ sh (row x 3) n
+    → w₅ ≡ save w₄ sh (root 6) more → w₆ ≡ save w₅ sh (root 5) next
+    → w₆ ≡ openW ws sh what b n
+unfolding openW openP
+open-is ws sh what b n x id used next more w₁ w₂ w₃ w₄ w₅ w₆ e₁ e₂ e₃ e₄ e₅ a₁ a₂ a₃ a₄ a₅ a₆ = rw (a₆, a₅, a₄, a₃, a₂, a₁, e₄, e₅, e₃, e₂, e₁)
+
+-- ---- `shift_down`
+
+pub shift-none : (ws : List ℕ) (sh : Shape) (r : ℕ) → ws ≡ shiftW ws sh r (r - r)
+unfolding shiftW
+shift-none ws sh r = let z : r - r ≡ 0 = omega arith in rw z
+
+pub shift-more : (ws : List ℕ) (sh : Shape) (r i y : ℕ) (us w vs : List ℕ) → r ≤ i → us ≡ shiftW ws sh r (i - r) → y ≡ load us sh (index (i + 1)) → w ≡ save us sh (index i) y → vs ≡ save w sh (rank y) i
+    → vs ≡ shiftW ws sh r (i + 1 - r)
+unfolding shiftW
+shift-more ws sh r i y us w vs l e d a₁ a₂ =
+    let z : i + 1 - r ≡ suc (i - r) = omega arith in let k : r + (i - r) ≡ i = omega arith in
+    rw (z, k, ← e) (rw (a₂, a₁, d))
+
+pub shift-end : (ws : List ℕ) (sh : Shape) (r i last : ℕ) (us : List ℕ) → i - r ≤ last - r → last ≤ i → us ≡ shiftW ws sh r (i - r) → us ≡ shiftW ws sh r (last - r)
+shift-end ws sh r i last us l h e = let z : i - r ≡ last - r = omega arith in rw z at e
+
+-- ---- `vacate_items`
+
+pub vacate-none : (ws : List ℕ) (sh : Shape) (b x i : ℕ) → ws ≡ vacateItemsW ws sh b x i (i - i)
+unfolding vacateItemsW
+vacate-none ws sh b x i = let z : i - i ≡ 0 = omega arith in rw z
+
+pub vacate-more : (ws : List ℕ) (sh : Shape) (b x i j k : ℕ) (us vs : List ℕ) → i ≤ j → us ≡ vacateItemsW ws sh b x i (j - i) → k ≡ load us sh (item x j 0) → vs ≡ vacateW us sh b k
+    → vs ≡ vacateItemsW ws sh b x i (j + 1 - i)
+unfolding vacateItemsW
+vacate-more ws sh b x i j k us vs l e d a =
+    let z : j + 1 - i ≡ suc (j - i) = omega arith in let y : i + (j - i) ≡ j = omega arith in
+    rw (z, y, ← e) (rw (a, d))
+
+pub vacate-end : (ws : List ℕ) (sh : Shape) (b x i j n end : ℕ) (us : List ℕ) → end ≡ min n 64 → j - i ≤ end - i → end ≤ j → us ≡ vacateItemsW ws sh b x i (j - i) → us ≡ vacateItemsW ws sh b x i (min n 64 - i)
+vacate-end ws sh b x i j n end us d l h e = let z : j - i ≡ min n 64 - i = omega arith in rw z at e
+
+-- ---- `close_row`
+
+pub close-is : (ws : List ℕ) (sh : Shape) (x r u n last : ℕ) (w₁ w₂ w₃ w₄ : List ℕ)
+    → r ≡ load ws sh (rank x) → u ≡ load ws sh (root 6) → n ≡ min u (sh .rows) → last ≡ n - 1
+    → w₁ ≡ shiftW ws sh r (last - r) → w₂ ≡ save w₁ sh (index last) x → w₃ ≡ save w₂ sh (rank x) last → w₄ ≡ save w₃ sh (root 6) last
+    → w₄ ≡ closeW ws sh x
+unfolding closeW
+close-is ws sh x r u n last w₁ w₂ w₃ w₄ e₁ e₂ e₃ e₄ a₁ a₂ a₃ a₄ = rw (a₄, a₃, a₂, a₁, e₄, e₃, e₂, e₁)

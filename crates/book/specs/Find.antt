@@ -1,0 +1,105 @@
+-- The row with an id: where `row_of` finds it. Assumes nothing.
+use mathlib.Core.Path.{_≡_, refl, sym, ap, _∙_}
+use mathlib.Core.Option.{Option, none, some}
+use Prim.Native.Nat.{ℕ, zero, suc, _+_, _-_, _≤_, _<_}
+use native.Mathlib.Omega.{arith}
+use lib.ListN.{length}
+use lib.Dec.{eqb}
+use borrow.Author.Tests.{eqb-true, eqb-false}
+use Rattle.words.specs.Pick.{bool}
+use Rattle.model.specs.Base.{nth}
+use Rattle.model.specs.State.{till, Body, Row, State}
+use Rattle.model.specs.Book.{find}
+use Rattle.model.specs.WellFormed.{IdsRise, WellFormed}
+use Rattle.model.specs.Tests.{nth-some}
+use Rattle.layout.specs.declared.Shape.{Shape}
+use Rattle.layout.specs.Layout.{Mem, index, rank, row}
+use Rattle.representation.specs.Represents.{BodyIs, Represents}
+use Rattle.storage.specs.Ops.{up}
+use Rattle.book.specs.Lists.{find-nth, nth-find, nth-below}
+use Rattle.book.specs.Places.{Indexed, row-of}
+use Rattle.book.specs.Ops.{linkFrom, usedOf, rowLink}
+
+-- the book of a well-formed state: its rows have places, and their ids rise
+pub record Fits (s : State) : Type 0 where
+  pub room : length (s .book .rows) ≤ s .book .capacity
+  pub rise : IdsRise 1 (s .book .rows) (s .book .next)
+
+pub fits-of : (s : State) → WellFormed till s → Fits s
+fits-of s w = record { room = w .ranges .rowCount; rise = w .ids .rise }
+
+-- the row with the id i stands in place x
+pub record RowAt (m : Mem) (s : State) (x i : ℕ) (b : Body) : Type 0 where
+  pub place : x < s .book .capacity
+  pub used : m (rank x) < length (s .book .rows)
+  pub named : m (index (m (rank x))) ≡ x
+  pub listed : nth (s .book .rows) (m (rank x)) ≡ some (record { id = i; body = b })
+  pub id : m (row x 0) ≡ i
+  pub body : BodyIs m x b
+
+pub indexed : (sh : Shape) (m : Mem) (s : State) → Represents sh m s → Indexed m (s .book .capacity)
+indexed sh m s r = record { named = r .book .places }
+
+module _ (sh : Shape) (m : Mem) (s : State) (r : Represents sh m s) (f : Fits s) where
+  -- the row of a rank
+  pub row-at : (j i : ℕ) (b : Body) → nth (s .book .rows) j ≡ some (record { id = i; body = b }) → RowAt m s (m (index j)) i b
+  row-at j i b e =
+      let l : j < length (s .book .rows) = nth-below (s .book .rows) j (record { id = i; body = b }) e in
+      let p = r .book .places j (omega (arith, f .room)) in
+      let q = row-of m (s .book .rows) (r .book .rows) j (record { id = i; body = b }) e in
+      let z : m (rank (m (index j))) ≡ j = p .1 in
+      record { place = p .0; used = rw z l; named = ap (λ (k : ℕ). m (index k)) z; listed = ap (nth (s .book .rows)) z ∙ e; id = q .0; body = q .1 }
+
+  used-is : usedOf m sh ≡ length (s .book .rows)
+  used-is = omega (arith, r .book .used, r .capacity, f .room)
+
+  pub at-find : (x i : ℕ) (b : Body) → RowAt m s x i b → find i (s .book .rows) ≡ some b
+  at-find x i b a = find-nth 1 (s .book .next) (s .book .rows) (m (rank x)) i b (f .rise) (a .listed)
+
+-- ---- the walk
+
+link-some : (m : Mem) (id c : ℕ) → c ≤ 256 → (n i x : ℕ) → ((j : ℕ) → j < i + n → m (index j) < c) → linkFrom m id i n ≡ suc x
+    → (j : ℕ) × (j < i + n) × (m (index j) ≡ x) × (m (row x 0) ≡ id)
+link-some m id c few zero i x low e = absurd (omega arith)
+link-some m id c few (suc n) i x low e = bool (eqb (m (row (m (index i)) 0)) id)
+    (λ q. let d : up (m (index i)) ≡ suc x = rw q at e in
+    let z : m (index i) ≡ x = omega (arith, low i (omega arith)) in
+    (i, omega arith, z, ap (λ (y : ℕ). m (row y 0)) (sym z) ∙ eqb-true (m (row (m (index i)) 0)) id q))
+    (λ q. let p = link-some m id c few n (suc i) x (λ j h. low j (omega arith)) (rw q at e) in (p .0, omega (arith, p .1), p .2, p .3))
+
+link-none : (m : Mem) (id n i : ℕ) → linkFrom m id i n ≡ 0 → (j : ℕ) → i ≤ j → j < i + n → m (row (m (index j)) 0) ≡ id → ⊥
+link-none m id zero i e j l h d = omega arith
+link-none m id (suc n) i e j l h d = bool (eqb (m (row (m (index i)) 0)) id)
+    (λ q. let z : up (m (index i)) ≡ 0 = rw q at e in omega arith)
+    (λ q. bool (eqb j i)
+    (λ y. eqb-false (m (row (m (index i)) 0)) id q (ap (λ (k : ℕ). m (row (m (index k)) 0)) (sym (eqb-true j i y)) ∙ d))
+    (λ y. link-none m id n (suc i) (rw q at e) j (omega (arith, eqb-false j i y)) (omega arith) d))
+
+row-parts : (x : Row) (i : ℕ) → x .id ≡ i → x ≡ record { id = i; body = x .body }
+row-parts x i e = rw (← e)
+
+module _ (sh : Shape) (m : Mem) (s : State) (r : Represents sh m s) (f : Fits s) where
+  -- THE ROW that the walk finds
+  pub row-found : sh .rows ≤ 256 → (i x : ℕ) → rowLink m sh i ≡ suc x → (b : Body) × (find i (s .book .rows) ≡ some b) × RowAt m s x i b
+  unfolding rowLink
+  row-found few i x e =
+      let low : (j : ℕ) → j < 0 + usedOf m sh → m (index j) < sh .rows = λ j h. let p = r .book .places j (omega (arith, r .capacity)) .0 in omega (arith, r .capacity) in
+      let p = link-some m i (sh .rows) few (usedOf m sh) 0 x low e in
+      let j : ℕ = p .0 in
+      let under : j < length (s .book .rows) = omega (arith, p .1, used-is sh m s r f) in
+      let q = nth-some (s .book .rows) j under in
+      let w = row-of m (s .book .rows) (r .book .rows) j (q .0) (q .1) in
+      let id : q .0 .id ≡ i = sym (w .0) ∙ ap (λ (z : ℕ). m (row z 0)) (p .2) ∙ p .3 in
+      let a : RowAt m s x i (q .0 .body) = rw (p .2) at (row-at sh m s r f j i (q .0 .body) (q .1 ∙ ap some (row-parts (q .0) i id))) in
+      (q .0 .body, at-find sh m s r f x i (q .0 .body) a, a)
+
+  -- or there is none
+  pub row-none : (i : ℕ) → rowLink m sh i ≡ 0 → find i (s .book .rows) ≡ none
+  unfolding rowLink
+  row-none i e = go (find i (s .book .rows)) refl
+    where
+      go : (o : Option Body) → find i (s .book .rows) ≡ o → o ≡ none
+      go none d = refl
+      go (some b) d = let p = nth-find (s .book .rows) i b d in
+          let a = row-at sh m s r f (p .0) i b (p .1) in
+          absurd (link-none m i (usedOf m sh) 0 e (p .0) (omega arith) (omega (arith, used-is sh m s r f, nth-below (s .book .rows) (p .0) (record { id = i; body = b }) (p .1))) (a .id))

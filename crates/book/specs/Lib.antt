@@ -1,0 +1,15 @@
+pub mod Lists
+pub mod Places
+pub mod Whole
+pub mod Ops
+pub mod Find
+pub mod Swap
+pub mod Open
+pub mod Shift
+pub mod Close
+pub mod Marks
+pub mod Fades
+pub mod Shrink
+pub mod Code
+pub mod Vacated
+pub mod Reservations

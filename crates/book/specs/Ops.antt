@@ -1,0 +1,113 @@
+-- The operations on rows: the stores that each makes, and the words that it leaves. Assumes nothing.
+use mathlib.Core.Path.{_≡_, refl, _∙_}
+use mathlib.Core.Bool.{and-false}
+use mathlib.Core.List.{List, [], _∷_}
+use Prim.Native.Nat.{ℕ, zero, suc, _+_, _-_, _≤_, min}
+use native.Mathlib.Omega.{arith}
+use lib.ListN.{length}
+use lib.Dec.{eqb}
+use Rattle.words.specs.Pick.{pick, bool}
+use Rattle.layout.specs.declared.Shape.{Shape}
+use Rattle.layout.specs.Layout.{Addr.reg, Mem, total, root, index, rank, row, item, load, save, same, same-is, isIn, length-save, load-save-any, Write, Write.at, writes}
+use Rattle.storage.specs.Ops.{up, vacateW}
+
+-- the row in use with an id: its place plus 1, 0 if there is none; n ranks from i on
+abbrev pub linkFrom : Mem → ℕ → ℕ → ℕ → ℕ
+linkFrom m id i zero = 0
+linkFrom m id i (suc n) = pick (eqb (m (row (m (index i)) 0)) id) (up (m (index i))) (linkFrom m id (suc i) n)
+
+-- how many rows are in use, at most those that there are
+abbrev pub usedOf : Mem → Shape → ℕ
+usedOf m sh = min (m (root 6)) (sh .rows)
+
+unfoldable pub rowLink : Mem → Shape → ℕ → ℕ
+rowLink m sh id = linkFrom m id 0 (usedOf m sh)
+
+-- the place of the next row: that of the first rank out of use
+abbrev pub spare : Mem → ℕ
+spare m = m (index (m (root 6)))
+
+-- a row opens there, under the next id: what it is, its table and its count
+unfoldable pub openP : Mem → ℕ → ℕ → ℕ → List Write
+openP m what b n =
+    at (row (spare m) 0) (m (root 5))
+    ∷ at (row (spare m) 1) what
+    ∷ at (row (spare m) 2) b
+    ∷ at (row (spare m) 3) n
+    ∷ at (root 6) (up (m (root 6)))
+    ∷ at (root 5) (up (m (root 5)))
+    ∷ []
+
+unfoldable pub openW : List ℕ → Shape → ℕ → ℕ → ℕ → List ℕ
+openW ws sh what b n = writes ws sh (openP (load ws sh) what b n)
+
+-- a handle into item j of the row in place x
+unfoldable pub handleW : List ℕ → Shape → ℕ → ℕ → ℕ → ℕ → ℕ → List ℕ
+handleW ws sh x j object rights flags = writes ws sh (at (item x j 2) object ∷ at (item x j 3) rights ∷ at (item x j 4) flags ∷ [])
+
+-- the row of rank i + 1 comes to rank i
+abbrev pub shiftP : Mem → ℕ → List Write
+shiftP m i = at (index i) (m (index (i + 1))) ∷ at (rank (m (index (i + 1)))) i ∷ []
+
+-- n ranks from r on
+unfoldable pub shiftW : List ℕ → Shape → ℕ → ℕ → List ℕ
+shiftW ws sh r zero = ws
+shiftW ws sh r (suc n) = writes (shiftW ws sh r n) sh (shiftP (load (shiftW ws sh r n) sh) (r + n))
+
+-- the last rank in use
+abbrev pub lastOf : Mem → Shape → ℕ
+lastOf m sh = usedOf m sh - 1
+
+-- the row in place x leaves: the rows after it come one rank down, and its place is the first out of use
+unfoldable pub closeW : List ℕ → Shape → ℕ → List ℕ
+closeW ws sh x =
+    let m : Mem = load ws sh in
+    writes (shiftW ws sh (m (rank x)) (lastOf m sh - m (rank x))) sh (at (index (lastOf m sh)) x ∷ at (rank x) (lastOf m sh) ∷ at (root 6) (lastOf m sh) ∷ [])
+
+-- the row in place x has n items
+unfoldable pub shrinkW : List ℕ → Shape → ℕ → ℕ → List ℕ
+shrinkW ws sh x n = save ws sh (row x 3) n
+
+-- the slots that n items of the row in place x name, from item i on, fall vacant in table b
+unfoldable pub vacateItemsW : List ℕ → Shape → ℕ → ℕ → ℕ → ℕ → List ℕ
+vacateItemsW ws sh b x i zero = ws
+vacateItemsW ws sh b x i (suc n) = vacateW (vacateItemsW ws sh b x i n) sh b (load (vacateItemsW ws sh b x i n) sh (item x (i + n) 0))
+
+-- an id is spent
+unfoldable pub spendW : List ℕ → Shape → List ℕ
+spendW ws sh = save ws sh (root 5) (up (load ws sh (root 5)))
+
+-- ---- stores into the row in place x and its items, and nowhere else
+
+pub record Fills (ws ws′ : List ℕ) (sh : Shape) (x : ℕ) : Type 0 where
+  pub long : length ws′ ≡ length ws
+  pub rest : (k z y f : ℕ) → (k ≡ 10 → z ≡ x → ⊥) → load ws′ sh (reg k z y f) ≡ load ws sh (reg k z y f)
+
+pub fills-none : (ws : List ℕ) (sh : Shape) (x : ℕ) → Fills ws ws sh x
+fills-none ws sh x = record { long = refl; rest = λ k z y f h. refl }
+
+pub fills-then : (ws ws₁ ws₂ : List ℕ) (sh : Shape) (x : ℕ) → Fills ws ws₁ sh x → Fills ws₁ ws₂ sh x → Fills ws ws₂ sh x
+fills-then ws ws₁ ws₂ sh x p q = record { long = q .long ∙ p .long; rest = λ k z y f h. q .rest k z y f h ∙ p .rest k z y f h }
+
+fill-one : (ws : List ℕ) (sh : Shape) → total sh ≤ length ws → (x y f v : ℕ) → Fills ws (save ws sh (reg 10 x y f) v) sh x
+fill-one ws sh h x y f v = record {
+  long = length-save ws sh (reg 10 x y f) v;
+  rest = λ k z y′ f′ n. load-save-any ws sh h (reg 10 x y f) v (reg k z y′ f′) ∙ bool (same (reg 10 x y f) (reg k z y′ f′))
+      (λ e. let q : reg k z y′ f′ ≡ reg 10 x y f = same-is (reg 10 x y f) (reg k z y′ f′) e in
+      let a : k ≡ 10 = cc in let b : z ≡ x = cc in absurd (n a b))
+      (λ e. rw (e, and-false (isIn sh (reg 10 x y f))));
+}
+
+pub fills-row : (ws : List ℕ) (sh : Shape) → total sh ≤ length ws → (x f v : ℕ) → Fills ws (save ws sh (row x f) v) sh x
+fills-row ws sh h x f v = fill-one ws sh h x 0 f v
+
+pub fills-item : (ws : List ℕ) (sh : Shape) → total sh ≤ length ws → (x j f v : ℕ) → Fills ws (save ws sh (item x j f) v) sh x
+fills-item ws sh h x j f v = fill-one ws sh h x (suc j) f v
+
+pub fills-handle : (ws : List ℕ) (sh : Shape) → total sh ≤ length ws → (x j o r f : ℕ) → Fills ws (handleW ws sh x j o r f) sh x
+unfolding handleW
+fills-handle ws sh h x j o r f =
+    let ws₁ : List ℕ = save ws sh (item x j 2) o in let ws₂ : List ℕ = save ws₁ sh (item x j 3) r in
+    let l₁ = length-save ws sh (item x j 2) o in let l₂ = length-save ws₁ sh (item x j 3) r in
+    fills-then ws ws₁ (save ws₂ sh (item x j 4) f) sh x (fills-item ws sh h x j 2 o)
+    (fills-then ws₁ ws₂ (save ws₂ sh (item x j 4) f) sh x (fills-item ws₁ sh (omega (arith, l₁)) x j 3 r) (fills-item ws₂ sh (omega (arith, l₁, l₂)) x j 4 f))

@@ -1,0 +1,56 @@
+-- A reservation keeps its first slots. Assumes nothing.
+use mathlib.Core.Path.{_≡_, refl, sym, ap, _∙_}
+use mathlib.Core.Bool.{true}
+use mathlib.Core.List.{List, [], _∷_}
+use Prim.Native.Nat.{ℕ, _-_, _≤_, _<_}
+use native.Mathlib.Omega.{arith}
+use lib.ListN.{length, take}
+use lib.Seq.{length-take-le}
+use borrow.Author.Tests.{eq-eqb}
+use Rattle.model.specs.State.{Body.reservation, State}
+use Rattle.model.specs.Book.{swapRow}
+use Rattle.layout.specs.declared.Shape.{Shape}
+use Rattle.layout.specs.Layout.{Addr, row, item, load, in-row, load-save, upds, Write.at}
+use Rattle.representation.specs.Represents.{slotWord, BodyIs, isMarked}
+use Rattle.storage.specs.Reps.{Held}
+use Rattle.book.specs.Lists.{nth-below, nth-take}
+use Rattle.book.specs.Places.{item-of, items-all}
+use Rattle.book.specs.Ops.{shrinkW, Fills, fills-row}
+use Rattle.book.specs.Find.{Fits, RowAt}
+use Rattle.book.specs.Swap.{swap-held, swap-row}
+
+module _ (ws : List ℕ) (sh : Shape) (s : State) (h : Held ws sh s) (f : Fits s) (x i b : ℕ) (ks : List ℕ) (a : RowAt (load ws sh) s x i (reservation b ks)) (n : ℕ) (few : n ≤ length ks) where
+  fills : Fills ws (shrinkW ws sh x n) sh x
+  unfolding shrinkW
+  fills = fills-row ws sh (h .reps .shaped .room) x 3 n
+
+  sees : (g : Addr) → load (shrinkW ws sh x n) sh g ≡ upds (load ws sh) (at (row x 3) n ∷ []) g
+  unfolding shrinkW
+  sees g = load-save ws sh (h .reps .shaped .room) (row x 3) n (in-row sh x 3 (omega (arith, a .place, h .reps .memory .capacity)) (omega arith)) g
+
+  count : load (shrinkW ws sh x n) sh (row x 3) ≡ n
+  count = sees (row x 3) ∙ rw (eq-eqb x x refl)
+
+  body : BodyIs (load (shrinkW ws sh x n) sh) x (reservation b (take n ks))
+  body = let long : length (take n ks) ≡ n = length-take-le n ks few in (
+    sees (row x 1) ∙ a .body .0,
+    sees (row x 2) ∙ a .body .1,
+    count ∙ sym long,
+    items-all (λ j k. load (shrinkW ws sh x n) sh (item x j 0) ≡ k) (take n ks) (λ j k e.
+        let l : j < n = omega (arith, long, nth-below (take n ks) j k e) in
+        sees (item x j 0) ∙ item-of (λ j k. load ws sh (item x j 0) ≡ k) ks (a .body .3) j k (sym (nth-take n ks j l) ∙ e)),
+  )
+
+  -- A RESERVATION SHRINKS: no marked slot names a later position of it
+  pub shrink-held : ((d k : ℕ) → d < s .tableCount → isMarked (s .tables d .slots k) ≡ true → slotWord (load ws sh) d k 2 ≡ x → slotWord (load ws sh) d k 3 < n)
+      → Held (shrinkW ws sh x n) sh (swapRow i (reservation b (take n ks)) s)
+  shrink-held under = swap-held ws (shrinkW ws sh x n) sh s h x fills f i (reservation b ks) (reservation b (take n ks)) a (sees (row x 0) ∙ a .id) body
+      (λ d k l mk e. let w = h .reps .memory .book .marks d k l mk in (
+        let q = under d k l mk e in omega (arith, count),
+        sees (row x 2) ∙ (rw e at (w .3)),
+        sees (item x (slotWord (load ws sh) d k 3) (slotWord (load ws sh) d k 0 - 1)) ∙ ap (λ (v : ℕ). load ws sh (item v (slotWord (load ws sh) d k 3) (slotWord (load ws sh) d k 0 - 1))) (sym e) ∙ w .4,
+        λ y. sees (item x (slotWord (load ws sh) d k 3) 0) ∙ ap (λ (v : ℕ). load ws sh (item v (slotWord (load ws sh) d k 3) 0)) (sym e) ∙ w .5 y,
+      ))
+
+  pub shrink-row : RowAt (load (shrinkW ws sh x n) sh) (swapRow i (reservation b (take n ks)) s) x i (reservation b (take n ks))
+  shrink-row = swap-row ws (shrinkW ws sh x n) sh s h x fills f i (reservation b ks) (reservation b (take n ks)) a (sees (row x 0) ∙ a .id) body

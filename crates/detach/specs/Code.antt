@@ -1,0 +1,124 @@
+-- What the code's branches say, in the terms of the definitions. Assumes nothing.
+use mathlib.Core.Path.{_≡_, refl, sym, ap, _∙_}
+use mathlib.Core.Bool.{Bool, true, false}
+use mathlib.Core.List.{List, [], _∷_}
+use Prim.Native.Nat.{ℕ, zero, suc, _+_, _-_, _*_, _%_, _^_, _≤_, _<_}
+use native.Mathlib.Omega.{arith}
+use native.Mathlib.Numerals.{add-one}
+use lib.Dec.{eqb, ltb}
+use borrow.Author.Tests.{eq-eqb, ne-eqb}
+use Rattle.words.specs.Pick.{yes-is, no-is}
+use Rattle.model.specs.State.{till}
+use Rattle.model.specs.Storage.{slotsOf}
+use Rattle.layout.specs.declared.Shape.{Shape}
+use Rattle.layout.specs.Layout.{Mem, head, entry, load, save, writes}
+use Rattle.representation.specs.Represents.{frameOf, slotWord}
+use Rattle.answer.specs.Does.{both, answered}
+use Rattle.storage.specs.Sight.{look, cellP}
+use Rattle.storage.specs.Ops.{up, leaveW}
+use Rattle.storage.specs.Vacate.{slots-max}
+use Rattle.frames.specs.Ops.{giveFrameW}
+use Rattle.detach.specs.Ops.{firstAfter, linkW, unlinkW, unlinkAll, unlinkPageW, nextEpoch, joinDetachedW, detachW, firstEmpty, takePageR}
+
+-- `first_after`
+pub after-first : (b n f : ℕ) → b ≡ 0 → n ≡ firstAfter b n f
+after-first b n f e = yes-is (eqb b 0) n n f (eq-eqb b 0 e) refl
+
+pub after-later : (b n f : ℕ) → (b ≡ 0 → ⊥) → f ≡ firstAfter b n f
+after-later b n f e = no-is (eqb b 0) f n f (ne-eqb b 0 e) refl
+
+-- `put_link`
+pub link-none : (ws : List ℕ) (sh : Shape) (b l f v : ℕ) → l ≡ 0 → ws ≡ linkW ws sh b l f v
+unfolding linkW
+link-none ws sh b zero f v h = refl
+link-none ws sh b (suc l) f v h = absurd (omega arith)
+
+pub link-some : (ws vs : List ℕ) (sh : Shape) (b l f v : ℕ) → (l ≡ 0 → ⊥) → vs ≡ writes ws sh (cellP (frameOf (load ws sh) b (l - 1)) ((l - 1) % 64) f v) → vs ≡ linkW ws sh b l f v
+unfolding linkW
+link-some ws vs sh b zero f v h q = absurd (h refl)
+link-some ws vs sh b (suc l) f v h q = let y : suc l - 1 ≡ l = omega arith in rw y at q
+
+-- the stores of `unlink_slot`
+pub unlink-is : (ws : List ℕ) (sh : Shape) (b k : ℕ) (n q h d c x : ℕ) (w₁ w₂ w₃ w₄ : List ℕ)
+    → n ≡ slotWord (load ws sh) b k 2 → q ≡ slotWord (load ws sh) b k 3 → h ≡ load ws sh (head b 6) → d ≡ load ws sh (head b 7) → c ≡ d - 1 → x ≡ firstAfter q n h
+    → w₁ ≡ linkW ws sh b q 2 n → w₂ ≡ linkW w₁ sh b n 3 q → w₃ ≡ save w₂ sh (head b 6) x → w₄ ≡ save w₃ sh (head b 7) c
+    → w₄ ≡ unlinkW ws sh b k
+unfolding unlinkW look
+unlink-is ws sh b k n q h d c x w₁ w₂ w₃ w₄ e₁ e₂ e₃ e₄ e₅ e₆ a₁ a₂ a₃ a₄ = rw (a₄, a₃, a₂, a₁, e₆, e₅, e₄, e₃, e₂, e₁)
+
+-- `page_slots`
+pub slots-full : (p : ℕ) → p < 262143 → 64 ≡ slotsOf till p
+slots-full p h = omega (arith, slots-max)
+
+pub slots-last : (p : ℕ) → p ≡ 262143 → 63 ≡ slotsOf till p
+slots-last p h = omega (arith, slots-max)
+
+pub slots-none : (p : ℕ) → 262143 ≤ p → (p ≡ 262143 → ⊥) → 0 ≡ slotsOf till p
+slots-none p h k = omega (arith, slots-max)
+
+-- a page that has a slot
+pub slots-low : (p n j : ℕ) → n ≡ slotsOf till p → j < n → (p < 262144) × (j < 64)
+slots-low p n j e h = (omega (arith, slots-max), omega arith)
+
+-- the loop of `unlink_page`
+pub unlink-start : (ws : List ℕ) (sh : Shape) (b a : ℕ) → ws ≡ unlinkAll ws sh b a 0
+unfolding unlinkAll
+unlink-start ws sh b a = refl
+
+pub unlink-more : (ws us vs : List ℕ) (sh : Shape) (b a j : ℕ) → us ≡ unlinkAll ws sh b a j → vs ≡ unlinkW us sh b (a + j) → vs ≡ unlinkAll ws sh b a (j + 1)
+unfolding unlinkAll
+unlink-more ws us vs sh b a j e q = rw (add-one, ← e) q
+
+pub unlink-end : (ws us : List ℕ) (sh : Shape) (b p j n : ℕ) → us ≡ unlinkAll ws sh b (p * 64) j → j ≡ n → n ≡ slotsOf till p → us ≡ unlinkPageW ws sh b p
+unfolding unlinkPageW
+unlink-end ws us sh b p j n e q d = rw (← d, ← q) e
+
+-- `next_epoch`
+pub epoch-more : (e : ℕ) → e < 0xffff_ffff_ffff_ffff → e + 1 ≡ nextEpoch e
+epoch-more e h = omega arith
+
+pub epoch-wraps : (e : ℕ) → e < 2 ^ 64 → 0xffff_ffff_ffff_ffff ≤ e → 0 ≡ nextEpoch e
+epoch-wraps e h k = omega arith
+
+-- the stores of `join_detached`
+pub join-is : (ws : List ℕ) (sh : Shape) (b p : ℕ) (e d n y x : ℕ) (w₁ w₂ w₃ w₄ : List ℕ)
+    → e ≡ load ws sh (head b 10) → d ≡ load ws sh (head b 9) → n ≡ load ws sh (head b 4) → y ≡ up p → x ≡ nextEpoch n
+    → w₁ ≡ save ws sh (entry (e + p) 0) 0 → w₂ ≡ save w₁ sh (entry (e + p) 3) d → w₃ ≡ save w₂ sh (head b 9) y → w₄ ≡ save w₃ sh (head b 4) x
+    → w₄ ≡ joinDetachedW ws sh b p
+unfolding joinDetachedW
+join-is ws sh b p e d n y x w₁ w₂ w₃ w₄ e₁ e₂ e₃ e₄ e₅ a₁ a₂ a₃ a₄ = rw (a₄, a₃, a₂, a₁, e₅, e₄, e₃, e₂, e₁)
+
+-- the steps of `detach_page`
+pub detach-is : (ws : List ℕ) (sh : Shape) (b p : ℕ) (e x f : ℕ) (w₁ w₂ w₃ w₄ : List ℕ)
+    → e ≡ load ws sh (head b 10) → x ≡ load ws sh (entry (e + p) 0) → f ≡ x - 1
+    → w₁ ≡ unlinkPageW ws sh b p → w₂ ≡ leaveW w₁ sh b p → w₃ ≡ joinDetachedW w₂ sh b p → w₄ ≡ giveFrameW w₃ sh f
+    → w₄ ≡ detachW ws sh b p
+unfolding detachW look
+detach-is ws sh b p e x f w₁ w₂ w₃ w₄ e₁ e₂ e₃ a₁ a₂ a₃ a₄ = rw (a₄, a₃, a₂, a₁, e₃, e₂, e₁)
+
+-- `first_empty`
+pub first-yes : (m : Mem) (b w h : ℕ) (t : Bool) → w ≡ m (head b 2) → t ≡ eqb w 0 → t ≡ true → h ≡ m (head b 8) → h ≡ firstEmpty m b
+unfolding firstEmpty
+first-yes m b w h t e q y d = yes-is _ _ _ _ (ap (λ (x : ℕ). eqb x 0) (sym e) ∙ sym q ∙ y) d
+
+pub first-no : (m : Mem) (b w : ℕ) (t : Bool) → w ≡ m (head b 2) → t ≡ eqb w 0 → t ≡ false → 0 ≡ firstEmpty m b
+unfolding firstEmpty
+first-no m b w t e q y = no-is _ _ _ _ (ap (λ (x : ℕ). eqb x 0) (sym e) ∙ sym q ∙ y) refl
+
+-- `take_empty_page`
+module _ (ws os : List ℕ) (sh : Shape) (base b : ℕ) (t : Bool) (e : t ≡ ltb b (sh .tables)) where
+  pub take-unknown : (os′ : List ℕ) → t ≡ false → os′ ≡ answered os base (18 ∷ []) → both ws os′ ≡ takePageR ws os sh base b
+  unfolding takePageR
+  take-unknown os′ n q = no-is _ _ _ _ (sym e ∙ n) (ap (both ws) q)
+
+  module _ (y : t ≡ true) (h : ℕ) (d : h ≡ firstEmpty (load ws sh) b) (u : Bool) (c : u ≡ eqb h 0) where
+    test : u ≡ eqb (firstEmpty (load ws sh) b) 0
+    test = c ∙ ap (λ (x : ℕ). eqb x 0) d
+
+    pub take-none : (os′ : List ℕ) → u ≡ true → os′ ≡ answered os base (0 ∷ 0 ∷ []) → both ws os′ ≡ takePageR ws os sh base b
+    unfolding takePageR
+    take-none os′ z q = yes-is _ _ _ _ (sym e ∙ y) (yes-is _ _ _ _ (sym test ∙ z) (ap (both ws) q))
+
+    pub take-page : (p : ℕ) (ws′ os′ : List ℕ) → u ≡ false → p ≡ h - 1 → ws′ ≡ detachW ws sh b p → os′ ≡ answered os base (0 ∷ 1 ∷ p ∷ []) → both ws′ os′ ≡ takePageR ws os sh base b
+    unfolding takePageR
+    take-page p ws′ os′ z k a q = yes-is _ _ _ _ (sym e ∙ y) (no-is _ _ _ _ (sym test ∙ z) (rw (a, q, k, d)))

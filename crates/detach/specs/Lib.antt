@@ -1,0 +1,7 @@
+pub mod Ops
+pub mod Unlink
+pub mod Page
+pub mod Detached
+pub mod Reps
+pub mod Take
+pub mod Code

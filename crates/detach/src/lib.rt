@@ -1,0 +1,130 @@
+// SPDX-FileCopyrightText: 2026 roolrz
+// SPDX-License-Identifier: Apache-2.0
+// Ported from src/capability/handle/storage.rs and src/capability/handle/mod.rs of HypeR-Proj/kernel, with changes.
+
+// A page leaves its table, over the state's words: its slots leave the free order, and its frame is given back.
+ghost use mathlib.Core.Path.{_≡_};
+ghost use Rattle.model.specs.State.{till};
+ghost use Rattle.model.specs.Storage.{slotsOf};
+ghost use Rattle.layout.specs.Layout.{load as loadAt};
+ghost use Rattle.answer.specs.Does.{both};
+ghost use Rattle.detach.specs.Ops.{firstAfter, linkW, unlinkW, unlinkPageW, nextEpoch, joinDetachedW, detachW, firstEmpty, takePageR};
+use layout::Shape;
+
+// Word f of the slot of a link; through 0 nothing.
+fn put_link(s: &mut [u64], sh: Shape, b: u64, l: u64, f: u64, v: u64)
+    ensures { λ _. ⌜ now (s .exit) ≡ linkW (now (s .entry)) sh b l f v ⌝ }
+{
+    if l == 0 {
+        return;
+    }
+    storage::put_slot_word(s, sh, b, l - 1, f, v);
+}
+
+// The head of an order after a slot left it: its next, if it was the first.
+fn first_after(before: u64, next: u64, first: u64) -> u64
+    ensures { λ r. ⌜ r ≡ firstAfter before next first ⌝ }
+{
+    if before == 0 { next } else { first }
+}
+
+// Slot k, which is vacant, leaves the free order, wherever it stands in it. Its own words stay.
+fn unlink_slot(s: &mut [u64], sh: Shape, b: u64, k: u64)
+    ensures words { λ _. ⌜ now (s .exit) ≡ unlinkW (now (s .entry)) sh b k ⌝ }
+{
+    let n = storage::slot_word(s, sh, b, k, 2);
+    let q = storage::slot_word(s, sh, b, k, 3);
+    let h = layout::head_word(s, sh, b, 6);
+    let c = words::dec(layout::head_word(s, sh, b, 7));
+    let x = first_after(q, n, h);
+    put_link(s, sh, b, q, 2, n);
+    put_link(s, sh, b, n, 3, q);
+    layout::put_head(s, sh, b, 6, x);
+    layout::put_head(s, sh, b, 7, c);
+}
+
+// "Page 262,143 has 63 slots".
+fn page_slots(p: u64) -> u64
+    ensures { λ r. ⌜ r ≡ slotsOf till p ⌝ }
+{
+    if p < 262143 {
+        return 64;
+    }
+    if p == 262143 {
+        return 63;
+    }
+    0
+}
+
+// The slots of page p, all vacant, leave the free order.
+fn unlink_page(s: &mut [u64], sh: Shape, b: u64, p: u64)
+    ensures words { λ _. ⌜ now (s .exit) ≡ unlinkPageW (now (s .entry)) sh b p ⌝ }
+{
+    let n = page_slots(p);
+    let mut j: u64 = 0;
+    while j < n {
+        unlink_slot(s, sh, b, p * 64 + j);
+        j += 1;
+    }
+}
+
+// "The epoch wraps from 2^64 - 1 to 0".
+fn next_epoch(e: u64) -> u64
+    ensures { λ r. ⌜ r ≡ nextEpoch e ⌝ }
+{
+    if e < 0xffff_ffff_ffff_ffff { e + 1 } else { 0 }
+}
+
+// Page p has no frame and goes to the head of the detached pages' order; its high mark stays, and the epoch advances.
+fn join_detached(s: &mut [u64], sh: Shape, b: u64, p: u64)
+    ensures words { λ _. ⌜ now (s .exit) ≡ joinDetachedW (now (s .entry)) sh b p ⌝ }
+{
+    let e = layout::head_word(s, sh, b, 10);
+    let d = layout::head_word(s, sh, b, 9);
+    let y = words::inc(p);
+    let x = next_epoch(layout::head_word(s, sh, b, 4));
+    storage::put_page(s, sh, e, p, 0, 0);
+    storage::put_page(s, sh, e, p, 3, d);
+    layout::put_head(s, sh, b, 9, y);
+    layout::put_head(s, sh, b, 4, x);
+}
+
+// Page p, which is empty, is detached and its frame given back.
+pub fn detach_page(s: &mut [u64], sh: Shape, b: u64, p: u64)
+    ensures words { λ _. ⌜ now (s .exit) ≡ detachW (now (s .entry)) sh b p ⌝ }
+{
+    let e = layout::head_word(s, sh, b, 10);
+    let f = words::dec(storage::page_word(s, sh, e, p, 0));
+    unlink_page(s, sh, b, p);
+    storage::leave_empty(s, sh, b, p);
+    join_detached(s, sh, b, p);
+    frames::give_frame(s, sh, f);
+}
+
+// The first empty page, plus 1, of a table that is active; 0 for none.
+fn first_empty(s: &[u64], sh: Shape, b: u64) -> u64
+    ensures { λ r. ⌜ r ≡ firstEmpty (loadAt (now (s .entry)) sh) b ⌝ }
+{
+    if words::eq(layout::head_word(s, sh, b, 2), 0) {
+        return layout::head_word(s, sh, b, 8);
+    }
+    0
+}
+
+// "On an inactive table `take_empty_page` answers none, not a refusal; so does a table with no empty page".
+pub fn take_empty_page(s: &mut [u64], sh: Shape, b: u64, out: &mut [u64], base: usize)
+    ensures { λ _. ⌜ both (now (s .exit)) (now (out .exit)) ≡ takePageR (now (s .entry)) (now (out .entry)) sh base b ⌝ }
+{
+    if words::lt(b, sh.tables as u64) {
+        let h = first_empty(s, sh, b);
+        if words::eq(h, 0) {
+            answer::say1(out, base, 0);
+            return;
+        }
+        let p = words::dec(h);
+        detach_page(s, sh, b, p);
+        answer::say2(out, base, 1, p);
+        return;
+    }
+    answer::refuse(out, base, format::refusal::MISUSE);
+}

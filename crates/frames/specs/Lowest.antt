@@ -1,0 +1,100 @@
+-- The lowest free frame is found: the first of the list of free frames. Assumes nothing.
+use mathlib.Core.Path.{_≡_, refl, sym, ap, _∙_}
+use mathlib.Core.Bool.{true, false}
+use mathlib.Core.List.{List, _∷_}
+use mathlib.Core.Option.{Option, none, some}
+use Prim.Native.Nat.{ℕ, zero, suc, _+_, _*_, _/_, _≤_, _<_}
+use native.Mathlib.Omega.{arith}
+use native.Mathlib.Nat.{div-add-mod', mul-le-mul-right}
+use lib.Dec.{ltb}
+use borrow.Author.Tests.{eq-eqb, ne-eqb, eqb-true, ltb-true, ltb-false, lt-ltb}
+use Rattle.words.specs.Pick.{bool, clash}
+use Rattle.model.specs.Base.{bit, occurs, sum, isSome}
+use Rattle.model.specs.State.{till, State}
+use Rattle.model.specs.WellFormed.{Rising, isFrame, Frames}
+use Rattle.model.specs.Sums.{sum-zero}
+use Rattle.model.specs.Tests.{bit-true}
+use Rattle.invariant.specs.Orders.{attached-below}
+use Rattle.layout.specs.declared.Shape.{Shape}
+use Rattle.layout.specs.Layout.{Mem, owner, group, load}
+use Rattle.representation.specs.Represents.{FramesAre}
+use Rattle.storage.specs.Order.{bit-same, occurs-head}
+use Rattle.storage.specs.Whole.{Placed}
+use Rattle.storage.specs.Reps.{Held}
+use Rattle.frames.specs.Pool.{span, span-some, inGroup, more-group, Counted, counted-of}
+use Rattle.frames.specs.Frames.{rising-above, free-below}
+use Rattle.frames.specs.Ops.{firstOf, hasFree, lowestAt, first-is}
+
+-- what the test says of a count and of an owner
+count-has : (m : Mem) (i g : ℕ) → 0 < m (group i g) → hasFree m (4 + i) g ≡ true
+count-has m i g h = rw (ne-eqb (4 + i) 3 (λ e. omega arith), ne-eqb (m (group i g)) 0 (λ e. omega arith))
+
+count-none : (m : Mem) (i g : ℕ) → m (group i g) ≡ 0 → hasFree m (4 + i) g ≡ false
+count-none m i g h = rw (ne-eqb (4 + i) 3 (λ e. omega arith), eq-eqb (m (group i g)) 0 h)
+
+owner-has : (m : Mem) (g : ℕ) → m (owner g) ≡ 0 → hasFree m 3 g ≡ true
+owner-has m g h = rw (eq-eqb (m (owner g)) 0 h)
+
+owner-none : (m : Mem) (g : ℕ) → 0 < m (owner g) → hasFree m 3 g ≡ false
+owner-none m g h = rw (ne-eqb (m (owner g)) 0 (λ e. omega arith))
+
+-- a group below that of the lowest has none of the list
+below-none : (f : ℕ) (l : List ℕ) → Rising (f ∷ l) → (z g : ℕ) → g < f / z → inGroup (f ∷ l) z g ≡ 0
+below-none f l r z g h = sum-zero z (λ j. occurs (g * z + j) (f ∷ l))
+    (λ j i. rising-above (g * z + j) f l r (omega (arith, mul-le-mul-right {m = suc g} {n = f / z} z h, div-add-mod' f z)))
+
+module _ (m : Mem) (n f : ℕ) (l : List ℕ) (r : Counted m n (f ∷ l)) (up : Rising (f ∷ l)) (below : f < n) where
+  -- of 16 groups of level i the first that has a free frame is that of f
+  level-first : (i : ℕ) → i < 3 → (a : ℕ) → a ≤ f / span i → f / span i < a + 16 → firstOf (hasFree m (4 + i)) a 16 ≡ f / span i
+  level-first i li a h k = first-is (hasFree m (4 + i)) a 16 (f / span i) h k
+      (λ g y x. count-none m i g
+      (r .groups i li g (omega (arith, mul-le-mul-right {m = suc g} {n = f / span i} (span i) x, div-add-mod' f (span i))) ∙ below-none f l up (span i) g x))
+      (count-has m i (f / span i)
+      (omega (arith, r .groups i li (f / span i) (omega (arith, div-add-mod' f (span i))), more-group f l (f ∷ l) (λ x. refl) (span i) (f / span i) (span-some i), bit-same (f / span i) (f / span i) refl)))
+
+  -- THE LOWEST FREE FRAME
+  pub lowest-is : n ≤ 65536 → ((g : ℕ) → g < n → occurs g (f ∷ l) ≡ 0 → 0 < m (owner g)) → lowestAt m ≡ f
+  unfolding lowestAt
+  lowest-is few owned = rw (
+    level-first 2 (omega arith) 0 (omega arith) (omega arith),
+    level-first 1 (omega arith) (f / 4096 * 16) (omega arith) (omega arith),
+    level-first 0 (omega arith) (f / 256 * 16) (omega arith) (omega arith),
+  )
+      (first-is (hasFree m 3) (f / 16 * 16) 16 f (omega arith) (omega arith)
+      (λ g y x. owner-none m g (owned g (omega arith) (rising-above g f l up x)))
+      (owner-has m f (r .free f (occurs-head f l))))
+
+-- ---- in a state
+
+-- a sum that is not 0 has a part that is not
+sum-some : (n : ℕ) (f : ℕ → ℕ) → 0 < sum n f → (k : ℕ) × (k < n) × (0 < f k)
+sum-some zero f h = absurd (omega arith)
+sum-some (suc n) f h = bool (ltb 0 (f n))
+    (λ e. (n, omega arith, ltb-true 0 (f n) e))
+    (λ e. let q = sum-some n f (omega (arith, ltb-false 0 (f n) e)) in (q .0, omega (arith, q .1), q .2))
+
+frame-some : (x : Option ℕ) (f : ℕ) → isFrame x f ≡ true → x ≡ some f
+frame-some none f e = clash e refl
+frame-some (some g) f e = ap some (sym (eqb-true f g e))
+
+module _ (m : Mem) (s : State) (r : FramesAre m s) (pl : Placed s) where
+  -- a frame that a page has has an owner
+  page-owner : (f b p : ℕ) → b < s .tableCount → isFrame (s .tables b .pages p .frame) f ≡ true → 0 < m (owner f)
+  page-owner f b p l h =
+      let e : s .tables b .pages p .frame ≡ some f = frame-some (s .tables b .pages p .frame) f h in
+      omega (arith, r .held b p f l (attached-below till (s .tables b) (s .tables b .free) (pl .sound b l) p (ap isSome {x = s .tables b .pages p .frame} e)) e)
+
+  -- so has every frame that is not free
+  pub owned-of : Frames s → (f : ℕ) → f < s .frameCount → occurs f (s .frames) ≡ 0 → 0 < m (owner f)
+  owned-of w f l out =
+      let one : bit (ltb f (s .frameCount)) ≡ 1 = ap bit (lt-ltb f (s .frameCount) l) in
+      let b = sum-some (s .tableCount) (λ c. sum (s .tables c .limit) λ p. bit (isFrame (s .tables c .pages p .frame) f)) (omega (arith, w .once f)) in
+      let p = sum-some (s .tables (b .0) .limit) (λ p. bit (isFrame (s .tables (b .0) .pages p .frame) f)) (b .2) in
+      page-owner f (b .0) (p .0) (b .1) (bit-true (isFrame (s .tables (b .0) .pages (p .0) .frame) f) (p .2))
+
+-- THE LOWEST FREE FRAME of a state that words represent
+pub lowest-free : (ws : List ℕ) (sh : Shape) (s : State) → Held ws sh s → Frames s → (f : ℕ) (fs : List ℕ) → s .frames ≡ f ∷ fs → lowestAt (load ws sh) ≡ f
+lowest-free ws sh s h w f fs e = let r = h .reps .memory in
+    lowest-is (load ws sh) (s .frameCount) f fs (rw e at (counted-of (load ws sh) s (r .frames))) (rw e at (w .rising)) (free-below s w f (rw e (occurs-head f fs)))
+    (omega (arith, r .frameCount, h .reps .shaped .limits .few-frames))
+    (λ g l o. owned-of (load ws sh) s (r .frames) (h .placed) w g l (rw e o))

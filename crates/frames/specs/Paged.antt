@@ -1,0 +1,220 @@
+-- A change of one table's pages, in the state: every other table, the objects and the rows are as they were. Assumes nothing.
+use mathlib.Core.Path.{_≡_, refl, sym, ap, _∙_}
+use mathlib.Core.Logic.{_⊎_, inl, inr, ⊎-elim}
+use mathlib.Core.Option.{Option, none, some}
+use Prim.Native.Nat.{ℕ, zero, suc, _+_, _-_, _/_, _%_, _≤_, _<_}
+use native.Mathlib.Omega.{arith}
+use lib.Dec.{ltb}
+use borrow.Author.Tests.{ltb-true, ltb-false}
+use Rattle.words.specs.Pick.{bool}
+use Rattle.model.specs.Base.{occurs, sum}
+use Rattle.model.specs.State.{Table, State}
+use Rattle.layout.specs.declared.Shape.{Shape}
+use Rattle.layout.specs.Layout.{Addr, Addr.reg, Mem, root, head, entry, owner, cell, object, index, rank, row, item, same, same-is, Write.at, upd}
+use Rattle.representation.specs.Represents.{entryAt, linkOf, wordIn, frameOf, slotWord, tagged, TableIs, Represents}
+use Rattle.storage.specs.Order.{same?, chain-frame, linked-frame}
+use Rattle.storage.specs.Sight.{Spot.pg, look, OnlyTable, frame-is}
+use Rattle.storage.specs.Slots.{framed, Seen, see, unsee, empty-below, detached-below}
+use Rattle.storage.specs.Whole.{Placed}
+
+-- a page of table b has the frame x
+abbrev pub Has : Mem → ℕ → ℕ → Type 0
+Has m b x = (p : ℕ) × (p < m (head b 5)) × (m (entry (entryAt m b p) 0) ≡ suc x)
+
+-- the addresses that a change of table b's pages in the frame fr may change: the head but for the limit, the mask, the lifecycle and the first entry; all of the table's
+-- page entries; the owner of fr; the counts of free frames; and slots in fr and in the table's frames
+abbrev pub Pages : Mem → ℕ → ℕ → Addr → Type 0
+Pages m b fr (reg k x y f) =
+    ((k ≡ 0) × (f ≡ 7))
+    ⊎ ((k ≡ 1) × (x ≡ b) × (4 ≤ f) × (f ≤ 9))
+    ⊎ ((k ≡ 2) × (m (head b 10) ≤ x) × (x < m (head b 10) + m (head b 0)))
+    ⊎ ((k ≡ 3) × (x ≡ fr))
+    ⊎ ((4 ≤ k) × (k ≤ 6))
+    ⊎ ((k ≡ 7) × ((x ≡ fr) ⊎ Has m b x))
+
+-- ONLY THE PAGES of table b and the frame fr: every other address keeps its word
+abbrev pub OnlyPaged : ℕ → ℕ → Mem → Mem → Type 0
+OnlyPaged b fr m n = (a : Addr) → (Pages m b fr a → ⊥) → n a ≡ m a
+
+-- an address that is none of these
+pub outside : (m : Mem) (b fr k x y f : ℕ) → (k ≡ 0 → f ≡ 7 → ⊥) → (k ≡ 1 → x ≡ b → 4 ≤ f → f ≤ 9 → ⊥)
+    → (k ≡ 2 → m (head b 10) ≤ x → x < m (head b 10) + m (head b 0) → ⊥) → (k ≡ 3 → x ≡ fr → ⊥) → (4 ≤ k → k ≤ 6 → ⊥)
+    → (k ≡ 7 → (x ≡ fr) ⊎ Has m b x → ⊥) → Pages m b fr (reg k x y f) → ⊥
+outside m b fr k x y f r h e o g c =
+    ⊎-elim (λ i. r (i .0) (i .1)) (⊎-elim (λ i. h (i .0) (i .1) (i .2) (i .3)) (⊎-elim (λ i. e (i .0) (i .1) (i .2)) (⊎-elim (λ i. o (i .0) (i .1))
+    (⊎-elim (λ i. g (i .0) (i .1)) (λ i. c (i .0) (i .1))))))
+
+-- ---- what keeps to the pages
+
+-- a store at an address that may change
+pub only-write : (P : Addr → Type 0) (m n : Mem) → ((c : Addr) → (P c → ⊥) → n c ≡ m c) → (a : Addr) (v : ℕ) → P a → (c : Addr) → (P c → ⊥) → upd n (at a v) c ≡ m c
+only-write P m n o a v i c h = bool (same a c) (λ e. absurd (h (rw (same-is a c e) i))) (λ e. rw e (o c h))
+
+-- a store into the pages
+pub paged-write : (b fr : ℕ) (m n : Mem) → OnlyPaged b fr m n → (a : Addr) (v : ℕ) → Pages m b fr a → OnlyPaged b fr m (upd n (at a v))
+paged-write b fr m n = only-write (Pages m b fr) m n
+
+module _ (b fr : ℕ) (m n : Mem) (o : OnlyPaged b fr m n) where
+  pub paged-root : (f : ℕ) → (f ≡ 7 → ⊥) → n (root f) ≡ m (root f)
+  paged-root f h = o (root f) (outside m b fr 0 0 0 f (λ e q. h q) (λ e q s t. omega arith) (λ e q s. omega arith) (λ e q. omega arith) (λ e q. omega arith) (λ e q. omega arith))
+
+  -- the first entry, the limit, the mask and the lifecycle of every table
+  pub paged-head : (c f : ℕ) → (4 ≤ f → f ≤ 9 → ⊥) → n (head c f) ≡ m (head c f)
+  paged-head c f h = o (head c f) (outside m b fr 1 c 0 f (λ e q. omega arith) (λ e q s t. h s t) (λ e q s. omega arith) (λ e q. omega arith) (λ e q. omega arith) (λ e q. omega arith))
+
+  pub paged-first : (c : ℕ) → n (head c 10) ≡ m (head c 10)
+  paged-first c = paged-head c 10 (λ s t. omega arith)
+
+  pub paged-owner : (g : ℕ) → (g ≡ fr → ⊥) → n (owner g) ≡ m (owner g)
+  paged-owner g h = o (owner g) (outside m b fr 3 g 0 0 (λ e q. omega arith) (λ e q s t. omega arith) (λ e q s. omega arith) (λ e q. h q) (λ e q. omega arith) (λ e q. omega arith))
+
+  -- regions above the frames
+  pub paged-high : (k x y f : ℕ) → 8 ≤ k → n (reg k x y f) ≡ m (reg k x y f)
+  paged-high k x y f l = o (reg k x y f) (outside m b fr k x y f (λ e q. omega arith) (λ e q s t. omega arith) (λ e q s. omega arith) (λ e q. omega arith) (λ e q. omega arith) (λ e q. omega arith))
+
+  pub paged-object : (x f : ℕ) → n (object x f) ≡ m (object x f)
+  paged-object x f = paged-high 8 x 0 f (omega arith)
+
+  pub paged-index : (i : ℕ) → n (index i) ≡ m (index i)
+  paged-index i = paged-high 9 i 0 0 (omega arith)
+
+  pub paged-rank : (i : ℕ) → n (rank i) ≡ m (rank i)
+  paged-rank i = paged-high 9 i 0 1 (omega arith)
+
+  pub paged-row : (x f : ℕ) → n (row x f) ≡ m (row x f)
+  paged-row x f = paged-high 10 x 0 f (omega arith)
+
+  pub paged-item : (x j f : ℕ) → n (item x j f) ≡ m (item x j f)
+  paged-item x j f = paged-high 10 x (suc j) f (omega arith)
+
+  -- a change of the table as it stands in n, whose frames are fr and those that it had
+  pub paged-table : (l : Mem) → OnlyTable b n l → n (head b 5) ≤ m (head b 0) → ((x : ℕ) → Has n b x → (x ≡ fr) ⊎ Has m b x) → OnlyPaged b fr m l
+  paged-table l t s h (reg k x y f) i = t (reg k x y f) (⊎-elim
+      (λ q. i (inr (inl (q .0, q .1, omega arith, omega arith))))
+      (⊎-elim
+      (λ q. i (inr (inr (inl (q .0, omega (arith, q .1, paged-first b), omega (arith, q .2, paged-first b))))))
+      (λ q. i (inr (inr (inr (inr (inr (q .0, h x (q .1))))))))))
+      ∙ o (reg k x y f) i
+
+-- a change of one table that leaves its place
+pub table-paged : (b fr : ℕ) (m n : Mem) → m (head b 5) ≤ m (head b 0) → OnlyTable b m n → OnlyPaged b fr m n
+table-paged b fr m n s t = paged-table b fr m m (λ a i. refl) n t s (λ x h. inr h)
+
+-- ---- runs of entries do not meet
+
+sum-up : (n : ℕ) (f : ℕ → ℕ) (b : ℕ) → b < n → sum b f + f b ≤ sum n f
+sum-up zero f b h = absurd (omega arith)
+sum-up (suc n) f b h = ⊎-elim
+    (λ (e : b ≡ n). rw e (omega arith))
+    (λ (e : b ≡ n → ⊥). omega (arith, sum-up n f b (omega arith)))
+    (same? b n)
+
+runs-apart : (f : ℕ → ℕ) (b c p q : ℕ) → p < f b → q < f c → sum b f + p ≡ sum c f + q → b ≡ c
+runs-apart f b c p q h i e = ⊎-elim (λ z. z)
+    (λ (z : b ≡ c → ⊥). bool (ltb b c)
+    (λ l. absurd (omega (arith, sum-up c f b (ltb-true b c l))))
+    (λ l. absurd (omega (arith, sum-up b f c (omega (arith, ltb-false b c l))))))
+    (same? b c)
+
+link-some : (x : Option ℕ) (f : ℕ) → linkOf x ≡ suc f → x ≡ some f
+link-some none f e = absurd (omega arith)
+link-some (some g) f e = let y : g ≡ f = omega arith in rw y
+
+module _ (sh : Shape) (m : Mem) (s : State) (r : Represents sh m s) (pl : Placed s) where
+  -- entries below the limits
+  pub entries-apart : (b c p q : ℕ) → b < s .tableCount → c < s .tableCount → p < s .tables b .limit → q < s .tables c .limit → entryAt m b p ≡ entryAt m c q → b ≡ c
+  entries-apart b c p q l k h i e = runs-apart (λ x. s .tables x .limit) b c p q h i (omega (arith, r .first b l, r .first c k))
+
+  -- and they are entries
+  pub entry-below : (b p : ℕ) → b < s .tableCount → p < s .tables b .limit → entryAt m b p < sh .pages
+  entry-below b p l h = omega (arith, r .first b l, r .pageCount, sum-up (s .tableCount) (λ x. s .tables x .limit) b l)
+
+  -- a frame of table b, by the words
+  pub has-owner : (b x : ℕ) → b < s .tableCount → (h : Has m b x) → m (owner x) ≡ suc (entryAt m b (h .0))
+  has-owner b x l h = let t = r .tables b l in let i : h .0 < s .tables b .size = omega (arith, t .size, h .1) in
+      r .frames .held b (h .0) x l i (link-some (s .tables b .pages (h .0) .frame) x (sym (t .frame (h .0) i) ∙ h .2))
+
+  -- no two tables have one frame
+  pub has-apart : (b c x : ℕ) → b < s .tableCount → c < s .tableCount → Has m b x → Has m c x → b ≡ c
+  has-apart b c x l k h i = entries-apart b c (h .0) (i .0) l k
+      (omega (arith, h .1, r .tables b l .size, pl .sound b l .size)) (omega (arith, i .1, r .tables c k .size, pl .sound c k .size))
+      (omega (arith, has-owner b x l h, has-owner c x k i))
+
+-- ---- the other tables
+
+-- no other table has the frame
+abbrev pub Alone : Mem → State → ℕ → ℕ → Type 0
+Alone m s b fr = (c : ℕ) → c < s .tableCount → Has m c fr → c ≡ b
+
+-- a free frame
+pub free-alone : (sh : Shape) (m : Mem) (s : State) (r : Represents sh m s) → Placed s → (b fr : ℕ) → 0 < occurs fr (s .frames) → Alone m s b fr
+free-alone sh m s r pl b fr h c l i = absurd (omega (arith, r .frames .free fr h, has-owner sh m s r pl c fr l i))
+
+-- a frame of table b
+pub own-alone : (sh : Shape) (m : Mem) (s : State) (r : Represents sh m s) → Placed s → (b fr : ℕ) → b < s .tableCount → Has m b fr → Alone m s b fr
+own-alone sh m s r pl b fr l h c k i = has-apart sh m s r pl c b fr k l i h
+
+module _ (sh : Shape) (m : Mem) (s : State) (r : Represents sh m s) (pl : Placed s) (b : ℕ) (lb : b < s .tableCount) (fr : ℕ) (alone : Alone m s b fr)
+    (n : Mem) (o : OnlyPaged b fr m n) where
+  module _ (c : ℕ) (lc : c < s .tableCount) (ne : c ≡ b → ⊥) where
+    other-head : (f : ℕ) → n (head c f) ≡ m (head c f)
+    other-head f = o (head c f) (outside m b fr 1 c 0 f (λ e q. omega arith) (λ e q i j. ne q) (λ e q i. omega arith) (λ e q. omega arith) (λ e q. omega arith) (λ e q. omega arith))
+
+    -- pages below the size
+    other-page : (p f : ℕ) → p < m (head c 5) → look n c (pg p f) ≡ look m c (pg p f)
+    unfolding look
+    other-page p f h = ap (λ (e : ℕ). n (entry (e + p) f)) (other-head 10) ∙ o (entry (m (head c 10) + p) f)
+        (outside m b fr 2 (m (head c 10) + p) 0 f (λ e q. omega arith) (λ e q i j. omega arith)
+        (λ e q i. ne (entries-apart sh m s r pl c b p (m (head c 10) + p - m (head b 10)) lc lb
+        (omega (arith, r .tables c lc .size, pl .sound c lc .size)) (omega (arith, r .tables b lb .limit)) (omega arith)))
+        (λ e q. omega arith) (λ e q. omega arith) (λ e q. omega arith))
+
+    other-frame : (k : ℕ) → frameOf n c k ≡ frameOf m c k
+    unfolding look
+    other-frame k = bool (ltb (k / 64) (m (head c 5)))
+        (λ l. rw (other-head 5, l, other-page (k / 64) 0 (ltb-true (k / 64) (m (head c 5)) l)))
+        (λ l. rw (other-head 5, l))
+
+    -- and all slots
+    pub other-slot : (k f : ℕ) → slotWord n c k f ≡ slotWord m c k f
+    other-slot k f = ap (λ (x : ℕ). wordIn n x (k % 64) f) (other-frame k) ∙ go (frameOf m c k) refl
+      where
+        go : (x : ℕ) → frameOf m c k ≡ x → wordIn n x (k % 64) f ≡ wordIn m x (k % 64) f
+        go zero e = refl
+        go (suc x) e = let i = frame-is m c k x e in let h : Has m c x = (k / 64, i .1, i .2) in
+            o (cell x (k % 64) f) (outside m b fr 7 x (k % 64) f (λ e q. omega arith) (λ e q i j. omega arith) (λ e q i. omega arith) (λ e q. omega arith) (λ e q. omega arith)
+            (λ e. ⊎-elim (λ (d : x ≡ fr). ne (alone c lc (rw d at h))) (λ d. ne (has-apart sh m s r pl c b x lc lb h d))))
+
+    other-seen : Seen m (look n c) (s .tables c)
+    unfolding look
+    other-seen =
+        let t : Table = s .tables c in
+        let z : Seen m (look m c) t = see m c t (r .tables c lc) in
+        let d = pl .sound c lc in
+        let inside : (p : ℕ) → p < t .size → p < m (head c 5) = λ p h. omega (arith, z .size) in
+        record {
+          limit = other-head 0 ∙ z .limit;
+          mask = other-head 1 ∙ z .mask;
+          life = rw (other-head 2, other-head 3) (z .life);
+          epoch = other-head 4 ∙ z .epoch;
+          size = other-head 5 ∙ z .size;
+          frame = λ p h. other-page p 0 (inside p h) ∙ z .frame p h;
+          high = λ p h. other-page p 1 (inside p h) ∙ z .high p h;
+          busy = λ p h a. other-page p 2 (inside p h) ∙ z .busy p h a;
+          slots = λ k. same-slot (frameOf n c k) (frameOf m c k) (other-frame k) (slotWord n c k 0) (slotWord n c k 1) (slotWord n c k 2) (slotWord n c k 3) (slotWord n c k 4) _ _ _ _ _
+              (other-slot k 0) (other-slot k 1) (other-slot k 2) (other-slot k 3) (other-slot k 4) ∙ z .slots k;
+          free = rw (other-head 6) (chain-frame (λ k. slotWord m c k 2) (λ k. slotWord m c k 3) _ _ (m (head c 6)) 0 (t .free) (z .free) (λ k i. (other-slot k 2, other-slot k 3)));
+          freeCount = other-head 7 ∙ z .freeCount;
+          empty = rw (other-head 8) (chain-frame (λ p. m (entry (entryAt m c p) 3)) (λ p. m (entry (entryAt m c p) 4)) _ _ (m (head c 8)) 0 (t .empty) (z .empty)
+              (λ p i. let h : p < m (head c 5) = inside p (empty-below t d p i) in (other-page p 3 h, other-page p 4 h)));
+          detached = rw (other-head 9) (linked-frame (λ p. m (entry (entryAt m c p) 3)) _ (m (head c 9)) (t .detached) (z .detached)
+              (λ p i. other-page p 3 (inside p (detached-below t d p i))));
+        }
+      where
+        same-slot : (fr fr′ : ℕ) → fr ≡ fr′ → (a₀ a₁ a₂ a₃ a₄ e₀ e₁ e₂ e₃ e₄ : ℕ) → a₀ ≡ e₀ → a₁ ≡ e₁ → a₂ ≡ e₂ → a₃ ≡ e₃ → a₄ ≡ e₄
+            → framed fr (tagged m a₀ a₁ a₂ a₃ a₄) ≡ framed fr′ (tagged m e₀ e₁ e₂ e₃ e₄)
+        same-slot fr fr′ p a₀ a₁ a₂ a₃ a₄ e₀ e₁ e₂ e₃ e₄ q₀ q₁ q₂ q₃ q₄ = rw (p, q₀, q₁, q₂, q₃, q₄)
+
+    -- THE OTHER TABLES are as they were
+    pub other-table : TableIs n c (s .tables c)
+    other-table = unsee m n c (s .tables c) (λ x. paged-row b fr m n o x 0) other-seen

@@ -1,0 +1,135 @@
+-- The state with a table whose pages changed, and other free frames. Assumes nothing.
+use mathlib.Core.Path.{_≡_, sym, _∙_}
+use mathlib.Core.Bool.{true}
+use mathlib.Core.List.{List}
+use mathlib.Core.Option.{some}
+use Prim.Native.Nat.{ℕ, _<_}
+use native.Mathlib.Omega.{arith}
+use lib.ListN.{length}
+use lib.Dec.{eqb}
+use borrow.Author.Tests.{eqb-true, eqb-false}
+use Rattle.words.specs.Pick.{bool}
+use Rattle.model.specs.Base.{put}
+use Rattle.model.specs.State.{till, Table, State}
+use Rattle.model.specs.Change.{withTable, withFrames}
+use Rattle.model.specs.Sums.{sum-equal}
+use Rattle.invariant.specs.Orders.{Sound}
+use Rattle.layout.specs.declared.Shape.{Shape}
+use Rattle.layout.specs.Layout.{Mem, object, index, load}
+use Rattle.layout.specs.ShapeOf.{Roots}
+use Rattle.representation.specs.Represents.{slotWord, TableIs, FramesAre, ObjectIs, isMarked, Represents}
+use Rattle.storage.specs.Whole.{Placed, rows-kept, MarkIs, mark-kept}
+use Rattle.storage.specs.Reps.{Held}
+use Rattle.frames.specs.Paged.{OnlyPaged, Alone, paged-root, paged-first, paged-object, paged-index, paged-rank, paged-row, paged-item, other-slot, other-table}
+
+-- a mark on a slot whose words stay
+pub paged-mark : (b fr : ℕ) (m n : Mem) → OnlyPaged b fr m n → (s : State) (k : ℕ) → slotWord n b k 0 ≡ slotWord m b k 0 → slotWord n b k 2 ≡ slotWord m b k 2 → slotWord n b k 3 ≡ slotWord m b k 3
+    → MarkIs m s b k → MarkIs n s b k
+paged-mark b fr m n o s k = mark-kept m n s b k (paged-rank b fr m n o) (paged-row b fr m n o) (paged-item b fr m n o)
+
+-- a table that is like another in what F shows is so in the state
+put-like : {A : Type 0} (F : Table → A) (f : ℕ → Table) (b : ℕ) (u : Table) → F u ≡ F (f b) → (c : ℕ) → F (put f b u c) ≡ F (f c)
+put-like F f b u e c = bool (eqb c b) (λ q. rw (q, eqb-true c b q) e) (λ q. rw q)
+
+-- the state then
+abbrev pub paged : State → ℕ → Table → List ℕ → State
+paged s b u fs = withFrames (withTable s b u) fs
+
+module _ (sh : Shape) (m : Mem) (s : State) (r : Represents sh m s) (pl : Placed s) (b : ℕ) (lb : b < s .tableCount) (fr : ℕ) (alone : Alone m s b fr)
+    (n : Mem) (o : OnlyPaged b fr m n) (u : Table) (now : TableIs n b u) (lim : u .limit ≡ s .tables b .limit) where
+  with-object : (x : ℕ) → x < s .objectCount → ObjectIs n x (s .objects x)
+  with-object x l = let q = r .objects x l in
+      let e : (f : ℕ) → n (object x f) ≡ m (object x f) = paged-object b fr m n o x in
+      record {
+        koid = e 0 ∙ q .koid;
+        kind = e 1 ∙ q .kind;
+        class = e 2 ∙ q .class;
+        supported = e 3 ∙ q .supported;
+        exportable = e 4 ∙ q .exportable;
+        stage = e 5 ∙ q .stage;
+        count = e 6 ∙ q .count;
+        limit = e 7 ∙ q .limit;
+      }
+
+  -- THE STATE WITH THE TABLE AND THE FREE FRAMES: the marks of table b are the operation's to show
+  pub with-paged : (fs : List ℕ) → FramesAre n (paged s b u fs) → ((k : ℕ) → isMarked (u .slots k) ≡ true → MarkIs n s b k) → Represents sh n (paged s b u fs)
+  with-paged fs frames marked = record {
+    tableCount = r .tableCount;
+    frameCount = r .frameCount;
+    objectCount = r .objectCount;
+    capacity = r .capacity;
+    pageCount = r .pageCount ∙ sum-equal (s .tableCount) (λ c. s .tables c .limit) (λ c. put (s .tables) b u c .limit)
+        (λ c l. sym (put-like (λ t. t .limit) (s .tables) b u lim c));
+    first = λ c l. paged-first b fr m n o c ∙ r .first c l ∙ sum-equal c (λ x. s .tables x .limit) (λ x. put (s .tables) b u x .limit)
+        (λ x h. sym (put-like (λ t. t .limit) (s .tables) b u lim x));
+    tables = λ c l. bool (eqb c b)
+        (λ e. rw (e, eqb-true c b e) now)
+        (λ e. rw e (other-table sh m s r pl b lb fr alone n o c l (eqb-false c b e)));
+    frames = frames;
+    objects = with-object;
+    book = let q = r .book in record {
+      next = paged-root b fr m n o 5 (λ e. omega arith) ∙ q .next;
+      used = paged-root b fr m n o 6 (λ e. omega arith) ∙ q .used;
+      rows = rows-kept m n (paged-index b fr m n o) (paged-row b fr m n o) (paged-item b fr m n o) 0 (s .book .rows) (q .rows);
+      places = λ i h. rw (paged-index b fr m n o i) (q .places i h .0, paged-rank b fr m n o (m (index i)) ∙ q .places i h .1);
+      marks = λ c k l h. bool (eqb c b)
+          (λ e. rw (eqb-true c b e) (marked k (rw e at h)))
+          (λ e. let w : (f : ℕ) → slotWord n c k f ≡ slotWord m c k f = other-slot sh m s r pl b lb fr alone n o c l (eqb-false c b e) k in
+          mark-kept m n s c k (paged-rank b fr m n o) (paged-row b fr m n o) (paged-item b fr m n o) (w 0) (w 2) (w 3) (q .marks c k l (rw e at h)));
+    };
+  }
+
+  -- marks that were there, on slots whose words stay
+  pub with-paged-marks : (fs : List ℕ) → FramesAre n (paged s b u fs)
+      → ((k : ℕ) → isMarked (u .slots k) ≡ true
+      → (isMarked (s .tables b .slots k) ≡ true) × (slotWord n b k 0 ≡ slotWord m b k 0) × (slotWord n b k 2 ≡ slotWord m b k 2) × (slotWord n b k 3 ≡ slotWord m b k 3))
+      → Represents sh n (paged s b u fs)
+  with-paged-marks fs frames h = with-paged fs frames (λ k e. let q = h k e in
+      paged-mark b fr m n o s k (q .1) (q .2) (q .3) (r .book .marks b k lb (q .0)))
+
+-- the header's counts stay
+pub paged-roots : (sh : Shape) (b fr : ℕ) (m n : Mem) → OnlyPaged b fr m n → Roots sh m → Roots sh n
+paged-roots sh b fr m n o r = record {
+  version = paged-root b fr m n o 0 (λ e. omega arith) ∙ r .version;
+  tables = paged-root b fr m n o 1 (λ e. omega arith) ∙ r .tables;
+  frames = paged-root b fr m n o 2 (λ e. omega arith) ∙ r .frames;
+  objects = paged-root b fr m n o 3 (λ e. omega arith) ∙ r .objects;
+  rows = paged-root b fr m n o 4 (λ e. omega arith) ∙ r .rows;
+  pages = paged-root b fr m n o 8 (λ e. omega arith) ∙ r .pages;
+}
+
+-- a change of one table whose pages are in frames that there are
+pub placed-paged : (s : State) (b : ℕ) (u : Table) (fs : List ℕ) → Placed s → Sound till u (u .free)
+    → ((p f : ℕ) → p < u .size → u .pages p .frame ≡ some f → f < s .frameCount) → Placed (paged s b u fs)
+placed-paged s b u fs p o h = record {
+  sound = λ c l. bool (eqb c b) (λ e. rw e o) (λ e. rw e (p .sound c l));
+  frames = λ c q f l i e. bool (eqb c b)
+      (λ d. h q f (rw d at i) (rw d at e))
+      (λ d. p .frames c q f l (rw d at i) (rw d at e));
+}
+
+-- WORDS that represent a state come to represent the state with the table and the free frames
+module _ (ws ws′ : List ℕ) (sh : Shape) (s : State) (h : Held ws sh s) (b : ℕ) (lb : b < s .tableCount) (fr : ℕ) (alone : Alone (load ws sh) s b fr)
+    (long : length ws′ ≡ length ws) (o : OnlyPaged b fr (load ws sh) (load ws′ sh)) (u : Table) (now : TableIs (load ws′ sh) b u) (lim : u .limit ≡ s .tables b .limit)
+    (fs : List ℕ) (frames : FramesAre (load ws′ sh) (paged s b u fs)) (pl : Placed (paged s b u fs)) where
+  held-by : Represents sh (load ws′ sh) (paged s b u fs) → Held ws′ sh (paged s b u fs)
+  held-by i = record {
+    reps = record {
+      shaped = let q = h .reps .shaped in record {
+        limits = q .limits;
+        room = omega (arith, long, q .room);
+        roots = paged-roots sh b fr (load ws sh) (load ws′ sh) o (q .roots);
+      };
+      memory = i;
+    };
+    placed = pl;
+  }
+
+  pub held-paged : ((k : ℕ) → isMarked (u .slots k) ≡ true → MarkIs (load ws′ sh) s b k) → Held ws′ sh (paged s b u fs)
+  held-paged marked = held-by (with-paged sh (load ws sh) s (h .reps .memory) (h .placed) b lb fr alone (load ws′ sh) o u now lim fs frames marked)
+
+  -- marks that were there, on slots whose words stay
+  pub held-paged-marks : ((k : ℕ) → isMarked (u .slots k) ≡ true
+      → (isMarked (s .tables b .slots k) ≡ true) × (slotWord (load ws′ sh) b k 0 ≡ slotWord (load ws sh) b k 0) × (slotWord (load ws′ sh) b k 2 ≡ slotWord (load ws sh) b k 2)
+      × (slotWord (load ws′ sh) b k 3 ≡ slotWord (load ws sh) b k 3)) → Held ws′ sh (paged s b u fs)
+  held-paged-marks marked = held-by (with-paged-marks sh (load ws sh) s (h .reps .memory) (h .placed) b lb fr alone (load ws′ sh) o u now lim fs frames marked)

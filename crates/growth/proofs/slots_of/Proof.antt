@@ -1,0 +1,21 @@
+use native.Mathlib.Omega.{arith}
+use Rattle.growth.specs.Code.{slots-whole, slots-past, slots-last}
+use Rattle.growth.proofs.slots_of.Statement.{statement}
+use Rattle.growth.proofs.slots_of.Tie as tie
+use Rattle.growth.proofs.slots_of.Reads as reads
+use Rattle.growth.proofs.slots_of.Lts as lts
+
+-- src/lib.rt:19:9
+returns : tie.Need-returns
+returns c = slots-whole (c .before .args .p) (omega arith)
+
+-- src/lib.rt:22:9
+returns-2 : tie.Need-returns-2
+returns-2 c = slots-past (c .before .before .args .p) (omega arith)
+
+-- src/lib.rt:15:1
+returns-3 : tie.Need-returns-3
+returns-3 c = slots-last (c .before .before .args .p) (omega arith)
+
+pub slots-of-spec : {M : Type 1} → statement M
+slots-of-spec = tie.close (tie.spec returns returns-2 returns-3)

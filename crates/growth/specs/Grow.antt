@@ -1,0 +1,223 @@
+-- A table grows by the pages of a plan: the words come to represent the model's state. Assumes nothing.
+use mathlib.Core.Path.{_≡_, refl, sym, ap, _∙_, fun-ext, subst}
+use mathlib.Core.Bool.{Bool, false, not, _&&_}
+use mathlib.Core.Logic.{_⊎_, inl, inr}
+use mathlib.Core.List.{List, [], _∷_}
+use mathlib.Core.Option.{Option, none, some}
+use Prim.Native.Nat.{ℕ, zero, suc, _+_, _-_, _≤_, _<_, min}
+use native.Mathlib.Omega.{arith}
+use lib.ListN.{length, drop, length-take}
+use lib.Dec.{eqb, ltb}
+use borrow.Author.Tests.{ne-eqb, eqb-true, le-ltb}
+use Rattle.words.specs.Pick.{bool}
+use Rattle.model.specs.Base.{put, bit, occurs, without, also}
+use Rattle.model.specs.State.{till, Table, State, maxBatch}
+use Rattle.model.specs.Storage.{slotsOf, pagesFrom, pagesFor, attach, attachAll, grow, advance}
+use Rattle.model.specs.Change.{withTable, withFrames}
+use Rattle.model.specs.WellFormed.{isAttached, Frames}
+use Rattle.model.specs.Tests.{apart, bit-small, same}
+use Rattle.model.specs.Sums.{without-none}
+use Rattle.invariant.specs.Pages.{till-sane}
+use Rattle.invariant.specs.Orders.{Sound, Room, attach-sound}
+use Rattle.invariant.specs.Frames.{Grows, pages-grow, reserve-length, attachAll-owned}
+use Rattle.layout.specs.declared.Shape.{Shape}
+use Rattle.layout.specs.Layout.{Addr.reg, Mem, head, entry, load}
+use Rattle.representation.specs.Represents.{entryAt, Linked, TableIs}
+use Rattle.storage.specs.Reps.{Held}
+use Rattle.frames.specs.Paged.{paged-high}
+use Rattle.frames.specs.Whole.{paged}
+use Rattle.frames.specs.Frames.{frames-taken}
+use Rattle.frames.specs.Lowest.{lowest-free}
+use Rattle.frames.specs.Ops.{lowestAt}
+use Rattle.growth.specs.Words.{pageAt, attachW, attachNextW, attachAllW, advanceW, growW}
+use Rattle.growth.specs.Joined.{pages-max}
+use Rattle.growth.specs.Attach.{length-attach, only, attach-held}
+use Rattle.growth.specs.Epoch.{length-advance, advance-high, advance-held}
+
+-- ---- the pages of a plan come in the order in which growth finds them
+
+-- the page that growth finds: the first detached one, or a new one
+abbrev pub nextPage : List ℕ → ℕ → ℕ
+nextPage [] n = n
+nextPage (d ∷ ds) n = d
+
+abbrev pub Follows : Table → List ℕ → Type 0
+Follows t [] = Unit {0}
+Follows t (p ∷ ps) = (p ≡ nextPage (t .detached) (t .size)) × Room t p × ((f : ℕ) → Follows (attach till t p f) ps)
+
+also-some : (a : ℕ) (x : Option (List ℕ)) (ps : List ℕ) → also a x ≡ some ps → (qs : List ℕ) × (x ≡ some qs) × (ps ≡ a ∷ qs)
+also-some a none ps e = apart (cc)
+also-some a (some qs) ps e = (qs, refl, cc)
+
+planned : (fuel k : ℕ) (ds : List ℕ) (n l : ℕ) (t : Table) (fr : List ℕ) → Sound till t fr → t .detached ≡ ds → t .size ≡ n → t .limit ≡ l
+    → (ps : List ℕ) → pagesFrom till fuel k ds n l ≡ some ps → Grows till t ps → Follows t ps
+unfolding attach
+planned zero k ds n l t fr o d c i ps e g = let y : ps ≡ [] = cc in rw y tt
+planned (suc fuel) zero ds n l t fr o d c i ps e g = let y : ps ≡ [] = cc in rw y tt
+planned (suc fuel) (suc k) [] n l t fr o d c i ps e g = bool (eqb n l)
+    (λ q. let x : none ≡ some ps = rw q at e in apart (cc))
+    (λ q. let a = also-some n (pagesFrom till fuel (suc k - slotsOf till n) [] (suc n) l) ps (rw q at e) in
+    let g′ : Grows till t (n ∷ a .0) = rw (a .2) at g in
+    rw (a .2) (
+      rw (d, c),
+      g′ .0,
+      λ f. planned fuel (suc k - slotsOf till n) [] (suc n) l (attach till t n f) _ (attach-sound till till-sane t fr n f o (g′ .0)) (ap (without n) d) (rw (c, same n)) i (a .0) (a .1) (g′ .1 f),
+    ))
+planned (suc fuel) (suc k) (p ∷ ds) n l t fr o d c i ps e g =
+    let a = also-some p (pagesFrom till fuel (suc k - slotsOf till p) ds n l) ps e in
+    let g′ : Grows till t (p ∷ a .0) = rw (a .2) at g in
+    let h : 1 + occurs p ds ≡ bit (ltb p (t .size) && not (isAttached t p)) = rw (d, same p) at (o .detached p) in
+    let w : without p (t .detached) ≡ ds = rw (d, same p) (without-none p ds (omega (arith, bit-small (ltb p (t .size) && not (isAttached t p))))) in
+    let u : p ≡ t .size → ⊥ = λ y. past p (t .size) (isAttached t p) (occurs p ds) y h in
+    rw (a .2) (
+      rw d,
+      g′ .0,
+      λ f. planned fuel (suc k - slotsOf till p) ds n l (attach till t p f) _ (attach-sound till till-sane t fr p f o (g′ .0)) w (rw (ne-eqb p (t .size) u) c) i (a .0) (a .1) (g′ .1 f),
+    )
+  where
+    past : (p n : ℕ) (t : Bool) (m : ℕ) → p ≡ n → 1 + m ≡ bit (ltb p n && not t) → ⊥
+    past p n t m y h = let e : ltb p n ≡ false = le-ltb p n (omega arith) in let z : 1 + m ≡ 0 = rw e at h in omega arith
+
+pub plan-follows : (t : Table) (fr : List ℕ) → Sound till t fr → (k : ℕ) (ps : List ℕ) → pagesFor till t k ≡ some ps → Follows t ps
+plan-follows t fr o k ps e = unfold pagesFor in
+    planned maxBatch (k - length (t .free)) (t .detached) (t .size) (t .limit) t fr o refl refl refl ps e (pages-grow till till-sane t fr o k ps e)
+
+batch-max : maxBatch ≡ 64
+unfolding maxBatch
+batch-max = refl
+
+-- ---- states
+
+pub paged-twice : (s : State) (b : ℕ) (u v : Table) (fs gs : List ℕ) → paged (paged s b u fs) b v gs ≡ paged s b v gs
+paged-twice s b u v fs gs = ap (λ (f : ℕ → Table). record { tableCount = s .tableCount; tables = f; objectCount = s .objectCount; objects = s .objects; frameCount = s .frameCount; frames = gs; book = s .book })
+    (fun-ext λ c. bool (eqb c b) (λ e. rw e) (λ e. rw e))
+
+pub paged-same : (s : State) (b : ℕ) → paged s b (s .tables b) (s .frames) ≡ s
+paged-same s b = ap (λ (f : ℕ → Table). record { tableCount = s .tableCount; tables = f; objectCount = s .objectCount; objects = s .objects; frameCount = s .frameCount; frames = s .frames; book = s .book })
+    {x = put (s .tables) b (s .tables b)} {y = s .tables} (fun-ext λ c. bool (eqb c b) (λ e. rw (e, eqb-true c b e)) (λ e. rw e))
+
+pub paged-table : (s : State) (b : ℕ) (u : Table) (fs : List ℕ) → paged s b u fs .tables b ≡ u
+paged-table s b u fs = rw (same b)
+
+-- ---- turns
+
+-- the first turn first
+all-first : (ws : List ℕ) (sh : Shape) (b n : ℕ) → attachAllW (attachNextW ws sh b) sh b n ≡ attachAllW ws sh b (suc n)
+unfolding attachAllW
+all-first ws sh b zero = refl
+all-first ws sh b (suc n) = ap (λ (w : List ℕ). attachNextW w sh b) (all-first ws sh b n)
+
+page-found : (m : Mem) (b : ℕ) (t : Table) → TableIs m b t → pageAt (m (head b 9)) (m (head b 5)) ≡ nextPage (t .detached) (t .size)
+page-found m b t i = rw (i .size) (go (t .detached) (i .detached))
+  where
+    go : (ds : List ℕ) → Linked (λ q. m (entry (entryAt m b q) 3)) (m (head b 9)) ds → pageAt (m (head b 9)) (t .size) ≡ nextPage ds (t .size)
+    go [] c = rw c
+    go (d ∷ ds) c = rw (c .0, ne-eqb (suc d) 0 (λ y. omega arith)) (omega arith)
+
+next-turn : (ds : List ℕ) (n p : ℕ) → p ≡ nextPage ds n → (es : List ℕ) × ((p ≡ n) ⊎ (ds ≡ p ∷ es))
+next-turn [] n p e = ([], inl e)
+next-turn (d ∷ ds) n p e = (ds, inr (ap (λ (x : ℕ). x ∷ ds) (sym e)))
+
+-- the objects, the row index and the rows keep their words
+abbrev pub Kept : Shape → List ℕ → List ℕ → Type 0
+Kept sh ws vs = (k x y i : ℕ) → 8 ≤ k → load vs sh (reg k x y i) ≡ load ws sh (reg k x y i)
+
+module _ (sh : Shape) (b : ℕ) where
+  -- one page
+  next-is : (ws : List ℕ) (s : State) → Held ws sh s → b < s .tableCount → Frames s → (p f : ℕ) (fs : List ℕ) → s .frames ≡ f ∷ fs → Room (s .tables b) p
+      → p ≡ nextPage (s .tables b .detached) (s .tables b .size) → attachNextW ws sh b ≡ attachW ws sh b p f
+  unfolding attachNextW
+  next-is ws s h l w p f fs first room e =
+      let found : pageAt (load ws sh (head b 9)) (load ws sh (head b 5)) ≡ p = page-found (load ws sh) b (s .tables b) (h .reps .memory .tables b l) ∙ sym e in
+      let low : min p 262143 ≡ p = omega (arith, room .within, h .placed .sound b l .limit, pages-max) in
+      rw (found, low, lowest-free ws sh s h w f fs first)
+
+  next-held : (ws : List ℕ) (s : State) → Held ws sh s → b < s .tableCount → Frames s → (p f : ℕ) (fs : List ℕ) → s .frames ≡ f ∷ fs → Room (s .tables b) p
+      → p ≡ nextPage (s .tables b .detached) (s .tables b .size) → Held (attachNextW ws sh b) sh (paged s b (attach till (s .tables b) p f) fs)
+  next-held ws s h l w p f fs first room e =
+      let n = next-turn (s .tables b .detached) (s .tables b .size) p e in
+      rw (next-is ws s h l w p f fs first room e) (attach-held ws sh s h b l w p f fs first room (n .0) (n .1))
+
+  next-frames : (s : State) → b < s .tableCount → Frames s → (p f : ℕ) (fs : List ℕ) → s .frames ≡ f ∷ fs → Room (s .tables b) p → Frames (paged s b (attach till (s .tables b) p f) fs)
+  next-frames s l w p f fs first room = frames-taken s b (attach till (s .tables b) p f) l w f fs first
+      (λ g. attachAll-owned till (p ∷ []) (f ∷ []) (s .tables b) (omega arith) (room, λ x. tt) g ∙ omega arith)
+
+  next-kept : (ws : List ℕ) (s : State) → Held ws sh s → b < s .tableCount → Frames s → (p f : ℕ) (fs : List ℕ) → s .frames ≡ f ∷ fs → Room (s .tables b) p
+      → p ≡ nextPage (s .tables b .detached) (s .tables b .size) → Kept sh ws (attachNextW ws sh b)
+  next-kept ws s h l w p f fs first room e =
+      let n = next-turn (s .tables b .detached) (s .tables b .size) p e in
+      rw (next-is ws s h l w p f fs first room e) (paged-high b f (load ws sh) (load (attachW ws sh b p f) sh) (only ws sh s h b l w p f fs first room (n .0) (n .1)))
+
+  -- THE PAGES of a plan
+  all-both : (ps : List ℕ) (ws : List ℕ) (s : State) → Held ws sh s → b < s .tableCount → Frames s → Follows (s .tables b) ps → length ps ≤ length (s .frames)
+      → Held (attachAllW ws sh b (length ps)) sh (paged s b (attachAll till ps (s .frames) (s .tables b)) (drop (length ps) (s .frames))) × Kept sh ws (attachAllW ws sh b (length ps))
+  all-both [] ws s h l w g k = unfold attachAllW in (rw (paged-same s b) h, λ r x y i m. refl)
+  all-both (p ∷ ps) ws s h l w g k = go (s .frames) refl (λ v u i j x y z. all-both ps v u i j x y z)
+    where
+      go : (fs : List ℕ) → s .frames ≡ fs
+          → ((v : List ℕ) (u : State) → Held v sh u → b < u .tableCount → Frames u → Follows (u .tables b) ps → length ps ≤ length (u .frames)
+          → Held (attachAllW v sh b (length ps)) sh (paged u b (attachAll till ps (u .frames) (u .tables b)) (drop (length ps) (u .frames))) × Kept sh v (attachAllW v sh b (length ps)))
+          → Held (attachAllW ws sh b (length (p ∷ ps))) sh (paged s b (attachAll till (p ∷ ps) fs (s .tables b)) (drop (length (p ∷ ps)) fs)) × Kept sh ws (attachAllW ws sh b (length (p ∷ ps)))
+      go [] e rest = absurd (omega (arith, ap length e))
+      go (f ∷ fs) e rest =
+          let u : Table = attach till (s .tables b) p f in
+          let s₁ : State = paged s b u fs in
+          let t₁ : s₁ .tables b ≡ u = paged-table s b u fs in
+          let v : List ℕ = attachAllW (attachNextW ws sh b) sh b (length ps) in
+          let i : Held v sh (paged s₁ b (attachAll till ps fs (s₁ .tables b)) (drop (length ps) fs)) × Kept sh (attachNextW ws sh b) v
+          = rest (attachNextW ws sh b) s₁ (next-held ws s h l w p f fs e (g .1) (g .0)) l (next-frames s l w p f fs e (g .1)) (rw t₁ (g .2 f)) (omega (arith, ap length e)) in
+          let j : Held v sh (paged s₁ b (attachAll till ps fs u) (drop (length ps) fs))
+          = subst (λ (x : Table). Held v sh (paged s₁ b (attachAll till ps fs x) (drop (length ps) fs))) t₁ (i .0) in
+          subst (λ (x : List ℕ). Held x sh (paged s b (attachAll till ps fs u) (drop (length ps) fs)) × Kept sh ws x) (all-first ws sh b (length ps)) (
+            subst (λ (x : State). Held v sh x) (paged-twice s b u (attachAll till ps fs u) fs (drop (length ps) fs)) j,
+            λ r x y m o. i .1 r x y m o ∙ next-kept ws s h l w p f fs e (g .1) (g .0) r x y m o,
+          )
+
+  pub all-held : (ps : List ℕ) (ws : List ℕ) (s : State) → Held ws sh s → b < s .tableCount → Frames s → Follows (s .tables b) ps → length ps ≤ length (s .frames)
+      → Held (attachAllW ws sh b (length ps)) sh (paged s b (attachAll till ps (s .frames) (s .tables b)) (drop (length ps) (s .frames)))
+  all-held ps ws s h l w g k = all-both ps ws s h l w g k .0
+
+  -- GROW
+  pub grow-held : (ws : List ℕ) (s : State) → Held ws sh s → b < s .tableCount → Frames s → (k : ℕ) (ps : List ℕ) → pagesFor till (s .tables b) k ≡ some ps → length ps ≤ length (s .frames)
+      → Held (growW ws sh b (length ps)) sh (withFrames (withTable s b (grow till ps (s .frames) (s .tables b))) (drop (length ps) (s .frames)))
+  unfolding growW
+  grow-held ws s h l w k ps e n = go ps (all-held ps ws s h l w (plan-follows (s .tables b) (s .tables b .free) (h .placed .sound b l) k ps e) n)
+    where
+      go : (ps : List ℕ) → Held (attachAllW ws sh b (length ps)) sh (paged s b (attachAll till ps (s .frames) (s .tables b)) (drop (length ps) (s .frames)))
+          → Held (growW ws sh b (length ps)) sh (paged s b (grow till ps (s .frames) (s .tables b)) (drop (length ps) (s .frames)))
+      go [] i = i
+      go (p ∷ ps) i =
+          let u : Table = attachAll till (p ∷ ps) (s .frames) (s .tables b) in
+          let fs : List ℕ = drop (length (p ∷ ps)) (s .frames) in
+          let j = advance-held (attachAllW ws sh b (length (p ∷ ps))) sh (paged s b u fs) i b l in
+          let d : eqb (length (p ∷ ps)) 0 ≡ false = ne-eqb (length (p ∷ ps)) 0 (λ y. omega arith) in
+          let j′ : Held (advanceW (attachAllW ws sh b (length (p ∷ ps))) sh b) sh (paged (paged s b u fs) b (advance u) fs)
+          = subst (λ (x : Table). Held (advanceW (attachAllW ws sh b (length (p ∷ ps))) sh b) sh (paged (paged s b u fs) b (advance x) fs)) (paged-table s b u fs) j in
+          rw d (subst (λ (x : State). Held (advanceW (attachAllW ws sh b (length (p ∷ ps))) sh b) sh x) (paged-twice s b u (advance u) fs fs) j′)
+
+  pub grow-kept : (ws : List ℕ) (s : State) → Held ws sh s → b < s .tableCount → Frames s → (k : ℕ) (ps : List ℕ) → pagesFor till (s .tables b) k ≡ some ps → length ps ≤ length (s .frames)
+      → Kept sh ws (growW ws sh b (length ps))
+  unfolding growW
+  grow-kept ws s h l w k ps e n =
+      let i = all-both ps ws s h l w (plan-follows (s .tables b) (s .tables b .free) (h .placed .sound b l) k ps e) n in
+      bool (eqb (length ps) 0)
+      (λ d. rw d (i .1))
+      (λ d. rw d (λ r x y j m. advance-high (attachAllW ws sh b (length ps)) sh _ (i .0) b l r x y j m ∙ i .1 r x y j m))
+
+  -- the free order then has as many slots as the batch
+  pub grow-enough : (t : Table) → Sound till t (t .free) → (k : ℕ) → k ≤ 64 → (ps fs : List ℕ) → pagesFor till t k ≡ some ps → length ps ≤ length fs → k ≤ length (grow till ps fs t .free)
+  grow-enough t o k n ps fs e l = omega (arith, reserve-length till till-sane t (t .free) o k (omega (arith, batch-max)) ps fs e l, length-take k (grow till ps fs t .free))
+
+-- no word is added or lost
+next-length : (ws : List ℕ) (sh : Shape) (b : ℕ) → length (attachNextW ws sh b) ≡ length ws
+unfolding attachNextW
+next-length ws sh b = length-attach ws sh b (min (pageAt (load ws sh (head b 9)) (load ws sh (head b 5))) 262143) (lowestAt (load ws sh))
+
+all-length : (ws : List ℕ) (sh : Shape) (b n : ℕ) → length (attachAllW ws sh b n) ≡ length ws
+unfolding attachAllW
+all-length ws sh b zero = refl
+all-length ws sh b (suc n) = next-length (attachAllW ws sh b n) sh b ∙ all-length ws sh b n
+
+pub length-grow : (ws : List ℕ) (sh : Shape) (b n : ℕ) → length (growW ws sh b n) ≡ length ws
+unfolding growW
+length-grow ws sh b n = bool (eqb n 0) (λ d. rw d (all-length ws sh b n)) (λ d. rw d (length-advance (attachAllW ws sh b n) sh b ∙ all-length ws sh b n))

@@ -1,0 +1,301 @@
+-- Words to which a page of a table was joined: what they show, and that they show all else as before. Assumes nothing.
+use mathlib.Core.Path.{_≡_, refl, sym, ap, _∙_}
+use mathlib.Core.Bool.{Bool, true, false, _&&_}
+use mathlib.Core.Logic.{inl, inr}
+use mathlib.Core.List.{List, [], _∷_}
+use Prim.Native.Nat.{ℕ, zero, suc, _+_, _*_, _/_, _%_, _≤_, _<_, min}
+use native.Mathlib.Omega.{arith}
+use lib.ListN.{length}
+use lib.Dec.{eqb, ltb}
+use borrow.Author.Tests.{eqb-true, eqb-false, lt-ltb, le-ltb, ltb-true, ltb-false}
+use Rattle.words.specs.Pick.{pick, bool}
+use Rattle.codec.specs.Codec.{nextGeneration, pick as codecPick}
+use Rattle.model.specs.Base.{pick as choose}
+use Rattle.model.specs.State.{till, Table, maxSlots}
+use Rattle.model.specs.Storage.{slotsOf}
+use Rattle.model.specs.Create.{maxPages}
+use Rattle.invariant.specs.Pages.{till-sane, page-of, page-below, vacant-there}
+use Rattle.invariant.specs.Orders.{Room}
+use Rattle.layout.specs.declared.Shape.{Shape}
+use Rattle.layout.specs.Layout.{Addr, Mem, head, entry, cell, load, Write, Write.at, writes, upd, upds, In, InAll, in-head, in-entry, in-cell, length-writes, load-writes}
+use Rattle.representation.specs.Represents.{entryAt, wordIn, frameOf, slotWord}
+use Rattle.storage.specs.Order.{head-in}
+use Rattle.storage.specs.Sight.{Spot.sl, look, Put.toSlot, OnlyTable, Can, frame-is, still-only, still-frame, put-only, put-in, put-shows, linkFrame, cellP, slotP, pageP, writesAll, updsAll, length-all, load-all}
+use Rattle.storage.specs.Slots.{Seen, see, slot-there, free-vacant, empty-below}
+use Rattle.storage.specs.Ops.{up, joinP, joinW}
+use Rattle.storage.specs.Vacate.{slots-max, free-short}
+use Rattle.storage.specs.Turns.{Ready}
+use Rattle.frames.specs.Paged.{Has, Pages, OnlyPaged, paged-write}
+use Rattle.growth.specs.Turns.{turns, turnsM, length-turns, load-turns}
+use Rattle.growth.specs.Words.{slotsP, builtW, orderP, entryP, fresh, sizeWith, detachedWith, joinedW}
+use Rattle.growth.specs.Memory.{mBuilt, built-cell, built-tag, built-generation, built-next, built-prev, slot-cell, mOld, mEntry, mNext, mJoined, joined-head, joined-size, joined-first, joined-count, joined-empty, joined-detached, joined-frame, joined-high, joined-busy, joined-next, joined-prev, joined-page, joined-cell, entry-head}
+use Rattle.growth.specs.Table.{Joined}
+
+-- ---- stores that keep to a set of addresses
+
+abbrev pub Within : (Addr → Type 0) → List Write → Type 0
+Within P [] = Unit {0}
+Within P (at a v ∷ xs) = P a × Within P xs
+
+pub paged-writes : (b fr : ℕ) (m n : Mem) → OnlyPaged b fr m n → (xs : List Write) → Within (Pages m b fr) xs → OnlyPaged b fr m (upds n xs)
+paged-writes b fr m n o [] w = o
+paged-writes b fr m n o (at a v ∷ xs) w = paged-writes b fr m (upd n (at a v)) (paged-write b fr m n o a v (w .0)) xs (w .1)
+
+pub paged-turns : (b fr : ℕ) (m n : Mem) → OnlyPaged b fr m n → (f : ℕ → List Write) → ((i : ℕ) → Within (Pages m b fr) (f i)) → (k : ℕ) → OnlyPaged b fr m (turnsM n f k)
+paged-turns b fr m n o f w zero = o
+paged-turns b fr m n o f w (suc k) = paged-writes b fr m (turnsM n f k) (paged-turns b fr m n o f w k) (f k) (w k)
+
+-- a plan shows the same where the memories do
+upds-agree : (k l : Mem) (a : Addr) → k a ≡ l a → (xs : List Write) → upds k xs a ≡ upds l xs a
+upds-agree k l a e [] = e
+upds-agree k l a e (at c v ∷ xs) = upds-agree (upd k (at c v)) (upd l (at c v)) a (rw e) xs
+
+-- what stands in a choice does not depend on which choice it is
+pub one-choice : (t : Bool) (x y : ℕ) → pick t x y ≡ choose t x y
+one-choice true x y = refl
+one-choice false x y = refl
+
+pub up-small : (x : ℕ) → x < 0xffff_ffff_ffff_ffff → up x ≡ suc x
+up-small x h = omega arith
+
+-- the generation after none
+next-none : nextGeneration 0 ≡ 1
+unfolding nextGeneration codecPick
+next-none = refl
+
+pub pages-max : maxPages till ≡ 262144
+unfolding maxSlots
+pages-max = refl
+
+-- what a page and its frame need: the page may be attached, no page of the table has the frame, and all is in range
+pub record Ripe (ws : List ℕ) (sh : Shape) (b : ℕ) (t : Table) (p f : ℕ) : Type 0 where
+  pub ready : Ready ws sh b t
+  pub room : Room t p
+  pub pages : load ws sh (head b 10) + t .limit ≤ sh .pages
+  pub frame : f < sh .frames
+  pub frames : sh .frames ≤ 65535
+  pub out : Has (load ws sh) b f → ⊥
+
+module _ (ws : List ℕ) (sh : Shape) (b : ℕ) (t : Table) (p f : ℕ) (r : Ripe ws sh b t p f) where
+  page-low : p < maxPages till
+  page-low = omega (arith, r .room .within, r .ready .sound .limit)
+
+  page-small : p < 262144
+  page-small = omega (arith, page-low, pages-max)
+
+  seen₀ : Seen (load ws sh) (look (load ws sh) b) t
+  seen₀ = see (load ws sh) b t (r .ready .table)
+
+  -- the old head of the free order has a frame
+  old-there : (k : ℕ) → load ws sh (head b 6) ≡ suc k → 0 < frameOf (load ws sh) b k
+  unfolding look
+  old-there k e = slot-there (load ws sh) (look (load ws sh) b) t seen₀ k (vacant-there (t .slots k) (free-vacant t (r .ready .sound) k
+      (head-in (λ i. slotWord (load ws sh) b i 2) (λ i. slotWord (load ws sh) b i 3) (load ws sh (head b 6)) 0 (t .free) k (r .ready .table .free) e)))
+
+  -- the head of the empty order is below the size
+  empty-low : (q : ℕ) → load ws sh (head b 8) ≡ suc q → q < t .size
+  empty-low q e = empty-below t (r .ready .sound) q
+      (head-in (λ i. load ws sh (entry (entryAt (load ws sh) b i) 3)) (λ i. load ws sh (entry (entryAt (load ws sh) b i) 4)) (load ws sh (head b 8)) 0 (t .empty) q (r .ready .table .empty) e)
+
+  can-old : Can (load ws sh) b (toSlot (load ws sh (head b 6)) 3 (p * 64 + 1))
+  can-old = (omega arith, old-there)
+
+  own-page : (q : ℕ) → q < t .limit → In sh (entry (load ws sh (head b 10) + q) 0) × (load ws sh (head b 10) + q < sh .pages)
+  own-page q h = (in-entry sh (load ws sh (head b 10) + q) 0 (omega (arith, r .pages)) (omega arith), omega (arith, r .pages))
+
+  in-pageP : (l i v : ℕ) → i < 5 → ((q : ℕ) → l ≡ suc q → q < t .limit) → InAll sh (pageP (load ws sh (head b 10)) l i v)
+  in-pageP zero i v h c = tt
+  in-pageP (suc q) i v h c = (in-entry sh (load ws sh (head b 10) + q) i (own-page q (c q refl) .1) h, tt)
+
+  under : t .size ≤ t .limit
+  under = r .ready .sound .size
+
+  -- THE LOAD
+  pub load-joined : load (joinedW ws sh b p f) sh ≡ mJoined (load ws sh) b p f
+  unfolding joinedW builtW joinW joinP look
+  load-joined =
+      let g : ℕ = fresh (load ws sh) b p in
+      let h : ℕ = load ws sh (head b 6) in
+      let e : ℕ = load ws sh (head b 10) in
+      let tb = r .ready .fit .table in
+      let w1 : List ℕ = turns ws sh (slotsP f p g h) (slotsOf till p) in
+      let l1 : length w1 ≡ length ws = length-turns ws sh (slotsP f p g h) (slotsOf till p) in
+      let e1 : load w1 sh ≡ mBuilt (load ws sh) f p g h = load-turns ws sh (slotsP f p g h) (r .ready .room) (slotsOf till p)
+      (λ i k. (in-cell sh f i 0 (r .frame) (omega arith) (omega arith), (in-cell sh f i 1 (r .frame) (omega arith) (omega arith), (in-cell sh f i 2 (r .frame) (omega arith) (omega arith), (in-cell sh f i 3 (r .frame) (omega arith) (omega arith), tt))))) in
+      let o : List (List Write) = orderP b p h (linkFrame (load ws sh) b h) (load ws sh (head b 7)) in
+      let w2 : List ℕ = writesAll w1 sh o in
+      let l2 : length w2 ≡ length w1 = length-all w1 sh o in
+      let e2 : load w2 sh ≡ updsAll (load w1 sh) o = load-all w1 sh (omega (arith, r .ready .room)) o
+      (put-in sh (load ws sh) b (r .ready .fit) (load ws sh) (λ a i. refl) (toSlot h 3 (p * 64 + 1)) can-old, ((in-head sh b 6 tb (omega arith), tt), ((in-head sh b 7 tb (omega arith), tt), tt))) in
+      let x : List Write = entryP b e p f g (sizeWith (load ws sh) b p) (detachedWith (load ws sh) b p) in
+      let w3 : List ℕ = writes w2 sh x in
+      let l3 : length w3 ≡ length w2 = length-writes w2 sh x in
+      let pe : load ws sh (head b 10) + p < sh .pages = own-page p (r .room .within) .1 in
+      let e3 : load w3 sh ≡ upds (load w2 sh) x = load-writes w2 sh (omega (arith, r .ready .room)) x
+      (in-head sh b 5 tb (omega arith), (in-head sh b 9 tb (omega arith), (in-entry sh (e + p) 0 pe (omega arith), (in-entry sh (e + p) 1 pe (omega arith), (in-entry sh (e + p) 2 pe (omega arith), tt))))) in
+      let d3 : load w3 sh ≡ mEntry (load ws sh) b p f = e3 ∙ ap (λ (k : Mem). upds k x) (e2 ∙ ap (λ (k : Mem). updsAll k o) e1) in
+      let q8 : load w3 sh (head b 8) ≡ load ws sh (head b 8) = ap (λ (k : Mem). k (head b 8)) d3 ∙ entry-head (load ws sh) b p f b 8 (λ a c. omega arith) (λ y. omega arith) in
+      let q10 : load w3 sh (head b 10) ≡ load ws sh (head b 10) = ap (λ (k : Mem). k (head b 10)) d3 ∙ entry-head (load ws sh) b p f b 10 (λ a c. omega arith) (λ y. omega arith) in
+      let y : List (List Write) = pageP e (load ws sh (head b 8)) 4 (up p) ∷ (at (entry (e + p) 3) (load ws sh (head b 8)) ∷ []) ∷ (at (entry (e + p) 4) 0 ∷ []) ∷ (at (head b 8) (up p) ∷ []) ∷ [] in
+      let e4 : load (writesAll w3 sh y) sh ≡ updsAll (load w3 sh) y = load-all w3 sh (omega (arith, r .ready .room)) y (
+        in-pageP (load ws sh (head b 8)) 4 (up p) (omega arith) (λ q z. omega (arith, empty-low q z, under)),
+        ((in-entry sh (e + p) 3 pe (omega arith), tt), ((in-entry sh (e + p) 4 pe (omega arith), tt), ((in-head sh b 8 tb (omega arith), tt), tt))),
+      ) in
+      rw (q8, q10) (e4 ∙ ap (λ (k : Mem). updsAll k y) d3)
+
+  -- ALL ELSE is as before
+  low-entry : (q i : ℕ) → q < t .limit → Pages (load ws sh) b f (entry (load ws sh (head b 10) + q) i)
+  low-entry q i h = inr (inr (inl (refl, omega arith, omega (arith, r .ready .table .limit))))
+
+  head-entry : (i : ℕ) → 4 ≤ i → i ≤ 9 → Pages (load ws sh) b f (head b i)
+  head-entry i a c = inr (inl (refl, refl, a, c))
+
+  in-frame : (j i : ℕ) → Pages (load ws sh) b f (cell f j i)
+  in-frame j i = inr (inr (inr (inr (inr (refl, inl refl)))))
+
+  old-within : Within (Pages (load ws sh) b f) (slotP (linkFrame (load ws sh) b (load ws sh (head b 6))) (load ws sh (head b 6)) 3 (p * 64 + 1))
+  old-within = go (load ws sh (head b 6))
+    where
+      slot : (k fr : ℕ) → frameOf (load ws sh) b k ≡ fr → Within (Pages (load ws sh) b f) (cellP fr (k % 64) 3 (p * 64 + 1))
+      slot k zero e = tt
+      slot k (suc fr) e = let i = frame-is (load ws sh) b k fr e in (inr (inr (inr (inr (inr (refl, inr (k / 64, i .1, i .2)))))), tt)
+
+      go : (h : ℕ) → Within (Pages (load ws sh) b f) (slotP (linkFrame (load ws sh) b h) h 3 (p * 64 + 1))
+      go zero = tt
+      go (suc k) = slot k (frameOf (load ws sh) b k) refl
+
+  next-within : Within (Pages (load ws sh) b f) (pageP (load ws sh (head b 10)) (load ws sh (head b 8)) 4 (up p))
+  next-within = go (load ws sh (head b 8)) empty-low
+    where
+      go : (l : ℕ) → ((q : ℕ) → l ≡ suc q → q < t .size) → Within (Pages (load ws sh) b f) (pageP (load ws sh (head b 10)) l 4 (up p))
+      go zero c = tt
+      go (suc q) c = (low-entry q 4 (omega (arith, c q refl, under)), tt)
+
+  pub only-joined : OnlyPaged b f (load ws sh) (mJoined (load ws sh) b p f)
+  only-joined =
+      let g : ℕ = fresh (load ws sh) b p in
+      let h : ℕ = load ws sh (head b 6) in
+      let l : (i : ℕ) → Pages (load ws sh) b f (entry (load ws sh (head b 10) + p) i) = λ i. low-entry p i (r .room .within) in
+      let o1 = paged-turns b f (load ws sh) (load ws sh) (λ a i. refl) (slotsP f p g h) (λ j. (in-frame j 0, (in-frame j 1, (in-frame j 2, (in-frame j 3, tt))))) (slotsOf till p) in
+      let o2 = paged-writes b f (load ws sh) (mBuilt (load ws sh) f p g h) o1 (slotP (linkFrame (load ws sh) b h) h 3 (p * 64 + 1)) old-within in
+      let o3 = paged-writes b f (load ws sh) (mOld (load ws sh) b p f) o2 (at (head b 6) (p * 64 + slotsOf till p) ∷ at (head b 7) (min (load ws sh (head b 7)) 16777215 + slotsOf till p) ∷ [])
+      (head-entry 6 (omega arith) (omega arith), (head-entry 7 (omega arith) (omega arith), tt)) in
+      let o4 = paged-writes b f (load ws sh) _ o3 (entryP b (load ws sh (head b 10)) p f g (sizeWith (load ws sh) b p) (detachedWith (load ws sh) b p))
+      (head-entry 5 (omega arith) (omega arith), (head-entry 9 (omega arith) (omega arith), (l 0, (l 1, (l 2, tt))))) in
+      let o5 = paged-writes b f (load ws sh) (mEntry (load ws sh) b p f) o4 (pageP (load ws sh (head b 10)) (load ws sh (head b 8)) 4 (up p)) next-within in
+      paged-writes b f (load ws sh) (mNext (load ws sh) b p f) o5 (at (entry (load ws sh (head b 10) + p) 3) (load ws sh (head b 8)) ∷ at (entry (load ws sh (head b 10) + p) 4) 0 ∷ at (head b 8) (up p) ∷ [])
+      (l 3, (l 4, (head-entry 8 (omega arith) (omega arith), tt)))
+
+  -- ---- what the table shows
+
+  up-page : up p ≡ suc p
+  up-page = up-small p (omega (arith, page-small))
+
+  first-kept : mJoined (load ws sh) b p f (head b 10) ≡ load ws sh (head b 10)
+  first-kept = joined-head (load ws sh) b p f b 10 (λ a c. omega arith)
+
+  size-then : mJoined (load ws sh) b p f (head b 5) ≡ choose (eqb p (load ws sh (head b 5))) (suc (load ws sh (head b 5))) (load ws sh (head b 5))
+  size-then = joined-size (load ws sh) b p f ∙ rw up-page (bool (eqb p (load ws sh (head b 5))) (λ e. rw (e, eqb-true p (load ws sh (head b 5)) e)) (λ e. rw e))
+
+  -- pages
+  page-then : (q i : ℕ) → mJoined (load ws sh) b p f (entry (entryAt (mJoined (load ws sh) b p f) b q) i) ≡ mJoined (load ws sh) b p f (entry (load ws sh (head b 10) + q) i)
+  page-then q i = ap (λ (x : ℕ). mJoined (load ws sh) b p f (entry (x + q) i)) first-kept
+
+  page-other : (q i : ℕ) → (q ≡ p → ⊥) → mJoined (load ws sh) b p f (entry (entryAt (mJoined (load ws sh) b p f) b q) i)
+      ≡ choose (eqb i 4 && eqb (load ws sh (head b 8)) (suc q)) (suc p) (load ws sh (entry (entryAt (load ws sh) b q) i))
+  page-other q i n = page-then q i ∙ joined-page (load ws sh) b p f q i n ∙ ap (λ (x : ℕ). pick (eqb i 4 && eqb (load ws sh (head b 8)) (suc q)) x (load ws sh (entry (entryAt (load ws sh) b q) i))) up-page
+      ∙ one-choice (eqb i 4 && eqb (load ws sh (head b 8)) (suc q)) (suc p) (load ws sh (entry (entryAt (load ws sh) b q) i))
+
+  -- frames of slots
+  frame-on : (k : ℕ) → k / 64 ≡ p → k < maxSlots → frameOf (mJoined (load ws sh) b p f) b k ≡ suc f
+  frame-on k e l =
+      let u : p < mJoined (load ws sh) b p f (head b 5) = rw size-then (bool (eqb p (load ws sh (head b 5)))
+      (λ y. rw y (omega (arith, eqb-true p (load ws sh (head b 5)) y)))
+      (λ y. rw y (omega (arith, eqb-false p (load ws sh (head b 5)) y, r .room .next, r .ready .table .size)))) in
+      rw (lt-ltb k maxSlots l, e, lt-ltb p (mJoined (load ws sh) b p f (head b 5)) u) (page-then p 0 ∙ joined-frame (load ws sh) b p f ∙ up-small f (omega (arith, r .frame, r .frames)))
+
+  frame-off : (k : ℕ) → (k / 64 ≡ p → ⊥) → frameOf (mJoined (load ws sh) b p f) b k ≡ frameOf (load ws sh) b k
+  frame-off k n =
+      let s : ltb (k / 64) (mJoined (load ws sh) b p f (head b 5)) ≡ ltb (k / 64) (load ws sh (head b 5)) = rw size-then (bool (eqb p (load ws sh (head b 5)))
+      (λ e. rw e (bool (ltb (k / 64) (load ws sh (head b 5)))
+      (λ l. rw l (lt-ltb (k / 64) (suc (load ws sh (head b 5))) (omega (arith, ltb-true (k / 64) (load ws sh (head b 5)) l))))
+      (λ l. rw l (le-ltb (k / 64) (suc (load ws sh (head b 5))) (let y = eqb-true p (load ws sh (head b 5)) e in let x = ltb-false (k / 64) (load ws sh (head b 5)) l in
+      let n′ : k / 64 ≡ p → ⊥ = n in omega arith)))))
+      (λ e. rw e)) in
+      rw (s, page-other (k / 64) 0 n)
+
+  -- slots of the page
+  own-slot : (j i : ℕ) → j < slotsOf till p → slotWord (mJoined (load ws sh) b p f) b (p * 64 + j) i ≡ mBuilt (load ws sh) f p (fresh (load ws sh) b p) (load ws sh (head b 6)) (cell f j i)
+  own-slot j i h =
+      let d : (p * 64 + j) / 64 ≡ p = page-of till till-sane p (p * 64 + j) (omega arith) (omega arith) in
+      let l : p * 64 + j < maxSlots = page-below till till-sane p (p * 64 + j) (omega arith) (omega arith) in
+      let c : (p * 64 + j) % 64 ≡ j = omega arith in
+      let out : linkFrame (load ws sh) b (load ws sh (head b 6)) ≡ suc f → ⊥ = not-own (load ws sh (head b 6)) in
+      ap (λ (x : ℕ). wordIn (mJoined (load ws sh) b p f) x ((p * 64 + j) % 64) i) (frame-on (p * 64 + j) d l)
+      ∙ ap (λ (x : ℕ). mJoined (load ws sh) b p f (cell f x i)) c ∙ joined-cell (load ws sh) b p f f j i
+      ∙ slot-cell (mBuilt (load ws sh) f p (fresh (load ws sh) b p) (load ws sh (head b 6))) (linkFrame (load ws sh) b (load ws sh (head b 6))) (load ws sh (head b 6)) 3 (p * 64 + 1) f j i out
+    where
+      not-own : (h : ℕ) → linkFrame (load ws sh) b h ≡ suc f → ⊥
+      not-own zero e = omega arith
+      not-own (suc k) e = let i = frame-is (load ws sh) b k f e in r .out (k / 64, i .1, i .2)
+
+  -- and of other pages
+  abbrev mSlot : Mem
+  mSlot = upds (load ws sh) (slotP (linkFrame (load ws sh) b (load ws sh (head b 6))) (load ws sh (head b 6)) 3 (p * 64 + 1))
+
+  pub other-slot : (k i : ℕ) → (k / 64 ≡ p → ⊥)
+      → slotWord (mJoined (load ws sh) b p f) b k i ≡ choose (eqb i 3 && eqb (load ws sh (head b 6)) (suc k)) (suc (p * 64)) (slotWord (load ws sh) b k i)
+  unfolding look
+  other-slot k i n =
+      let fit = r .ready .fit in
+      let only : OnlyTable b (load ws sh) mSlot = put-only sh (load ws sh) b fit (load ws sh) (λ a c. refl) (toSlot (load ws sh (head b 6)) 3 (p * 64 + 1)) can-old in
+      let fr : frameOf mSlot b k ≡ frameOf (load ws sh) b k = still-frame b (load ws sh) mSlot (still-only b (load ws sh) mSlot only) k in
+      let link : p * 64 + 1 ≡ suc (p * 64) = omega arith in
+      ap (λ (x : ℕ). wordIn (mJoined (load ws sh) b p f) x (k % 64) i) (frame-off k n)
+      ∙ words (frameOf (load ws sh) b k) refl
+      ∙ sym (ap (λ (x : ℕ). wordIn mSlot x (k % 64) i) fr)
+      ∙ put-shows sh (load ws sh) b fit (load ws sh) (λ a c. refl) (toSlot (load ws sh (head b 6)) 3 (p * 64 + 1)) can-old (sl k i)
+      ∙ one-choice (eqb i 3 && eqb (load ws sh (head b 6)) (suc k)) (p * 64 + 1) (slotWord (load ws sh) b k i)
+      ∙ ap (λ (x : ℕ). choose (eqb i 3 && eqb (load ws sh (head b 6)) (suc k)) x (slotWord (load ws sh) b k i)) link
+    where
+      words : (x : ℕ) → frameOf (load ws sh) b k ≡ x → wordIn (mJoined (load ws sh) b p f) x (k % 64) i ≡ wordIn mSlot x (k % 64) i
+      words zero e = refl
+      words (suc x) e = let u = frame-is (load ws sh) b k x e in
+          let far : x ≡ f → ⊥ = λ d. r .out (k / 64, u .1, u .2 ∙ ap suc d) in
+          joined-cell (load ws sh) b p f x (k % 64) i
+          ∙ upds-agree (mBuilt (load ws sh) f p (fresh (load ws sh) b p) (load ws sh (head b 6))) (load ws sh) (cell x (k % 64) i)
+          (built-cell (load ws sh) f p (fresh (load ws sh) b p) (load ws sh (head b 6)) x (k % 64) i far)
+          (slotP (linkFrame (load ws sh) b (load ws sh (head b 6))) (load ws sh (head b 6)) 3 (p * 64 + 1))
+
+  -- the generation
+  fresh-is : fresh (load ws sh) b p ≡ nextGeneration (t .pages p .high)
+  unfolding fresh
+  fresh-is = bool (ltb p (load ws sh (head b 5)))
+      (λ l. rw (l, r .ready .table .high p (omega (arith, ltb-true p (load ws sh (head b 5)) l, r .ready .table .size))))
+      (λ l. rw (l, r .ready .sound .rest p (omega (arith, ltb-false p (load ws sh (head b 5)) l, r .ready .table .size))) (sym next-none))
+
+  pub joined-is : Joined (look (load ws sh) b) (look (mJoined (load ws sh) b p f) b) p f (nextGeneration (t .pages p .high)) (slotsOf till p)
+  unfolding look
+  joined-is =
+      let m′ : Mem = mJoined (load ws sh) b p f in
+      let g : ℕ = fresh (load ws sh) b p in
+      let h : ℕ = load ws sh (head b 6) in
+      record {
+        heads = λ i l. joined-head (load ws sh) b p f b i (λ a c. omega arith);
+        size = size-then;
+        first = joined-first (load ws sh) b p f;
+        count = joined-count (load ws sh) b p f ∙ omega (arith, r .ready .table .freeCount, free-short t (r .ready .sound), slots-max);
+        empty = joined-empty (load ws sh) b p f ∙ up-page;
+        detached = joined-detached (load ws sh) b p f ∙ rw up-page (one-choice (eqb (load ws sh (head b 9)) (suc p)) (load ws sh (entry (entryAt (load ws sh) b p) 3)) (load ws sh (head b 9)));
+        frame = page-then p 0 ∙ joined-frame (load ws sh) b p f ∙ up-small f (omega (arith, r .frame, r .frames));
+        high = page-then p 1 ∙ joined-high (load ws sh) b p f ∙ fresh-is;
+        busy = page-then p 2 ∙ joined-busy (load ws sh) b p f;
+        next = page-then p 3 ∙ joined-next (load ws sh) b p f;
+        prev = page-then p 4 ∙ joined-prev (load ws sh) b p f;
+        pages = page-other;
+        tags = λ j l. own-slot j 0 l ∙ built-tag (load ws sh) f p g h j l;
+        generations = λ j l. own-slot j 1 l ∙ built-generation (load ws sh) f p g h j l ∙ fresh-is;
+        nexts = λ j l. own-slot j 2 l ∙ built-next (load ws sh) f p g h j l ∙ one-choice (eqb j 0) h (p * 64 + j);
+        prevs = λ j l. own-slot j 3 l ∙ built-prev (load ws sh) f p g h j l ∙ one-choice (eqb (j + 1) (slotsOf till p)) 0 (p * 64 + j + 2);
+        others = other-slot;
+      }

@@ -1,0 +1,11 @@
+pub mod Push
+pub mod Table
+pub mod Turns
+pub mod Words
+pub mod Memory
+pub mod Joined
+pub mod Attach
+pub mod Code
+pub mod Plan
+pub mod Epoch
+pub mod Grow

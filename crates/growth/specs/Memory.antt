@@ -1,0 +1,173 @@
+-- What the addresses show after a page was joined. Assumes nothing.
+use mathlib.Core.Path.{_≡_, refl, sym, ap, _∙_}
+use mathlib.Core.Bool.{false, _&&_, and-false}
+use mathlib.Core.List.{[], _∷_}
+use Prim.Native.Nat.{ℕ, zero, suc, _+_, _*_, _%_, _≤_, _<_, min}
+use native.Mathlib.Omega.{arith}
+use lib.Dec.{eqb}
+use borrow.Author.Tests.{eq-eqb, ne-eqb, eqb-true, eqb-false}
+use Rattle.words.specs.Pick.{pick, bool}
+use Rattle.model.specs.State.{till}
+use Rattle.model.specs.Storage.{slotsOf}
+use Rattle.layout.specs.Layout.{Addr.reg, Mem, head, entry, cell, Write.at, upds}
+use Rattle.storage.specs.Sight.{linkFrame, slotP, pageP}
+use Rattle.storage.specs.Ops.{up}
+use Rattle.growth.specs.Turns.{turnsM, miss, hit}
+use Rattle.growth.specs.Words.{nextWord, prevWord, slotsP, entryP, fresh, sizeWith, detachedWith}
+
+-- ---- the frame
+
+module _ (m : Mem) (f p g h : ℕ) where
+  abbrev pub mBuilt : Mem
+  mBuilt = turnsM m (slotsP f p g h) (slotsOf till p)
+
+  -- slots of other frames, and addresses of other regions
+  pub built-cell : (fr j i : ℕ) → (fr ≡ f → ⊥) → mBuilt (cell fr j i) ≡ m (cell fr j i)
+  built-cell fr j i n = miss m (slotsP f p g h) (cell fr j i)
+      (λ x k. rw (ne-eqb fr f n, and-false (eqb j x), and-false (eqb i 0), and-false (eqb i 1), and-false (eqb i 2), and-false (eqb i 3))) (slotsOf till p)
+
+  pub built-off : (k x y i : ℕ) → (k ≡ 7 → ⊥) → mBuilt (reg k x y i) ≡ m (reg k x y i)
+  built-off k x y i n = miss m (slotsP f p g h) (reg k x y i) (λ z w. rw (ne-eqb k 7 n)) (slotsOf till p)
+
+  -- slot j of the frame
+  module _ (j : ℕ) (l : j < slotsOf till p) where
+    here : (v w : ℕ) → pick (eqb j j && eqb f f) v w ≡ v
+    here v w = rw (eq-eqb j j refl, eq-eqb f f refl)
+
+    there : (i v w : ℕ) → (j ≡ i → ⊥) → pick (eqb j i && eqb f f) v w ≡ w
+    there i v w n = rw (ne-eqb j i n)
+
+    pub built-tag : mBuilt (cell f j 0) ≡ 0
+    built-tag = hit m (slotsP f p g h) (cell f j 0) j 0 (λ k. here 0 (k (cell f j 0))) (λ i k n. there i 0 (k (cell f j 0)) n) (slotsOf till p) l
+
+    pub built-generation : mBuilt (cell f j 1) ≡ g
+    built-generation = hit m (slotsP f p g h) (cell f j 1) j g (λ k. here g (k (cell f j 1))) (λ i k n. there i g (k (cell f j 1)) n) (slotsOf till p) l
+
+    pub built-next : mBuilt (cell f j 2) ≡ nextWord p h j
+    built-next = hit m (slotsP f p g h) (cell f j 2) j (nextWord p h j) (λ k. here (nextWord p h j) (k (cell f j 2))) (λ i k n. there i (nextWord p h i) (k (cell f j 2)) n) (slotsOf till p) l
+
+    pub built-prev : mBuilt (cell f j 3) ≡ prevWord p (slotsOf till p) j
+    built-prev = hit m (slotsP f p g h) (cell f j 3) j (prevWord p (slotsOf till p) j) (λ k. here (prevWord p (slotsOf till p) j) (k (cell f j 3)))
+        (λ i k n. there i (prevWord p (slotsOf till p) i) (k (cell f j 3)) n) (slotsOf till p) l
+
+-- ---- stores through links
+
+module _ (k : Mem) (fr h i v : ℕ) where
+  -- a store into a slot shows in slots alone
+  pub slot-off : (r x y j : ℕ) → (r ≡ 7 → ⊥) → upds k (slotP fr h i v) (reg r x y j) ≡ k (reg r x y j)
+  slot-off r x y j n = go fr h
+    where
+      go : (fr h : ℕ) → upds k (slotP fr h i v) (reg r x y j) ≡ k (reg r x y j)
+      go fr zero = refl
+      go zero (suc h) = refl
+      go (suc fr) (suc h) = rw (ne-eqb r 7 n)
+
+  -- in that of the link alone
+  pub slot-cell : (x y j : ℕ) → (fr ≡ suc x → ⊥) → upds k (slotP fr h i v) (cell x y j) ≡ k (cell x y j)
+  slot-cell x y j n = go fr h n
+    where
+      go : (fr h : ℕ) → (fr ≡ suc x → ⊥) → upds k (slotP fr h i v) (cell x y j) ≡ k (cell x y j)
+      go fr zero n = refl
+      go zero (suc h) n = refl
+      go (suc fr) (suc h) n = rw (ne-eqb x fr (λ e. n (ap suc (sym e))), and-false (eqb y (h % 64)), and-false (eqb j i))
+
+-- a store into a page entry shows in it alone
+pub page-off : (k : Mem) (e l i v r x y j : ℕ) → (r ≡ 2 → ⊥) → upds k (pageP e l i v) (reg r x y j) ≡ k (reg r x y j)
+page-off k e zero i v r x y j n = refl
+page-off k e (suc l) i v r x y j n = rw (ne-eqb r 2 n)
+
+eqb-add : (e p q : ℕ) → eqb (e + p) (e + q) ≡ eqb p q
+eqb-add e p q = bool (eqb p q) (λ t. rw t (eq-eqb (e + p) (e + q) (omega (arith, eqb-true p q t)))) (λ t. rw t (ne-eqb (e + p) (e + q) (λ y. eqb-false p q t (omega arith))))
+
+eqb-suc : (p q : ℕ) → eqb p q ≡ eqb (suc q) (suc p)
+eqb-suc p q = bool (eqb p q) (λ t. rw t (sym (eq-eqb (suc q) (suc p) (omega (arith, eqb-true p q t))))) (λ t. rw t (sym (ne-eqb (suc q) (suc p) (λ y. eqb-false p q t (omega arith)))))
+
+pub page-entry : (k : Mem) (e l i v q j : ℕ) → upds k (pageP e l i v) (entry (e + q) j) ≡ pick (eqb j i && eqb l (suc q)) v (k (entry (e + q) j))
+page-entry k e zero i v q j = rw (ne-eqb 0 (suc q) (λ y. omega arith), and-false (eqb j i))
+page-entry k e (suc l) i v q j = rw (eqb-add e q l, eqb-suc q l)
+
+-- ---- the whole
+
+module _ (m : Mem) (b p f : ℕ) where
+  abbrev pub mOld : Mem
+  mOld = upds (mBuilt m f p (fresh m b p) (m (head b 6))) (slotP (linkFrame m b (m (head b 6))) (m (head b 6)) 3 (p * 64 + 1))
+
+  abbrev pub mEntry : Mem
+  mEntry =
+      upds (upds (upds mOld (at (head b 6) (p * 64 + slotsOf till p) ∷ [])) (at (head b 7) (min (m (head b 7)) 16777215 + slotsOf till p) ∷ []))
+      (entryP b (m (head b 10)) p f (fresh m b p) (sizeWith m b p) (detachedWith m b p))
+
+  abbrev pub mNext : Mem
+  mNext = upds mEntry (pageP (m (head b 10)) (m (head b 8)) 4 (up p))
+
+  abbrev pub mJoined : Mem
+  mJoined = upds mNext (at (entry (m (head b 10) + p) 3) (m (head b 8)) ∷ at (entry (m (head b 10) + p) 4) 0 ∷ at (head b 8) (up p) ∷ [])
+
+  old-off : (r x y i : ℕ) → (r ≡ 7 → ⊥) → mOld (reg r x y i) ≡ m (reg r x y i)
+  old-off r x y i n =
+      slot-off (mBuilt m f p (fresh m b p) (m (head b 6))) (linkFrame m b (m (head b 6))) (m (head b 6)) 3 (p * 64 + 1) r x y i n
+      ∙ built-off m f p (fresh m b p) (m (head b 6)) r x y i n
+
+  -- regions other than the heads, the entries and the frames
+  pub joined-off : (r x y i : ℕ) → (r ≡ 1 → ⊥) → (r ≡ 2 → ⊥) → (r ≡ 7 → ⊥) → mJoined (reg r x y i) ≡ m (reg r x y i)
+  joined-off r x y i n₁ n₂ n₇ =
+      rw (ne-eqb r 1 n₁, ne-eqb r 2 n₂) (page-off mEntry (m (head b 10)) (m (head b 8)) 4 (up p) r x y i n₂ ∙ rw (ne-eqb r 1 n₁, ne-eqb r 2 n₂) (old-off r x y i n₇))
+
+  next-head : (c i : ℕ) → mNext (head c i) ≡ mEntry (head c i)
+  next-head c i = page-off mEntry (m (head b 10)) (m (head b 8)) 4 (up p) 1 c 0 i (λ y. omega arith)
+
+  old-head : (c i : ℕ) → mOld (head c i) ≡ m (head c i)
+  old-head c i = old-off 1 c 0 i (λ y. omega arith)
+
+  -- heads before the page joins the empty order
+  pub entry-head : (c i : ℕ) → (5 ≤ i → i ≤ 7 → ⊥) → (i ≡ 9 → ⊥) → mEntry (head c i) ≡ m (head c i)
+  entry-head c i n n₉ = rw (ne-eqb i 5 (λ y. n (omega arith) (omega arith)), ne-eqb i 6 (λ y. n (omega arith) (omega arith)), ne-eqb i 7 (λ y. n (omega arith) (omega arith)), ne-eqb i 9 n₉) (old-head c i)
+
+  -- heads
+  pub joined-head : (c i : ℕ) → (5 ≤ i → i ≤ 9 → ⊥) → mJoined (head c i) ≡ m (head c i)
+  joined-head c i n =
+      rw (ne-eqb i 8 (λ y. n (omega arith) (omega arith))) (next-head c i
+      ∙ rw (ne-eqb i 5 (λ y. n (omega arith) (omega arith)), ne-eqb i 6 (λ y. n (omega arith) (omega arith)), ne-eqb i 7 (λ y. n (omega arith) (omega arith)), ne-eqb i 9 (λ y. n (omega arith) (omega arith))) (old-head c i))
+
+  pub joined-size : mJoined (head b 5) ≡ sizeWith m b p
+  joined-size = next-head b 5 ∙ rw (eq-eqb b b refl)
+
+  pub joined-first : mJoined (head b 6) ≡ p * 64 + slotsOf till p
+  joined-first = next-head b 6 ∙ rw (eq-eqb b b refl)
+
+  pub joined-count : mJoined (head b 7) ≡ min (m (head b 7)) 16777215 + slotsOf till p
+  joined-count = next-head b 7 ∙ rw (eq-eqb b b refl)
+
+  pub joined-empty : mJoined (head b 8) ≡ up p
+  joined-empty = rw (eq-eqb b b refl)
+
+  pub joined-detached : mJoined (head b 9) ≡ detachedWith m b p
+  joined-detached = next-head b 9 ∙ rw (eq-eqb b b refl)
+
+  -- the page
+  pub joined-frame : mJoined (entry (m (head b 10) + p) 0) ≡ up f
+  joined-frame = page-entry mEntry (m (head b 10)) (m (head b 8)) 4 (up p) p 0 ∙ rw (eq-eqb (m (head b 10) + p) (m (head b 10) + p) refl)
+
+  pub joined-high : mJoined (entry (m (head b 10) + p) 1) ≡ fresh m b p
+  joined-high = page-entry mEntry (m (head b 10)) (m (head b 8)) 4 (up p) p 1 ∙ rw (eq-eqb (m (head b 10) + p) (m (head b 10) + p) refl)
+
+  pub joined-busy : mJoined (entry (m (head b 10) + p) 2) ≡ 0
+  joined-busy = page-entry mEntry (m (head b 10)) (m (head b 8)) 4 (up p) p 2 ∙ rw (eq-eqb (m (head b 10) + p) (m (head b 10) + p) refl)
+
+  pub joined-next : mJoined (entry (m (head b 10) + p) 3) ≡ m (head b 8)
+  joined-next = rw (eq-eqb (m (head b 10) + p) (m (head b 10) + p) refl)
+
+  pub joined-prev : mJoined (entry (m (head b 10) + p) 4) ≡ 0
+  joined-prev = rw (eq-eqb (m (head b 10) + p) (m (head b 10) + p) refl)
+
+  -- other pages
+  pub joined-page : (q i : ℕ) → (q ≡ p → ⊥) → mJoined (entry (m (head b 10) + q) i) ≡ pick (eqb i 4 && eqb (m (head b 8)) (suc q)) (up p) (m (entry (m (head b 10) + q) i))
+  joined-page q i n =
+      let d : eqb (m (head b 10) + q) (m (head b 10) + p) ≡ false = ne-eqb (m (head b 10) + q) (m (head b 10) + p) (λ y. n (omega arith)) in
+      rw (d, and-false (eqb i 3), and-false (eqb i 4)) (page-entry mEntry (m (head b 10)) (m (head b 8)) 4 (up p) q i
+      ∙ ap (λ (x : ℕ). pick (eqb i 4 && eqb (m (head b 8)) (suc q)) (up p) x)
+      (rw (d, and-false (eqb i 0), and-false (eqb i 1), and-false (eqb i 2)) (old-off 2 (m (head b 10) + q) 0 i (λ y. omega arith))))
+
+  -- slots
+  pub joined-cell : (x y i : ℕ) → mJoined (cell x y i) ≡ mOld (cell x y i)
+  joined-cell x y i = page-off mEntry (m (head b 10)) (m (head b 8)) 4 (up p) 7 x y i (λ d. omega arith)

@@ -1,0 +1,120 @@
+-- Growth over words: what each operation stores. Assumes nothing.
+use mathlib.Core.Bool.{Bool, _&&_}
+use mathlib.Core.List.{List, [], _∷_}
+use Prim.Native.Nat.{ℕ, zero, suc, _+_, _-_, _*_, _%_, _^_, min}
+use lib.Dec.{eqb, ltb}
+use Rattle.words.specs.Pick.{pick}
+use Rattle.codec.specs.Codec.{nextGeneration}
+use Rattle.model.specs.State.{till}
+use Rattle.model.specs.Storage.{slotsOf}
+use Rattle.layout.specs.declared.Shape.{Shape}
+use Rattle.layout.specs.Layout.{Mem, head, entry, cell, load, save, Write, Write.at, writes}
+use Rattle.representation.specs.Represents.{entryAt}
+use Rattle.storage.specs.Sight.{linkFrame, slotP, writesAll}
+use Rattle.storage.specs.Ops.{up, joinW}
+use Rattle.frames.specs.Ops.{takeFrameW, lowestAt}
+use Rattle.growth.specs.Turns.{turns}
+
+-- ---- a page in a frame
+
+-- "A new page is published by rising slot": so the last slot of the page is the first of the free order, each is followed by the one below
+-- it, and the first by the order that there was, whose head is the link h. The links of slot j of page p, which has n slots
+abbrev pub nextWord : ℕ → ℕ → ℕ → ℕ
+nextWord p h j = pick (eqb j 0) h (p * 64 + j)
+
+abbrev pub prevWord : ℕ → ℕ → ℕ → ℕ
+prevWord p n j = pick (eqb (j + 1) n) 0 (p * 64 + j + 2)
+
+-- slot j of frame f is vacant, with the generation g and its links
+abbrev pub cellsP : ℕ → ℕ → ℕ → ℕ → ℕ → List Write
+cellsP f j g x y = at (cell f j 0) 0 ∷ at (cell f j 1) g ∷ at (cell f j 2) x ∷ at (cell f j 3) y ∷ []
+
+-- so of slot j of page p
+abbrev pub slotsP : ℕ → ℕ → ℕ → ℕ → ℕ → List Write
+slotsP f p g h j = cellsP f j g (nextWord p h j) (prevWord p (slotsOf till p) j)
+
+-- frame f has the slots of page p
+unfoldable pub builtW : List ℕ → Shape → ℕ → ℕ → ℕ → ℕ → List ℕ
+builtW ws sh f p g h = turns ws sh (slotsP f p g h) (slotsOf till p)
+
+-- the slots of page p come to the head of table b's free order, whose head was the link h, in the frame of the link fr, and which had c slots
+abbrev pub orderP : ℕ → ℕ → ℕ → ℕ → ℕ → List (List Write)
+orderP b p h fr c = slotP fr h 3 (p * 64 + 1) ∷ (at (head b 6) (p * 64 + slotsOf till p) ∷ []) ∷ (at (head b 7) (min c 16777215 + slotsOf till p) ∷ []) ∷ []
+
+-- page p of the table whose first entry is e is attached in frame f with the generation g; n pages are attached or detached, and d is the link of the first detached one
+abbrev pub entryP : ℕ → ℕ → ℕ → ℕ → ℕ → ℕ → ℕ → List Write
+entryP b e p f g n d =
+    at (head b 5) n ∷ at (head b 9) d ∷ at (entry (e + p) 0) (up f) ∷ at (entry (e + p) 1) g ∷ at (entry (e + p) 2) 0 ∷ []
+
+-- the generation of page p: "`fresh_generation` at the limit gives 1 and lowers the page's high mark to 1". A new page has had none
+unfoldable pub fresh : Mem → ℕ → ℕ → ℕ
+fresh m b p = pick (ltb p (m (head b 5))) (nextGeneration (m (entry (entryAt m b p) 1))) 1
+
+-- how many pages there are then
+abbrev pub sizeWith : Mem → ℕ → ℕ → ℕ
+sizeWith m b p = pick (eqb p (m (head b 5))) (up p) (m (head b 5))
+
+-- the link of the first detached page then
+abbrev pub detachedWith : Mem → ℕ → ℕ → ℕ
+detachedWith m b p = pick (eqb (m (head b 9)) (up p)) (m (entry (entryAt m b p) 3)) (m (head b 9))
+
+-- page p of table b stands in frame f, but for the frame's owner: its slots, the free order, its entry, the empty order
+unfoldable pub joinedW : List ℕ → Shape → ℕ → ℕ → ℕ → List ℕ
+joinedW ws sh b p f =
+    joinW
+    (writes
+    (writesAll (builtW ws sh f p (fresh (load ws sh) b p) (load ws sh (head b 6))) sh
+    (orderP b p (load ws sh (head b 6)) (linkFrame (load ws sh) b (load ws sh (head b 6))) (load ws sh (head b 7))))
+    sh (entryP b (load ws sh (head b 10)) p f (fresh (load ws sh) b p) (sizeWith (load ws sh) b p) (detachedWith (load ws sh) b p)))
+    sh b p
+
+-- ATTACH: and page p's entry has the frame
+unfoldable pub attachW : List ℕ → Shape → ℕ → ℕ → ℕ → List ℕ
+attachW ws sh b p f = takeFrameW (joinedW ws sh b p f) sh f (min (load ws sh (head b 10)) 4294967295 + p)
+
+-- ---- the plan of pages
+
+-- the page that a table gets next: the first detached one, whose link is d, or else a new one, the n-th
+abbrev pub pageAt : ℕ → ℕ → ℕ
+pageAt d n = pick (eqb d 0) n (d - 1)
+
+-- the link of the first detached page after it
+abbrev pub linkAfter : Mem → ℕ → ℕ → ℕ
+linkAfter m e d = pick (eqb d 0) 0 (m (entry (e + (d - 1)) 3))
+
+-- how many pages there are after it
+abbrev pub sizeAfter : ℕ → ℕ → ℕ
+sizeAfter d n = pick (eqb d 0) (up n) n
+
+-- a new page would pass the limit
+abbrev pub isFull : ℕ → ℕ → ℕ → Bool
+isFull d n limit = eqb d 0 && eqb n limit
+
+-- storage.rs `snapshot`: how many pages make room for k more slots, c of them counted; 65 if a new one would pass the limit
+unfoldable pub countFrom : Mem → ℕ → ℕ → ℕ → ℕ → ℕ → ℕ → ℕ → ℕ
+countFrom m e limit zero k d n c = c
+countFrom m e limit (suc fuel) k d n c =
+    pick (eqb k 0) c (pick (isFull d n limit) 65 (countFrom m e limit fuel (k - slotsOf till (pageAt d n)) (linkAfter m e d) (sizeAfter d n) (suc c)))
+
+-- how many pages table b needs for a batch of k slots
+unfoldable pub pagesNeeded : Mem → ℕ → ℕ → ℕ
+pagesNeeded m b k = countFrom m (m (head b 10)) (m (head b 0)) 64 (k - m (head b 7)) (m (head b 9)) (m (head b 5)) 0
+
+-- ---- growth
+
+-- the next page, in the lowest free frame
+unfoldable pub attachNextW : List ℕ → Shape → ℕ → List ℕ
+attachNextW ws sh b = attachW ws sh b (min (pageAt (load ws sh (head b 9)) (load ws sh (head b 5))) 262143) (lowestAt (load ws sh))
+
+-- so n pages
+unfoldable pub attachAllW : List ℕ → Shape → ℕ → ℕ → List ℕ
+attachAllW ws sh b zero = ws
+attachAllW ws sh b (suc n) = attachNextW (attachAllW ws sh b n) sh b
+
+-- "The epoch wraps from 2^64 - 1 to 0"
+unfoldable pub advanceW : List ℕ → Shape → ℕ → List ℕ
+advanceW ws sh b = save ws sh (head b 4) ((load ws sh (head b 4) + 1) % 2 ^ 64)
+
+-- GROW by n pages: the epoch advances once
+unfoldable pub growW : List ℕ → Shape → ℕ → ℕ → List ℕ
+growW ws sh b n = pick (eqb n 0) (attachAllW ws sh b n) (advanceW (attachAllW ws sh b n) sh b)

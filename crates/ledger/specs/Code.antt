@@ -1,0 +1,160 @@
+-- What the code's branches say, in the terms of the tests. Assumes nothing.
+use mathlib.Core.Path.{_≡_, refl, sym, ap, _∙_}
+use mathlib.Core.Bool.{Bool, true, false, _&&_}
+use Prim.Native.Nat.{ℕ, _+_, _-_, _*_, _%_, _≤_, _<_, min}
+use native.Mathlib.Omega.{arith}
+use native.Mathlib.Numerals.{add-one}
+use lib.Dec.{eqb}
+use borrow.Author.Tests.{eq-eqb, ne-eqb, lt-ltb, le-leb}
+use Rattle.words.specs.Pick.{bool, clash}
+use Rattle.words.specs.All.{all, all-stop, all-end, all-yes}
+use Rattle.layout.specs.declared.Shape.{Shape}
+use Rattle.layout.specs.Layout.{Mem, root, head, entry, cell, index, rank, row, item}
+use Rattle.representation.specs.Represents.{entryAt, wordIn, frameOf, slotWord}
+use Rattle.storage.specs.Code.{word-some}
+use Rattle.ledger.specs.Items.{refused, placeB, PlaceOk, place-is, place-yes, namesB, Names, names-is, handleB, HandleOk, handle-is, claimB, itemB}
+use Rattle.ledger.specs.Ledger.{openB, OpenOk, open-is, open-yes, rowB, RowOk, row-is, row-yes, before, rankB, hitB, markB, MarkOk, mark-is, mark-yes, slotB, slot-yes, slotCount, pageB, tableB, marksB, Ledger, ledgerB, ledger-is}
+
+module _ (m : Mem) (sh : Shape) where
+  pub place-no : (i : ℕ) → (PlaceOk m sh i → ⊥) → false ≡ placeB m sh i
+  place-no i n = refused (placeB m sh i) (place-is m sh i) n
+
+  pub handle-no : (x j : ℕ) → (HandleOk m sh x j → ⊥) → false ≡ handleB m sh x j
+  handle-no x j n = refused (handleB m sh x j) (handle-is m sh x j) n
+
+  pub open-no : (w b : ℕ) → (w ≡ 3 → ⊥) → (OpenOk m sh b → ⊥) → false ≡ openB m sh w b
+  open-no w b d n = refused (openB m sh w b) (λ e. open-is m sh w b e d) n
+
+  pub row-no : (x last : ℕ) → (RowOk m sh x last → ⊥) → false ≡ rowB m sh x last
+  row-no x last n = refused (rowB m sh x last) (row-is m sh x last) n
+
+  pub mark-no : (b k t x j : ℕ) → (MarkOk m sh b k t x j → ⊥) → false ≡ markB m sh b k t x j
+  mark-no b k t x j n = refused (markB m sh b k t x j) (mark-is m sh b k t x j) n
+
+-- a slot's word, read from its frame
+module _ (m : Mem) (b k fr : ℕ) (e : fr ≡ frameOf m b k) where
+  pub slot-read : (f r : ℕ) → (fr ≡ 0 → ⊥) → r ≡ m (cell (fr - 1) (k % 64) f) → slotWord m b k f ≡ r
+  slot-read f r n q = ap (λ (l : ℕ). wordIn m l (k % 64) f) (sym e) ∙ sym (word-some m r fr (k % 64) f n q)
+
+  pub names-bare : (t x j : ℕ) → fr ≡ 0 → false ≡ namesB m b k t x j
+  names-bare t x j z = refused (namesB m b k t x j) (names-is m b k t x j) (λ n. omega (arith, n .frame))
+
+  pub names-no : (t x j : ℕ) → (Names m b k t x j → ⊥) → false ≡ namesB m b k t x j
+  names-no t x j n = refused (namesB m b k t x j) (names-is m b k t x j) n
+
+-- items
+module _ (m : Mem) (sh : Shape) (b x j : ℕ) where
+  pub claim-no : (h : Bool) → h ≡ handleB m sh x j → h ≡ false → false ≡ claimB m sh b x j
+  unfolding claimB
+  claim-no h e d = rw (← e, d)
+
+  pub claim-moved : (h r : Bool) (o k : ℕ) → h ≡ handleB m sh x j → h ≡ true → o ≡ m (item x j 0) → o ≡ 0 → k ≡ m (item x j 1) → r ≡ namesB m b k 2 x j → r ≡ claimB m sh b x j
+  unfolding claimB
+  claim-moved h r o k e d eo z ek q = rw (← e, d, ← eo, eq-eqb o 0 z, ← ek) q
+
+  pub claim-copied : (h r : Bool) (o : ℕ) → h ≡ handleB m sh x j → h ≡ true → o ≡ m (item x j 0) → (o ≡ 0 → ⊥) → r ≡ eqb o 1 → r ≡ claimB m sh b x j
+  unfolding claimB
+  claim-copied h r o e d eo z q = rw (← e, d, ← eo, ne-eqb o 0 z) q
+
+  pub item-reserved : (w k : ℕ) (r : Bool) → w ≡ 1 → k ≡ m (item x j 0) → r ≡ namesB m b k 1 x j → r ≡ itemB m sh w b x j
+  unfolding itemB
+  item-reserved w k r e ek q = rw (eq-eqb w 1 e, ← ek) q
+
+  pub item-claim : (w : ℕ) (r : Bool) → w ≡ 2 → r ≡ claimB m sh b x j → r ≡ itemB m sh w b x j
+  unfolding itemB
+  item-claim w r e q = rw (ne-eqb w 1 (λ z. omega arith), eq-eqb w 2 e) q
+
+  pub item-parcel : (w : ℕ) (r : Bool) → (w ≡ 1 → ⊥) → (w ≡ 2 → ⊥) → r ≡ handleB m sh x j → r ≡ itemB m sh w b x j
+  unfolding itemB
+  item-parcel w r d e q = rw (ne-eqb w 1 d, ne-eqb w 2 e) q
+
+-- hits
+module _ (m : Mem) (t x j k : ℕ) where
+  pub hit-one : (a : ℕ) (r : Bool) → t ≡ 1 → a ≡ m (item x j 0) → r ≡ eqb k a → r ≡ hitB m t x j k
+  unfolding hitB
+  hit-one a r e ea q = rw (eq-eqb t 1 e, ← ea) q
+
+  pub hit-copied : (a : ℕ) → (t ≡ 1 → ⊥) → a ≡ m (item x j 0) → (a ≡ 0 → ⊥) → false ≡ hitB m t x j k
+  unfolding hitB
+  hit-copied a e ea z = rw (ne-eqb t 1 e, ← ea, ne-eqb a 0 z)
+
+  pub hit-two : (a c : ℕ) (r : Bool) → (t ≡ 1 → ⊥) → a ≡ m (item x j 0) → a ≡ 0 → c ≡ m (item x j 1) → r ≡ eqb k c → r ≡ hitB m t x j k
+  unfolding hitB
+  hit-two a c r e ea z ec q = rw (ne-eqb t 1 e, ← ea, eq-eqb a 0 z, ← ec) q
+
+-- a mark, once its row is found
+pub mark-hit : (m : Mem) (sh : Shape) (b k t x j : ℕ) (r : Bool) → x < sh .rows → m (rank x) < m (root 6) → j < m (row x 3) → m (row x 1) ≡ t → m (row x 2) ≡ b → r ≡ hitB m t x j k
+    → r ≡ markB m sh b k t x j
+mark-hit m sh b k t x j r lx lu lj et eb q = bool r
+    (λ e. e ∙ sym (mark-yes m sh b k t x j (record { place = lx; used = lu; position = lj; kind = et; table = eb; hit = sym q ∙ e })))
+    (λ e. e ∙ refused (markB m sh b k t x j) (mark-is m sh b k t x j) (λ g. clash (g .hit) (sym q ∙ e)))
+
+-- slots and pages
+module _ (m : Mem) (sh : Shape) (b p : ℕ) where
+  pub slot-plain : (fr j t : ℕ) → t ≡ m (cell fr j 0) → (0 < t → t < 3 → ⊥) → true ≡ slotB m sh b p fr j
+  slot-plain fr j t e n = sym (slot-yes m sh b p fr j (λ lo hi. absurd (n (omega arith) (omega arith))))
+
+  pub slot-marked : (fr j t x i : ℕ) (r : Bool) → t ≡ m (cell fr j 0) → 0 < t → t < 3 → x ≡ m (cell fr j 2) → i ≡ m (cell fr j 3) → r ≡ markB m sh b (p * 64 + j) t x i → r ≡ slotB m sh b p fr j
+  unfolding slotB
+  slot-marked fr j t x i r et lo hi ex ei q = rw (← et, lt-ltb 0 t lo, lt-ltb t 3 hi, ← ex, ← ei) q
+
+  pub page-bare : (l : ℕ) → l ≡ m (entry (entryAt m b p) 0) → l ≡ 0 → true ≡ pageB m sh b p
+  unfolding pageB
+  page-bare l e z = rw (← e, eq-eqb l 0 z)
+
+  pub page-slots : (l n : ℕ) (r : Bool) → l ≡ m (entry (entryAt m b p) 0) → (l ≡ 0 → ⊥) → n ≡ slotCount p → r ≡ all n (slotB m sh b p (l - 1)) → r ≡ pageB m sh b p
+  unfolding pageB
+  page-slots l n r e z en q = rw (← e, ne-eqb l 0 z, ← en) q
+
+-- the row before a rank
+pub before-next : (m : Mem) (i x id : ℕ) → x ≡ m (index i) → id ≡ m (row x 0) → id ≡ before m (i + 1)
+before-next m i x id e d = rw add-one (d ∙ ap (λ (y : ℕ). m (row y 0)) e)
+
+-- rows
+
+and-yes : (c : Bool) → (c && true) ≡ c
+and-yes true = refl
+and-yes false = refl
+
+pub row-last : (m : Mem) (sh : Shape) (x last w b n : ℕ) (r : Bool) → last < m (row x 0) → m (row x 0) < m (root 5) → w ≡ m (row x 1) → b ≡ m (row x 2) → n ≡ m (row x 3)
+    → 1 ≤ w → w ≤ 3 → 1 ≤ n → n ≤ 64 → openB m sh w b ≡ true → r ≡ all n (itemB m sh w b x) → r ≡ rowB m sh x last
+unfolding rowB
+row-last m sh x last w b n r h₀ h₁ ew eb en h₂ h₃ h₄ h₅ o q =
+    rw (lt-ltb last (m (row x 0)) h₀, lt-ltb (m (row x 0)) (m (root 5)) h₁, ← ew, ← eb, ← en, le-leb 1 w h₂, le-leb w 3 h₃, le-leb 1 n h₄, le-leb n 64 h₅, o) (q ∙ sym (and-yes (all n (itemB m sh w b x))))
+
+pub row-shut : (m : Mem) (sh : Shape) (x last w b : ℕ) (r : Bool) → w ≡ m (row x 1) → b ≡ m (row x 2) → r ≡ openB m sh w b → r ≡ false → false ≡ rowB m sh x last
+row-shut m sh x last w b r ew eb q e = refused (rowB m sh x last) (row-is m sh x last)
+    (λ g. clash (open-yes m sh (m (row x 1)) (m (row x 2)) (g .opens)) (ap (λ (v : ℕ). openB m sh v (m (row x 2))) (sym ew) ∙ ap (openB m sh w) (sym eb) ∙ sym q ∙ e))
+
+-- a row, by its rank
+pub rank-is : (m : Mem) (sh : Shape) (i x last : ℕ) (r : Bool) → x ≡ m (index i) → last ≡ before m i → r ≡ rowB m sh x last → r ≡ rankB m sh i
+rank-is m sh i x last r ex el q = q ∙ ap (λ (y : ℕ). rowB m sh y last) ex ∙ ap (rowB m sh (m (index i))) el
+
+-- the pages of a table
+module _ (m : Mem) (sh : Shape) (b n v : ℕ) (ev : v ≡ m (head b 5)) (en : n ≡ min v 262144) where
+  table-all : all n (pageB m sh b) ≡ tableB m sh b
+  unfolding tableB
+  table-all = ap (λ (k : ℕ). all k (pageB m sh b)) (en ∙ ap (λ (k : ℕ). min k 262144) ev)
+
+  pub table-stop : (p : ℕ) → p < n → pageB m sh b p ≡ false → false ≡ tableB m sh b
+  table-stop p h e = sym (all-stop n (pageB m sh b) p h e) ∙ table-all
+
+  pub table-end : (p : ℕ) → all p (pageB m sh b) ≡ true → n ≤ p → true ≡ tableB m sh b
+  table-end p e h = sym (all-end n p (pageB m sh b) e h) ∙ table-all
+
+-- the whole
+module _ (m : Mem) (sh : Shape) where
+  pub ledger-no : (Ledger sh m → ⊥) → false ≡ ledgerB m sh
+  ledger-no n = refused (ledgerB m sh) (ledger-is m sh) n
+
+  pub ledger-places : (r : Bool) → r ≡ all (sh .rows) (placeB m sh) → r ≡ false → false ≡ ledgerB m sh
+  ledger-places r q e = ledger-no (λ g. clash (all-yes (sh .rows) (placeB m sh) (λ i h. place-yes m sh i (g .places i h))) (sym q ∙ e))
+
+  pub ledger-rows : (r : Bool) → r ≡ all (m (root 6)) (rankB m sh) → r ≡ false → false ≡ ledgerB m sh
+  ledger-rows r q e = ledger-no (λ g. clash (all-yes (m (root 6)) (rankB m sh) (λ i h. row-yes m sh (m (index i)) (before m i) (g .rows i h))) (sym q ∙ e))
+
+  pub ledger-last : (a c r : Bool) → m (root 6) ≤ sh .rows → 1 ≤ m (root 5) → a ≡ all (sh .rows) (placeB m sh) → a ≡ true → c ≡ all (m (root 6)) (rankB m sh) → c ≡ true → r ≡ marksB m sh
+      → r ≡ ledgerB m sh
+  unfolding ledgerB
+  ledger-last a c r hu hn qa ea qc ec q =
+      rw (le-leb (m (root 6)) (sh .rows) hu, le-leb 1 (m (root 5)) hn, ← qa, ea, ← qc, ec) (q ∙ sym (and-yes (marksB m sh)))

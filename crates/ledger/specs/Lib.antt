@@ -1,0 +1,9 @@
+pub mod Items
+pub mod Ledger
+pub mod View
+pub mod Places
+pub mod Found
+pub mod Shown
+pub mod Sound
+pub mod Complete
+pub mod Code

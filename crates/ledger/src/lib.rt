@@ -1,0 +1,339 @@
+// The part of the state check for the book: the row index, the rows in use and the marks of slots.
+ghost use mathlib.Core.Path.{_≡_};
+ghost use Prim.Native.Nat.{_≤_, _<_};
+ghost use Rattle.words.specs.All.{all};
+ghost use Rattle.layout.specs.Layout.{load as loadAt, root};
+ghost use Rattle.ledger.specs.Items.{placeB, namesB, handleB, claimB, itemB};
+ghost use Rattle.ledger.specs.Ledger.{openB, rowB, rankB, hitB, markB, slotB, slotCount, pageB, tableB, marksB, ledgerB};
+use layout::Shape;
+
+// Whether rank i of the index names a place, and the place knows its rank.
+fn place_ok(s: &[u64], sh: Shape, i: u64) -> bool
+    ensures { λ r. ⌜ r ≡ placeB (loadAt (now (s .entry)) sh) sh i ⌝ }
+{
+    let x = layout::index_word(s, sh, i);
+    let n = sh.rows as u64;
+    if x >= n {
+        return false;
+    }
+    let k = layout::rank_word(s, sh, x);
+    if k != i {
+        return false;
+    }
+    true
+}
+
+fn places_ok(s: &[u64], sh: Shape) -> bool
+    ensures { λ r. ⌜ r ≡ all (sh .rows) (placeB (loadAt (now (s .entry)) sh) sh) ⌝ }
+{
+    let n = sh.rows as u64;
+    let mut i: u64 = 0;
+    while i < n {
+        if !place_ok(s, sh, i) {
+            return false;
+        }
+        i += 1;
+    }
+    true
+}
+
+// Whether slot k of table b has the tag t and names item j of the row in place x.
+fn names(s: &[u64], sh: Shape, b: u64, k: u64, t: u64, x: u64, j: u64) -> bool
+    ensures { λ r. ⌜ r ≡ namesB (loadAt (now (s .entry)) sh) b k t x j ⌝ }
+{
+    let fr = storage::frame_link(s, sh, b, k);
+    if fr == 0 {
+        return false;
+    }
+    let f = fr - 1;
+    let q = k % 64;
+    let tag = layout::cell_word(s, sh, f, q, 0);
+    if tag != t {
+        return false;
+    }
+    let place = layout::cell_word(s, sh, f, q, 2);
+    if place != x {
+        return false;
+    }
+    let position = layout::cell_word(s, sh, f, q, 3);
+    if position != j {
+        return false;
+    }
+    true
+}
+
+// Whether the handle of item j of the row in place x is in range.
+fn handle_ok(s: &[u64], sh: Shape, x: u64, j: u64) -> bool
+    ensures { λ r. ⌜ r ≡ handleB (loadAt (now (s .entry)) sh) sh x j ⌝ }
+{
+    let o = layout::item_word(s, sh, x, j, 2);
+    let n = sh.objects as u64;
+    if o >= n {
+        return false;
+    }
+    let f = layout::item_word(s, sh, x, j, 4);
+    if f > 3 {
+        return false;
+    }
+    true
+}
+
+// Item j of a claim of table b.
+fn claim_ok(s: &[u64], sh: Shape, b: u64, x: u64, j: u64) -> bool
+    ensures { λ r. ⌜ r ≡ claimB (loadAt (now (s .entry)) sh) sh b x j ⌝ }
+{
+    if !handle_ok(s, sh, x, j) {
+        return false;
+    }
+    let op = layout::item_word(s, sh, x, j, 0);
+    if op == 0 {
+        let k = layout::item_word(s, sh, x, j, 1);
+        return names(s, sh, b, k, 2, x, j);
+    }
+    words::eq(op, 1)
+}
+
+// Item j of a row that is a w: 1 a reservation, 2 a claim, else a parcel.
+fn item_ok(s: &[u64], sh: Shape, w: u64, b: u64, x: u64, j: u64) -> bool
+    ensures { λ r. ⌜ r ≡ itemB (loadAt (now (s .entry)) sh) sh w b x j ⌝ }
+{
+    if w == 1 {
+        let k = layout::item_word(s, sh, x, j, 0);
+        return names(s, sh, b, k, 1, x, j);
+    }
+    if w == 2 {
+        return claim_ok(s, sh, b, x, j);
+    }
+    handle_ok(s, sh, x, j)
+}
+
+fn items_ok(s: &[u64], sh: Shape, w: u64, b: u64, x: u64, n: u64) -> bool
+    ensures { λ r. ⌜ r ≡ all n (itemB (loadAt (now (s .entry)) sh) sh w b x) ⌝ }
+{
+    let mut j: u64 = 0;
+    while j < n {
+        if !item_ok(s, sh, w, b, x, j) {
+            return false;
+        }
+        j += 1;
+    }
+    true
+}
+
+// Whether a row that is a w may name table b: it is there, and active.
+fn open_ok(s: &[u64], sh: Shape, w: u64, b: u64) -> bool
+    ensures { λ r. ⌜ r ≡ openB (loadAt (now (s .entry)) sh) sh w b ⌝ }
+{
+    if w == 3 {
+        return true;
+    }
+    let n = sh.tables as u64;
+    if b >= n {
+        return false;
+    }
+    let life = layout::head_word(s, sh, b, 2);
+    if life != 0 {
+        return false;
+    }
+    true
+}
+
+// The row in place x, whose id must be above `last`.
+fn row_ok(s: &[u64], sh: Shape, x: u64, last: u64) -> bool
+    ensures { λ r. ⌜ r ≡ rowB (loadAt (now (s .entry)) sh) sh x last ⌝ }
+{
+    let id = layout::row_word(s, sh, x, 0);
+    let next = layout::root_word(s, sh, 5);
+    let w = layout::row_word(s, sh, x, 1);
+    let b = layout::row_word(s, sh, x, 2);
+    let n = layout::row_word(s, sh, x, 3);
+    if id <= last {
+        return false;
+    }
+    if id >= next {
+        return false;
+    }
+    if w < 1 {
+        return false;
+    }
+    if w > 3 {
+        return false;
+    }
+    if n < 1 {
+        return false;
+    }
+    if n > 64 {
+        return false;
+    }
+    if !open_ok(s, sh, w, b) {
+        return false;
+    }
+    items_ok(s, sh, w, b, x, n)
+}
+
+// The rows in use, by rank.
+fn rows_ok(s: &[u64], sh: Shape) -> bool
+    ensures { λ r. ⌜ r ≡ all (loadAt (now (s .entry)) sh (root 6)) (rankB (loadAt (now (s .entry)) sh) sh) ⌝ }
+{
+    let n = layout::root_word(s, sh, 6);
+    let mut last: u64 = 0;
+    let mut i: u64 = 0;
+    while i < n {
+        let x = layout::index_word(s, sh, i);
+        if !row_ok(s, sh, x, last) {
+            return false;
+        }
+        last = layout::row_word(s, sh, x, 0);
+        i += 1;
+    }
+    true
+}
+
+// Whether item j of the row in place x, which is a t, names slot k.
+fn hit(s: &[u64], sh: Shape, t: u64, x: u64, j: u64, k: u64) -> bool
+    ensures { λ r. ⌜ r ≡ hitB (loadAt (now (s .entry)) sh) t x j k ⌝ }
+{
+    let a = layout::item_word(s, sh, x, j, 0);
+    if t == 1 {
+        return words::eq(k, a);
+    }
+    if a != 0 {
+        return false;
+    }
+    let c = layout::item_word(s, sh, x, j, 1);
+    words::eq(k, c)
+}
+
+// Whether slot k of table b, which has the tag t, is item j of the row in place x.
+fn mark_ok(s: &[u64], sh: Shape, b: u64, k: u64, t: u64, x: u64, j: u64) -> bool
+    ensures { λ r. ⌜ r ≡ markB (loadAt (now (s .entry)) sh) sh b k t x j ⌝ }
+{
+    let rows = sh.rows as u64;
+    if x >= rows {
+        return false;
+    }
+    let rank = layout::rank_word(s, sh, x);
+    let used = layout::root_word(s, sh, 6);
+    if rank >= used {
+        return false;
+    }
+    let n = layout::row_word(s, sh, x, 3);
+    if j >= n {
+        return false;
+    }
+    let w = layout::row_word(s, sh, x, 1);
+    if w != t {
+        return false;
+    }
+    let c = layout::row_word(s, sh, x, 2);
+    if c != b {
+        return false;
+    }
+    hit(s, sh, t, x, j, k)
+}
+
+// Slot j of page p of table b, in the frame fr.
+fn slot_ok(s: &[u64], sh: Shape, b: u64, p: u32, fr: u64, j: u8) -> bool
+    ensures { λ r. ⌜ r ≡ slotB (loadAt (now (s .entry)) sh) sh b p fr j ⌝ }
+{
+    let q = j as u64;
+    let t = layout::cell_word(s, sh, fr, q, 0);
+    if t == 0 {
+        return true;
+    }
+    if t >= 3 {
+        return true;
+    }
+    let x = layout::cell_word(s, sh, fr, q, 2);
+    let i = layout::cell_word(s, sh, fr, q, 3);
+    mark_ok(s, sh, b, (p as u64) * 64 + q, t, x, i)
+}
+
+fn slots_ok(s: &[u64], sh: Shape, b: u64, p: u32, fr: u64, n: u8) -> bool
+    ensures { λ r. ⌜ r ≡ all n (slotB (loadAt (now (s .entry)) sh) sh b p fr) ⌝ }
+{
+    let mut j: u8 = 0;
+    while j < n {
+        if !slot_ok(s, sh, b, p, fr, j) {
+            return false;
+        }
+        j += 1;
+    }
+    true
+}
+
+// How many slots a page has.
+fn slot_count(p: u32) -> u8
+    ensures { λ r. ⌜ r ≡ slotCount p ⌝ }
+{
+    if p < 262143 {
+        return 64;
+    }
+    if p == 262143 {
+        return 63;
+    }
+    0
+}
+
+fn page_ok(s: &[u64], sh: Shape, b: u64, p: u32) -> bool
+    ensures { λ r. ⌜ r ≡ pageB (loadAt (now (s .entry)) sh) sh b p ⌝ }
+{
+    let e = layout::head_word(s, sh, b, 10);
+    let fr = storage::page_word(s, sh, e, p as u64, 0);
+    if fr == 0 {
+        return true;
+    }
+    let n = slot_count(p);
+    slots_ok(s, sh, b, p, fr - 1, n)
+}
+
+fn table_ok(s: &[u64], sh: Shape, b: u8) -> bool
+    ensures { λ r. ⌜ r ≡ tableB (loadAt (now (s .entry)) sh) sh b ⌝ }
+{
+    let t = b as u64;
+    let n = words::smaller(layout::head_word(s, sh, t, 5), 262144);
+    let mut p: u32 = 0;
+    while (p as u64) < n {
+        if !page_ok(s, sh, t, p) {
+            return false;
+        }
+        p += 1;
+    }
+    true
+}
+
+fn marks_ok(s: &[u64], sh: Shape) -> bool
+    ensures { λ r. ⌜ r ≡ marksB (loadAt (now (s .entry)) sh) sh ⌝ }
+{
+    let n = sh.tables;
+    let mut b: u8 = 0;
+    while b < n {
+        if !table_ok(s, sh, b) {
+            return false;
+        }
+        b += 1;
+    }
+    true
+}
+
+// Whether the book of a state is as a well-formed state's must be.
+pub fn check_ledger(s: &[u64], sh: Shape) -> bool
+    ensures { λ r. ⌜ r ≡ ledgerB (loadAt (now (s .entry)) sh) sh ⌝ }
+{
+    let used = layout::root_word(s, sh, 6);
+    let next = layout::root_word(s, sh, 5);
+    let rows = sh.rows as u64;
+    if used > rows {
+        return false;
+    }
+    if next < 1 {
+        return false;
+    }
+    if !places_ok(s, sh) {
+        return false;
+    }
+    if !rows_ok(s, sh) {
+        return false;
+    }
+    marks_ok(s, sh)
+}

@@ -1,0 +1,4 @@
+pub mod Record
+pub mod Words
+pub mod Whole
+pub mod Reps

@@ -1,0 +1,47 @@
+-- An object's record in the state's words, and the words that each step leaves. Assumes nothing.
+use mathlib.Core.Path.{_≡_, ap, _∙_}
+use mathlib.Core.List.{List, [], _∷_}
+use Prim.Native.Nat.{ℕ}
+use Rattle.layout.specs.declared.Shape.{Shape}
+use Rattle.layout.specs.Layout.{Mem, object, load, Write, Write.at, writes}
+use Rattle.object.specs.declared.ObjectRecord.{ObjectRecord}
+use Rattle.object.specs.Record.{activatedBy, raisedBy, loweredBy, retiredBy}
+
+-- the record of object o
+unfoldable pub recordAt : Mem → ℕ → ObjectRecord
+recordAt m o = record {
+  koid = record { 0 = m (object o 0) };
+  kind = m (object o 1);
+  class = m (object o 2);
+  supported = m (object o 3);
+  exportable = m (object o 4);
+  stage = m (object o 5);
+  count = m (object o 6);
+  limit = m (object o 7);
+}
+
+-- its stage and its count, the two words that a step writes
+abbrev pub recordP : ℕ → ObjectRecord → List Write
+recordP o x = at (object o 5) (x .stage) ∷ at (object o 6) (x .count) ∷ []
+
+-- a step on the record of object o
+unfoldable pub stepW : (ObjectRecord → ObjectRecord) → List ℕ → Shape → ℕ → List ℕ
+stepW f ws sh o = writes ws sh (recordP o (f (recordAt (load ws sh) o)))
+
+abbrev pub activateW : List ℕ → Shape → ℕ → List ℕ
+activateW = stepW activatedBy
+
+abbrev pub raiseW : List ℕ → Shape → ℕ → List ℕ
+raiseW = stepW raisedBy
+
+abbrev pub lowerW : List ℕ → Shape → ℕ → List ℕ
+lowerW = stepW loweredBy
+
+abbrev pub retireW : List ℕ → Shape → ℕ → List ℕ
+retireW = stepW retiredBy
+
+-- a record read, stepped and written back
+pub step-is : (f : ObjectRecord → ObjectRecord) (ws : List ℕ) (sh : Shape) (o : ℕ) (x y : ObjectRecord) (vs : List ℕ)
+    → x ≡ recordAt (load ws sh) o → y ≡ f x → vs ≡ writes ws sh (recordP o y) → vs ≡ stepW f ws sh o
+unfolding stepW
+step-is f ws sh o x y vs a b c = c ∙ ap (λ (z : ObjectRecord). writes ws sh (recordP o z)) (b ∙ ap f a)

@@ -1,0 +1,73 @@
+use mathlib.Core.Path.{refl, ap, _≡_, sym, _∙_}
+use Prim.Native.Nat.{_-_}
+use native.Mathlib.Omega.{arith}
+use borrow.Author.Tests.{not-true, not-false}
+use Rattle.layout.specs.Layout.{load}
+use Rattle.orders.specs.Check.{pageNext, detachedLink}
+use Rattle.orders.specs.Code.{walk-end, walk-stop, walk-on, walk-any}
+use Rattle.orders.specs.Walk.{walk}
+use Rattle.orders.proofs.walk_detached.Statement.{statement}
+use Rattle.orders.proofs.walk_detached.Tie as tie
+use Rattle.orders.proofs.walk_detached.Reads as reads
+use Rattle.orders.proofs.walk_detached.Lts as lts
+use Rattle.orders.proofs.detached_link.Reads as detached-link-reads
+use Rattle.storage.proofs.page_word.Reads as page-word-reads
+use Rattle.words.proofs.dec.Reads as dec-reads
+
+abbrev Inv-loop : tie.InvT-loop
+Inv-loop s sh n e first count at₀ left₀ at left = walk (pageNext (load s sh) e) (λ h p. detachedLink (load s sh) n e h) left at 0 ≡ walk (pageNext (load s sh) e) (λ h p. detachedLink (load s sh) n e h) count first 0
+
+abbrev μ-loop : tie.MeasureT-loop
+μ-loop s sh n e first count at₀ left₀ at left = left
+
+-- src/lib.rt:189:5
+loop-holds : tie.Need-loop-holds Inv-loop μ-loop
+loop-holds c = refl
+
+-- src/lib.rt:190:13
+detached-link-requires : tie.Need-detached-link-requires Inv-loop μ-loop
+detached-link-requires c κs = tt
+
+-- src/lib.rt:191:13
+returns : tie.Need-returns Inv-loop μ-loop
+returns c = sym (walk-stop (pageNext (load (c .before .before .before .before .before .args .s .now) (c .before .before .before .before .before .args .sh)) (c .before .before .before .before .before .args .e)) (λ h p. detachedLink (load (c .before .before .before .before .before .args .s .now) (c .before .before .before .before .before .args .sh)) (c .before .before .before .before .before .args .n) (c .before .before .before .before .before .args .e) h) (c .before .before .before .loop .left) (c .before .before .before .loop .at) 0 (omega arith) (sym (c .before .detached-link .ensures) ∙ not-true _ (c .if1 .taken))) ∙ c .before .before .before .loop .inv
+
+-- src/lib.rt:193:43
+dec-requires : tie.Need-dec-requires Inv-loop μ-loop
+dec-requires c κs = tt
+
+-- src/lib.rt:193:9
+page-word-requires : tie.Need-page-word-requires Inv-loop μ-loop
+page-word-requires c κs = tt
+
+-- src/lib.rt:194:9
+sub-left : tie.Need-sub-left Inv-loop μ-loop
+sub-left c = omega arith
+
+-- src/lib.rt:189:5
+loop-less : tie.Need-loop-less Inv-loop μ-loop
+loop-less c = omega arith
+
+-- src/lib.rt:189:5
+loop-again : tie.Need-loop-again Inv-loop μ-loop
+loop-again c = sym (walk-on (pageNext (load (c .before .before .before .before .before .before .before .args .s .now) (c .before .before .before .before .before .before .before .args .sh)) (c .before .before .before .before .before .before .before .args .e)) (λ h p. detachedLink (load (c .before .before .before .before .before .before .before .args .s .now) (c .before .before .before .before .before .before .before .args .sh)) (c .before .before .before .before .before .before .before .args .n) (c .before .before .before .before .before .before .before .args .e) h) (c .before .before .before .before .before .loop .left) (c .before .before .before .before .before .loop .left - 1) (c .before .before .before .before .before .loop .at) 0 _ (omega arith) (sym (c .before .before .before .detached-link .ensures) ∙ not-false _ (c .before .before .if1 .left)) (c .page-word .ensures ∙ ap (pageNext (load (c .before .before .before .before .before .before .before .args .s .now) (c .before .before .before .before .before .before .before .args .sh)) (c .before .before .before .before .before .before .before .args .e)) (c .before .dec .ensures)) ∙ walk-any (pageNext (load (c .before .before .before .before .before .before .before .args .s .now) (c .before .before .before .before .before .before .before .args .sh)) (c .before .before .before .before .before .before .before .args .e)) (detachedLink (load (c .before .before .before .before .before .before .before .args .s .now) (c .before .before .before .before .before .before .before .args .sh)) (c .before .before .before .before .before .before .before .args .n) (c .before .before .before .before .before .before .before .args .e)) (c .before .before .before .before .before .loop .left - 1) _ (c .before .before .before .before .before .loop .at)) ∙ c .before .before .before .before .before .loop .inv
+
+-- src/lib.rt:184:1
+returns-2 : tie.Need-returns-2 Inv-loop μ-loop
+returns-2 c = walk-end (pageNext (load (c .before .before .before .args .s .now) (c .before .before .before .args .sh)) (c .before .before .before .args .e)) (λ h p. detachedLink (load (c .before .before .before .args .s .now) (c .before .before .before .args .sh)) (c .before .before .before .args .n) (c .before .before .before .args .e) h) (c .before .loop .left) (c .before .loop .at) 0 (omega arith) ∙ c .before .loop .inv
+
+pub walk-detached-spec : {M : Type 1} → statement M
+walk-detached-spec =
+    tie.close
+    (tie.spec
+    Inv-loop
+    μ-loop
+    loop-holds
+    detached-link-requires
+    returns
+    dec-requires
+    page-word-requires
+    sub-left
+    loop-less
+    loop-again
+    returns-2)

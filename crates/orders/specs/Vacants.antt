@@ -1,0 +1,112 @@
+-- The vacant slots of a table, counted by its pages. Assumes nothing.
+use mathlib.Core.Path.{_≡_, refl, sym, ap, _∙_}
+use mathlib.Core.Bool.{Bool, true, false, not, _&&_}
+use Prim.Native.Nat.{ℕ, zero, suc, _+_, _-_, _*_, _/_, _%_, _≤_, _<_}
+use native.Mathlib.Omega.{arith}
+use lib.Dec.{eqb, ltb}
+use borrow.Author.Tests.{eq-eqb, ne-eqb, ltb-true, lt-ltb, le-ltb}
+use Rattle.words.specs.Pick.{pick as choose, bool, clash}
+use Rattle.model.specs.Base.{bit, sum}
+use Rattle.model.specs.Sums.{sum-equal, sum-zero}
+use Rattle.model.specs.State.{till, maxSlots}
+use Rattle.model.specs.Storage.{slotsOf}
+use Rattle.layout.specs.Layout.{Mem, head, entry, cell}
+use Rattle.representation.specs.Represents.{entryAt, wordIn, frameOf}
+use Rattle.orders.specs.Check.{vacantAt, vacantsOn, vacants}
+
+-- how many slots of page p have a tag other than 0, in the frame f
+abbrev pub busyTags : Mem → ℕ → ℕ → ℕ
+busyTags m f p = sum (slotsOf till p) λ j. bit (not (eqb (m (cell f j 0)) 0))
+
+-- "stored counts equal what they count": each attached page of table b stores how many of its slots are busy
+abbrev pub BusyStored : Mem → ℕ → Type 0
+BusyStored m b = (p f : ℕ) → p < m (head b 5) → m (entry (entryAt m b p) 0) ≡ suc f → m (entry (entryAt m b p) 2) ≡ busyTags m f p
+
+-- ---- sums
+
+sum-more : (a k : ℕ) (g : ℕ → ℕ) → sum (a + k) g ≡ sum a g + (sum k λ j. g (a + j))
+sum-more a zero g = let q : a + 0 ≡ a = omega arith in rw q (omega arith)
+sum-more a (suc k) g = let q : a + suc k ≡ suc (a + k) = omega arith in rw q (omega (arith, sum-more a k g))
+
+-- the rest is 0
+sum-cut : (a k : ℕ) (g : ℕ → ℕ) → a ≤ k → ((j : ℕ) → a ≤ j → j < k → g j ≡ 0) → sum k g ≡ sum a g
+sum-cut a k g h z = let q : k ≡ a + (k - a) = omega arith in
+    ap (λ (x : ℕ). sum x g) q ∙ omega (arith, sum-more a (k - a) g, sum-zero (k - a) (λ j. g (a + j)) (λ j l. z (a + j) (omega arith) (omega arith)))
+
+-- by rows of w, of which the first c p numbers count
+sum-rows : (w : ℕ) (f c : ℕ → ℕ) → ((p : ℕ) → c p ≤ w) → ((p j : ℕ) → c p ≤ j → j < w → f (p * w + j) ≡ 0) → (n : ℕ)
+    → sum (n * w) f ≡ (sum n λ p. sum (c p) λ j. f (p * w + j))
+sum-rows w f c h z zero = let q : 0 * w ≡ 0 = omega arith in rw q
+sum-rows w f c h z (suc n) = let q : suc n * w ≡ n * w + w = omega arith in
+    rw q (omega (arith, sum-more (n * w) w f, sum-rows w f c h z n, sum-cut (c n) w (λ j. f (n * w + j)) (h n) (z n)))
+
+-- ---- one page
+
+-- the frame of slot j of page p
+pub frame-at : (m : Mem) (b p j : ℕ) → p < m (head b 5) → j < slotsOf till p → frameOf m b (p * 64 + j) ≡ m (entry (entryAt m b p) 0)
+frame-at m b p j l h =
+    let q : (p * 64 + j) / 64 ≡ p = omega arith in
+    rw (q, lt-ltb (p * 64 + j) maxSlots (omega arith), lt-ltb p (m (head b 5)) l)
+
+-- a slot that has no frame is not vacant
+no-frame : (m : Mem) (b k : ℕ) → frameOf m b k ≡ 0 → vacantAt m b k ≡ false
+unfolding vacantAt
+no-frame m b k e = rw (eq-eqb (frameOf m b k) 0 e)
+
+-- one that has a frame goes by its tag
+in-frame : (m : Mem) (b k f : ℕ) → frameOf m b k ≡ suc f → vacantAt m b k ≡ eqb (m (cell f (k % 64) 0)) 0
+unfolding vacantAt
+in-frame m b k f e = ap (λ (x : ℕ). not (eqb x 0) && eqb (wordIn m x (k % 64) 0) 0) e ∙ rw (ne-eqb (suc f) 0 (λ z. omega arith))
+
+-- a vacant slot has a frame
+framed : (m : Mem) (b k : ℕ) → vacantAt m b k ≡ true → frameOf m b k ≡ 0 → ⊥
+framed m b k e z = clash e (no-frame m b k z)
+
+-- so it stands on one of the table's pages
+pub vacant-below : (m : Mem) (b k : ℕ) → vacantAt m b k ≡ true → k < m (head b 5) * 64
+vacant-below m b k e = bool (ltb (k / 64) (m (head b 5)))
+    (λ h. omega (arith, ltb-true (k / 64) (m (head b 5)) h))
+    (λ h. absurd (framed m b k e (bool (ltb k maxSlots) (λ l. rw (l, h)) (λ l. rw l))))
+
+pick-zero : (n : ℕ) (x y : ℕ) → n ≡ 0 → choose (eqb n 0) x y ≡ x
+pick-zero n x y e = rw (eq-eqb n 0 e)
+
+pick-more : (n : ℕ) (x y : ℕ) → (n ≡ 0 → ⊥) → choose (eqb n 0) x y ≡ y
+pick-more n x y e = rw (ne-eqb n 0 e)
+
+-- of a sum of tests and of their opposites
+sum-opposite : (n : ℕ) (t : ℕ → Bool) → (sum n λ j. bit (t j)) + (sum n λ j. bit (not (t j))) ≡ n
+sum-opposite zero t = refl
+sum-opposite (suc n) t = omega (arith, sum-opposite n t, one (t n))
+  where
+    one : (b : Bool) → bit b + bit (not b) ≡ 1
+    one true = refl
+    one false = refl
+
+-- the vacant slots of a page
+page-vacants : (m : Mem) (b : ℕ) → BusyStored m b → (p : ℕ) → p < m (head b 5) → (link : ℕ) → m (entry (entryAt m b p) 0) ≡ link
+    → (sum (slotsOf till p) λ j. bit (vacantAt m b (p * 64 + j))) ≡ vacantsOn m (m (head b 10)) p
+unfolding vacantsOn
+page-vacants m b s p l zero e =
+    sum-zero (slotsOf till p) (λ j. bit (vacantAt m b (p * 64 + j))) (λ j h. ap bit (no-frame m b (p * 64 + j) (frame-at m b p j l h ∙ e)))
+    ∙ sym (pick-zero (m (entry (entryAt m b p) 0)) 0 (slotsOf till p - m (entry (entryAt m b p) 2)) e)
+page-vacants m b s p l (suc f) e =
+    sum-equal (slotsOf till p) (λ j. bit (vacantAt m b (p * 64 + j))) (λ j. bit (eqb (m (cell f j 0)) 0))
+    (λ j h. let q : (p * 64 + j) % 64 ≡ j = omega arith in
+    ap bit (in-frame m b (p * 64 + j) f (frame-at m b p j l h ∙ e) ∙ ap (λ (x : ℕ). eqb (m (cell f x 0)) 0) q))
+    ∙ omega (
+      arith,
+      sum-opposite (slotsOf till p) (λ j. eqb (m (cell f j 0)) 0),
+      s p f l e,
+      pick-more (m (entry (entryAt m b p) 0)) 0 (slotsOf till p - m (entry (entryAt m b p) 2)) (λ z. omega arith),
+    )
+
+-- THE COUNT by pages is the number of vacant slots
+pub vacants-counted : (m : Mem) (b : ℕ) → BusyStored m b → (sum (m (head b 5) * 64) λ k. bit (vacantAt m b k)) ≡ vacants m (m (head b 5)) (m (head b 10))
+unfolding vacants
+vacants-counted m b s =
+    sum-rows 64 (λ k. bit (vacantAt m b k)) (slotsOf till) (λ p. omega arith)
+    (λ p j h l. ap bit (no-frame m b (p * 64 + j) (rw (le-ltb (p * 64 + j) maxSlots (omega arith)))))
+    (m (head b 5))
+    ∙ sum-equal (m (head b 5)) (λ p. sum (slotsOf till p) λ j. bit (vacantAt m b (p * 64 + j))) (λ p. vacantsOn m (m (head b 10)) p)
+    (λ p l. page-vacants m b s p l (m (entry (entryAt m b p) 0)) refl)

@@ -1,0 +1,9 @@
+pub mod Facts
+pub mod Checks
+pub mod Whole
+pub mod Code
+pub mod Sums
+pub mod Frames
+pub mod Slots
+pub mod View
+pub mod Complete

@@ -1,0 +1,186 @@
+-- Slots and pages as the memory shows them. Assumes nothing.
+use mathlib.Core.Path.{_≡_, refl, sym, ap, _∙_}
+use mathlib.Core.Bool.{true, false, not}
+use mathlib.Core.Option.{Option, none, some}
+use Prim.Native.Nat.{ℕ, zero, suc, _+_, _-_, _*_, _/_, _%_, _^_, _≤_, _<_}
+use native.Mathlib.Omega.{arith}
+use native.Mathlib.Nat.{suc-inj}
+use lib.Dec.{eqb, ltb}
+use borrow.Author.Tests.{ne-eqb, eqb-true, eqb-false, lt-ltb, le-ltb, ltb-true}
+use Rattle.model.specs.Base.{bit, pick, sum, isSome}
+use Rattle.model.specs.State.{till, Slot, Slot.absent, Page, Lifecycle, Lifecycle.active, Lifecycle.tearingDown, Lifecycle.retired, State}
+use Rattle.model.specs.State.{generation, isAbsent, isBusy, isOccupied, isRetired, noPage, maxSlots, knownFlags}
+use Rattle.model.specs.Storage.{slotsOf, busyOf, busyIn as modelBusy}
+use Rattle.model.specs.WellFormed.{HandleRange, SlotRange, LifeRange, isFrame}
+use Rattle.model.specs.Tests.{bool, clash}
+use Rattle.model.specs.Sums.{sum-equal}
+use Rattle.layout.specs.Layout.{Mem, head, entry, cell}
+use Rattle.representation.specs.Represents.{entryAt, linkOf, frameOf, tagged, slotFrom, slotIn, LifeIs}
+use Rattle.structure.specs.Facts.{busyCells}
+use Rattle.structure.specs.Sums.{bit-yes, bit-no, sum-front}
+
+-- ---- links
+
+-- the number that a link names
+abbrev pub unlink : ℕ → Option ℕ
+unlink zero = none
+unlink (suc f) = some f
+
+pub link-back : (l : ℕ) → linkOf (unlink l) ≡ l
+link-back zero = refl
+link-back (suc f) = refl
+
+pub unlink-some : (l f : ℕ) → unlink l ≡ some f → l ≡ suc f
+unlink-some l f e = sym (link-back l) ∙ ap linkOf e
+
+pub link-some : (x : Option ℕ) (f : ℕ) → linkOf x ≡ suc f → x ≡ some f
+link-some none f e = absurd (omega arith)
+link-some (some g) f e = ap some (suc-inj e)
+
+-- whether a page has a frame, by its link
+pub frame-link : (x : Option ℕ) (f : ℕ) → bit (isFrame x f) ≡ bit (eqb (linkOf x) (suc f))
+frame-link none f = sym (bit-no 0 (suc f) (λ e. omega arith))
+frame-link (some g) f = bool (eqb f g)
+    (λ e. let y = eqb-true f g e in ap bit e ∙ sym (bit-yes (suc g) (suc f) (omega arith)))
+    (λ e. let y = eqb-false f g e in ap bit e ∙ sym (bit-no (suc g) (suc f) (λ q. y (omega arith))))
+
+-- ---- pages and lifecycles
+
+-- page p of table b
+unfoldable pub pageView : Mem → ℕ → ℕ → Page
+pageView m b p = pick (ltb p (m (head b 5))) (record { frame = unlink (m (entry (entryAt m b p) 0)); high = m (entry (entryAt m b p) 1) }) noPage
+
+pub page-in : (m : Mem) (b p : ℕ) → p < m (head b 5) → pageView m b p ≡ record { frame = unlink (m (entry (entryAt m b p) 0)); high = m (entry (entryAt m b p) 1) }
+unfolding pageView
+page-in m b p h = rw (lt-ltb p (m (head b 5)) h)
+
+pub page-out : (m : Mem) (b p : ℕ) → m (head b 5) ≤ p → pageView m b p ≡ noPage
+unfolding pageView
+page-out m b p h = rw (le-ltb p (m (head b 5)) h)
+
+abbrev pub lifeView : ℕ → ℕ → Lifecycle
+lifeView zero c = active
+lifeView (suc zero) c = tearingDown c
+lifeView (suc (suc n)) c = retired
+
+pub life-view : (w c : ℕ) → w ≤ 2 → LifeIs w c (lifeView w c)
+life-view zero c h = refl
+life-view (suc zero) c h = (refl, refl)
+life-view (suc (suc zero)) c h = refl
+life-view (suc (suc (suc n))) c h = absurd (omega arith)
+
+pub life-range : (w c : ℕ) → (w ≡ 1 → c ≤ 16777215) → LifeRange (lifeView w c)
+unfolding maxSlots
+life-range zero c h = tt
+life-range (suc zero) c h = omega (arith, h refl)
+life-range (suc (suc n)) c h = tt
+
+pub life-retired : (w c : ℕ) → w ≤ 2 → isRetired (lifeView w c) ≡ true → w ≡ 2
+life-retired zero c h e = clash e refl
+life-retired (suc zero) c h e = clash e refl
+life-retired (suc (suc n)) c h e = omega arith
+
+-- ---- the frame of a slot
+
+-- a slot with a frame stands on a page that the table has had, which has that frame
+pub frame-of : (m : Mem) (b k f : ℕ) → frameOf m b k ≡ suc f → (k < maxSlots) × (k / 64 < m (head b 5)) × (m (entry (entryAt m b (k / 64)) 0) ≡ suc f) × (k % 64 < slotsOf till (k / 64))
+frame-of m b k f e = bool (ltb k maxSlots)
+    (λ q. bool (ltb (k / 64) (m (head b 5)))
+    (λ r. let h = ltb-true k maxSlots q in let i = ltb-true (k / 64) (m (head b 5)) r in (h, i, rw (q, r) at e, omega arith))
+    (λ r. let z : _≡_ {A = ℕ} 0 (suc f) = rw (q, r) at e in absurd (omega arith)))
+    (λ q. let z : _≡_ {A = ℕ} 0 (suc f) = rw q at e in absurd (omega arith))
+
+-- the frame of slot j of page p
+pub frame-at : (m : Mem) (b p j : ℕ) → p < m (head b 5) → j < slotsOf till p → frameOf m b (p * 64 + j) ≡ m (entry (entryAt m b p) 0)
+frame-at m b p j h i =
+    let a : (p * 64 + j) / 64 ≡ p = omega arith in
+    let q = lt-ltb (p * 64 + j) maxSlots (omega arith) in
+    rw (a, q, lt-ltb p (m (head b 5)) h)
+
+-- slot j of an attached page
+pub slot-at : (m : Mem) (b p j f : ℕ) → p < m (head b 5) → m (entry (entryAt m b p) 0) ≡ suc f → j < slotsOf till p
+    → slotIn m b (p * 64 + j) ≡ tagged m (m (cell f j 0)) (m (cell f j 1)) (m (cell f j 2)) (m (cell f j 3)) (m (cell f j 4))
+slot-at m b p j f h e i =
+    let a : (p * 64 + j) % 64 ≡ j = omega arith in
+    ap (λ (fr : ℕ). slotFrom m fr ((p * 64 + j) % 64)) (frame-at m b p j h i ∙ e) ∙ ap (slotFrom m (suc f)) a
+
+-- without a frame a slot is absent, and with one it goes by its tag
+pub slot-none : (m : Mem) (b k : ℕ) → frameOf m b k ≡ 0 → slotIn m b k ≡ absent
+slot-none m b k e = ap (λ (fr : ℕ). slotFrom m fr (k % 64)) e
+
+pub slot-in : (m : Mem) (b k f : ℕ) → frameOf m b k ≡ suc f
+    → slotIn m b k ≡ tagged m (m (cell f (k % 64) 0)) (m (cell f (k % 64) 1)) (m (cell f (k % 64) 2)) (m (cell f (k % 64) 3)) (m (cell f (k % 64) 4))
+slot-in m b k f e = ap (λ (fr : ℕ). slotFrom m fr (k % 64)) e
+
+-- ---- tags
+
+module _ (m : Mem) where
+  pub tag-there : (t g x y w : ℕ) → isAbsent (tagged m t g x y w) ≡ false → t ≤ 3
+  tag-there zero g x y w e = omega arith
+  tag-there (suc zero) g x y w e = omega arith
+  tag-there (suc (suc zero)) g x y w e = omega arith
+  tag-there (suc (suc (suc zero))) g x y w e = omega arith
+  tag-there (suc (suc (suc (suc t)))) g x y w e = clash refl e
+
+  pub tagged-there : (t g x y w : ℕ) → t ≤ 3 → isAbsent (tagged m t g x y w) ≡ false
+  tagged-there zero g x y w h = refl
+  tagged-there (suc zero) g x y w h = refl
+  tagged-there (suc (suc zero)) g x y w h = refl
+  tagged-there (suc (suc (suc zero))) g x y w h = refl
+  tagged-there (suc (suc (suc (suc t)))) g x y w h = absurd (omega arith)
+
+  pub tagged-generation : (t g x y w : ℕ) → t ≤ 3 → generation (tagged m t g x y w) ≡ g
+  tagged-generation zero g x y w h = refl
+  tagged-generation (suc zero) g x y w h = refl
+  tagged-generation (suc (suc zero)) g x y w h = refl
+  tagged-generation (suc (suc (suc zero))) g x y w h = refl
+  tagged-generation (suc (suc (suc (suc t)))) g x y w h = absurd (omega arith)
+
+  pub tagged-busy : (t g x y w : ℕ) → t ≤ 3 → isBusy (tagged m t g x y w) ≡ not (eqb t 0)
+  tagged-busy zero g x y w h = refl
+  tagged-busy (suc zero) g x y w h = refl
+  tagged-busy (suc (suc zero)) g x y w h = refl
+  tagged-busy (suc (suc (suc zero))) g x y w h = refl
+  tagged-busy (suc (suc (suc (suc t)))) g x y w h = absurd (omega arith)
+
+  pub tagged-occupied : (t g x y w : ℕ) → isOccupied (tagged m t g x y w) ≡ true → t ≡ 3
+  tagged-occupied zero g x y w e = clash e refl
+  tagged-occupied (suc zero) g x y w e = clash e refl
+  tagged-occupied (suc (suc zero)) g x y w e = clash e refl
+  tagged-occupied (suc (suc (suc zero))) g x y w e = refl
+  tagged-occupied (suc (suc (suc (suc t)))) g x y w e = clash e refl
+
+  pub tagged-range : (s : State) (t g x y w : ℕ) → (t ≡ 3 → x < s .objectCount) → (t ≡ 3 → w ≤ 3) → y < 2 ^ 64 → SlotRange s (tagged m t g x y w)
+  unfolding knownFlags
+  tagged-range s zero g x y w h i j = tt
+  tagged-range s (suc zero) g x y w h i j = tt
+  tagged-range s (suc (suc zero)) g x y w h i j = tt
+  tagged-range s (suc (suc (suc zero))) g x y w h i j = record { object = h refl; rights = j; flags = i refl }
+  tagged-range s (suc (suc (suc (suc t)))) g x y w h i j = tt
+
+  -- and back
+  pub tagged-held : (s : State) (t g x y w : ℕ) → t ≡ 3 → SlotRange s (tagged m t g x y w) → (x < s .objectCount) × (w ≤ 3)
+  unfolding knownFlags
+  tagged-held s t g x y w e r = let r3 : HandleRange s (record { object = x; rights = y; flags = w }) = rw e at r in (r3 .object, r3 .flags)
+
+-- ---- busy slots
+
+-- the busy slots of a run, as a sum
+pub busy-sum : (f : ℕ → Slot) (k n : ℕ) → modelBusy f k n ≡ (sum n λ j. bit (isBusy (f (k + j))))
+busy-sum f k zero = refl
+busy-sum f k (suc n) =
+    let h : modelBusy f (suc k) n ≡ (sum n λ j. bit (isBusy (f (suc k + j)))) = busy-sum f (suc k) n in
+    let a : (sum n λ j. bit (isBusy (f (k + suc j)))) ≡ (sum n λ j. bit (isBusy (f (suc k + j)))) =
+    sum-equal n (λ j. bit (isBusy (f (k + suc j)))) (λ j. bit (isBusy (f (suc k + j)))) (λ j l. let z : k + suc j ≡ suc k + j = omega arith in rw z) in
+    let z : k + 0 ≡ k = omega arith in let y : bit (isBusy (f (k + 0))) ≡ bit (isBusy (f k)) = rw z in
+    let p : modelBusy f k (suc n) ≡ bit (isBusy (f k)) + modelBusy f (suc k) n = bool (isBusy (f k)) (λ q. rw q (omega arith)) (λ q. rw q (omega arith)) in
+    p ∙ omega (arith, h, sum-front n (λ j. bit (isBusy (f (k + j)))), a, y)
+
+-- the busy slots of an attached page
+pub busy-page : (m : Mem) (b p f : ℕ) (slots : ℕ → Slot) → ((k : ℕ) → slots k ≡ slotIn m b k) → p < m (head b 5) → m (entry (entryAt m b p) 0) ≡ suc f
+    → ((j : ℕ) → j < slotsOf till p → m (cell f j 0) ≤ 3) → busyOf till slots p ≡ busyCells m f (slotsOf till p)
+busy-page m b p f slots s h e t =
+    busy-sum slots (p * 64) (slotsOf till p)
+    ∙ sum-equal (slotsOf till p) (λ j. bit (isBusy (slots (p * 64 + j)))) (λ j. bit (not (eqb (m (cell f j 0)) 0))) (λ j i.
+    ap (λ (x : Slot). bit (isBusy x)) (s (p * 64 + j) ∙ slot-at m b p j f h e i)
+    ∙ ap bit (tagged-busy m (m (cell f j 0)) (m (cell f j 1)) (m (cell f j 2)) (m (cell f j 3)) (m (cell f j 4)) (t j i)))

@@ -1,0 +1,288 @@
+// The first part of the state check: table heads, page entries, slots and frames.
+ghost use mathlib.Core.Path.{_≡_};
+ghost use mathlib.Core.Bool.{not};
+ghost use lib.Dec.{eqb};
+ghost use Rattle.model.specs.Base.{bit};
+ghost use Rattle.model.specs.State.{till};
+ghost use Rattle.model.specs.Storage.{slotsOf};
+ghost use Rattle.layout.specs.Layout.{load as loadAt, head};
+ghost use Rattle.structure.specs.Facts.{isFree, freeFrom, attachedIn, attachedTo};
+ghost use Rattle.structure.specs.Checks.{lifeB, headB, handleB, slotB, slotsB, frameB, pageB, pagesB, tableB, tablesB, groupsB, levelsB, structureB};
+ghost use Rattle.structure.specs.Code.{counted};
+use layout::Shape;
+
+// 1 unless x is 0.
+fn present(x: u64) -> u64
+    ensures { λ r. ⌜ r ≡ bit (not (eqb x 0)) ⌝ }
+{
+    if x == 0 { 0 } else { 1 }
+}
+
+// How many slots page p has.
+fn slots_of(p: u32) -> u64
+    ensures { λ r. ⌜ r ≡ slotsOf till p ⌝ }
+{
+    if p < 262143 {
+        return 64;
+    }
+    if p == 262143 {
+        return 63;
+    }
+    0
+}
+
+// Whether a lifecycle and its cursor are in range.
+fn life_ok(life: u64, cursor: u64) -> bool
+    ensures { λ r. ⌜ r ≡ lifeB life cursor ⌝ }
+{
+    if life == 1 {
+        return cursor <= 16777215;
+    }
+    life <= 2
+}
+
+// The head of table b, whose first page entry is e.
+fn head_ok(s: &[u64], sh: Shape, b: u64, e: u64) -> bool
+    ensures { λ r. ⌜ r ≡ headB (loadAt (now (s .entry)) sh) b e ⌝ }
+{
+    let limit = layout::head_word(s, sh, b, 0);
+    let mask = layout::head_word(s, sh, b, 1);
+    let life = layout::head_word(s, sh, b, 2);
+    let cursor = layout::head_word(s, sh, b, 3);
+    let size = layout::head_word(s, sh, b, 5);
+    let first = layout::head_word(s, sh, b, 10);
+    if limit < 1 {
+        return false;
+    }
+    if limit > 262144 {
+        return false;
+    }
+    if mask > 0x00ff_ffff_ffff_ffff {
+        return false;
+    }
+    if !life_ok(life, cursor) {
+        return false;
+    }
+    if size > limit {
+        return false;
+    }
+    if first != e {
+        return false;
+    }
+    true
+}
+
+// The handle in slot j of frame f, in a table of that lifecycle.
+fn handle_ok(s: &[u64], sh: Shape, life: u64, f: u64, j: u64) -> bool
+    ensures { λ r. ⌜ r ≡ handleB (loadAt (now (s .entry)) sh) (sh .objects) life f j ⌝ }
+{
+    if life == 2 {
+        return false;
+    }
+    let object = layout::cell_word(s, sh, f, j, 2);
+    if object >= sh.objects as u64 {
+        return false;
+    }
+    layout::cell_word(s, sh, f, j, 4) <= 3
+}
+
+// Slot j of frame f, on a page with that high mark.
+fn slot_ok(s: &[u64], sh: Shape, life: u64, high: u64, f: u64, j: u64) -> bool
+    ensures { λ r. ⌜ r ≡ slotB (loadAt (now (s .entry)) sh) (sh .objects) life high f j ⌝ }
+{
+    let tag = layout::cell_word(s, sh, f, j, 0);
+    if tag > 3 {
+        return false;
+    }
+    let generation = layout::cell_word(s, sh, f, j, 1);
+    if generation < 1 {
+        return false;
+    }
+    if generation > high {
+        return false;
+    }
+    if tag < 3 {
+        return true;
+    }
+    handle_ok(s, sh, life, f, j)
+}
+
+// The first n slots of frame f, of which w are busy.
+fn slots_ok(s: &[u64], sh: Shape, life: u64, high: u64, f: u64, n: u64, w: u64) -> bool
+    ensures { λ r. ⌜ r ≡ slotsB (loadAt (now (s .entry)) sh) (sh .objects) life high f n w ⌝ }
+{
+    let mut count: u64 = 0;
+    let mut j: u64 = 0;
+    while j < n {
+        if !slot_ok(s, sh, life, high, f, j) {
+            return false;
+        }
+        count += present(layout::cell_word(s, sh, f, j, 0));
+        j += 1;
+    }
+    count == w
+}
+
+// The frame of the page of entry e, given plus 1, with n slots; 0 for none.
+fn frame_ok(s: &[u64], sh: Shape, life: u64, e: u64, n: u64, link: u64) -> bool
+    ensures { λ r. ⌜ r ≡ frameB (loadAt (now (s .entry)) sh) sh life e n link ⌝ }
+{
+    if link == 0 {
+        return true;
+    }
+    let f = link - 1;
+    if f >= sh.frames as u64 {
+        return false;
+    }
+    let owner = layout::owner_word(s, sh, f);
+    if owner == 0 {
+        return false;
+    }
+    if owner - 1 != e {
+        return false;
+    }
+    let high = layout::entry_word(s, sh, e, 1);
+    let busy = layout::entry_word(s, sh, e, 2);
+    slots_ok(s, sh, life, high, f, n, busy)
+}
+
+// The page of entry e, with n slots.
+fn page_ok(s: &[u64], sh: Shape, life: u64, e: u64, n: u64) -> bool
+    ensures { λ r. ⌜ r ≡ pageB (loadAt (now (s .entry)) sh) sh life e n ⌝ }
+{
+    let high = layout::entry_word(s, sh, e, 1);
+    if high < 1 {
+        return false;
+    }
+    if high > 0xffff_ffff {
+        return false;
+    }
+    frame_ok(s, sh, life, e, n, layout::entry_word(s, sh, e, 0))
+}
+
+// How many of n pages from entry e on are attached, plus 1; 0 if one is not as it must be.
+fn pages_ok(s: &[u64], sh: Shape, life: u64, e: u32, n: u32) -> u64
+    ensures { λ r. ⌜ r ≡ counted (pagesB (loadAt (now (s .entry)) sh) sh life e n) (attachedIn (loadAt (now (s .entry)) sh) e n) ⌝ }
+{
+    let mut count: u64 = 0;
+    let mut p: u32 = 0;
+    while p < n {
+        let at = (e as u64) + (p as u64);
+        if !page_ok(s, sh, life, at, slots_of(p)) {
+            return 0;
+        }
+        count += present(layout::entry_word(s, sh, at, 0));
+        p += 1;
+    }
+    count + 1
+}
+
+// The same of table b, whose head is tested first; its first page entry is e.
+fn table_ok(s: &[u64], sh: Shape, b: u64, e: u32) -> u64
+    ensures { λ r. ⌜ r ≡ counted (tableB (loadAt (now (s .entry)) sh) sh b e) (attachedIn (loadAt (now (s .entry)) sh) e (loadAt (now (s .entry)) sh (head b 5))) ⌝ }
+{
+    if !head_ok(s, sh, b, e as u64) {
+        return 0;
+    }
+    let life = layout::head_word(s, sh, b, 2);
+    let size = layout::head_word(s, sh, b, 5);
+    pages_ok(s, sh, life, e, size as u32)
+}
+
+// The same of all tables.
+fn tables_ok(s: &[u64], sh: Shape) -> u64
+    ensures { λ r. ⌜ r ≡ counted (tablesB (loadAt (now (s .entry)) sh) sh) (attachedTo (loadAt (now (s .entry)) sh) (sh .tables)) ⌝ }
+{
+    let n = sh.tables;
+    let mut count: u64 = 0;
+    let mut first: u32 = 0;
+    let mut b: u8 = 0;
+    while b < n {
+        let c = table_ok(s, sh, b as u64, first);
+        if c == 0 {
+            return 0;
+        }
+        count += c - 1;
+        first += layout::head_word(s, sh, b as u64, 0) as u32;
+        b += 1;
+    }
+    if first != sh.pages {
+        return 0;
+    }
+    count + 1
+}
+
+// Whether frame f is free, as a number.
+fn free_at(s: &[u64], sh: Shape, f: u64) -> u64
+    ensures { λ r. ⌜ r ≡ bit (isFree (loadAt (now (s .entry)) sh) (sh .frames) f) ⌝ }
+{
+    if f >= sh.frames as u64 {
+        return 0;
+    }
+    if layout::owner_word(s, sh, f) != 0 {
+        return 0;
+    }
+    1
+}
+
+// How many of n frames from a on are free.
+fn free_in(s: &[u64], sh: Shape, a: u32, n: u16) -> u64
+    ensures { λ r. ⌜ r ≡ freeFrom (loadAt (now (s .entry)) sh) (sh .frames) a n ⌝ }
+{
+    let mut count: u64 = 0;
+    let mut j: u16 = 0;
+    while j < n {
+        count += free_at(s, sh, (a as u64) + (j as u64));
+        j += 1;
+    }
+    count
+}
+
+// The free frames of the first n groups of a level.
+fn groups_ok(s: &[u64], sh: Shape, level: u8, size: u16, n: u16) -> bool
+    ensures { λ r. ⌜ r ≡ groupsB (loadAt (now (s .entry)) sh) (sh .frames) level size n ⌝ }
+{
+    let region = layout::SIXTEEN + (level as u64);
+    let each = size as u32;
+    let mut g: u16 = 0;
+    while g < n {
+        let free = free_in(s, sh, (g as u32) * each, size);
+        if layout::load(s, sh, region, g as u64, 0, 0) != free {
+            return false;
+        }
+        g += 1;
+    }
+    true
+}
+
+// Of all three levels.
+fn levels_ok(s: &[u64], sh: Shape) -> bool
+    ensures { λ r. ⌜ r ≡ levelsB (loadAt (now (s .entry)) sh) (sh .frames) ⌝ }
+{
+    let f = sh.frames as u64;
+    if !groups_ok(s, sh, 0, 16, ((f + 15) / 16) as u16) {
+        return false;
+    }
+    if !groups_ok(s, sh, 1, 256, ((f + 255) / 256) as u16) {
+        return false;
+    }
+    groups_ok(s, sh, 2, 4096, ((f + 4095) / 4096) as u16)
+}
+
+// The first part of the state check: heads, pages, slots and frames.
+pub fn check_structure(s: &[u64], sh: Shape) -> bool
+    ensures { λ r. ⌜ r ≡ structureB (loadAt (now (s .entry)) sh) sh ⌝ }
+{
+    let c = tables_ok(s, sh);
+    if c == 0 {
+        return false;
+    }
+    let free = free_in(s, sh, 0, sh.frames);
+    if c - 1 != (sh.frames as u64) - free {
+        return false;
+    }
+    if layout::root_word(s, sh, 7) != free {
+        return false;
+    }
+    levels_ok(s, sh)
+}
