@@ -1,6 +1,6 @@
 #!/usr/bin/env python3
 """Replays recorded lists on the model: the checker computes every answer and the whole end state from the definitions, and each is held to what the
-Rust gave (recorded/, see docs/oracle.md). Writes a crate `replay` with a table of cases for each recorded list, and has it proved.
+Rust gave (recorded/, see docs/oracle.md). Writes a crate `computed` with a table of cases for each recorded list, and has it proved.
 
   model_replay.py [FILE..]     recorded files (default: cases.txt, plain.txt, edges.txt and scrambled.txt)
 """
@@ -11,26 +11,8 @@ import tempfile
 from collections import Counter
 from pathlib import Path
 
+from recorded import cases
 from scratch import copied, root
-
-MASK = 2**64 - 1
-
-
-def words(text):
-    """The words of the recorded lists' short form."""
-    out = []
-    for token in re.findall(r"\([^)]*\)\*\d+|\S+", text):
-        group = re.fullmatch(r"\(([^)]*)\)\*(\d+)", token)
-        if group:
-            parts = [p.split("+") for p in group.group(1).split()]
-            for turn in range(int(group.group(2))):
-                for p in parts:
-                    step = int(p[1], 16) if len(p) > 1 else 0
-                    out.append((int(p[0], 16) + turn * step) & MASK)
-        else:
-            word, _, times = token.partition("*")
-            out += [int(word, 16)] * (int(times) if times else 1)
-    return out
 
 
 def runs(text):
@@ -51,39 +33,6 @@ def runs(text):
 def handle(text):
     o, r, f = text.split("/")
     return [int(o), int(r, 16), int(f)]
-
-
-class Case:
-    def __init__(self, name):
-        self.name, self.start, self.calls, self.text = name, None, [], []
-
-
-def cases(path):
-    case, intext = None, False
-    for line in path.read_text().split("\n"):
-        if intext:
-            case.text.append(line)
-            intext = line != "end"
-            continue
-        kind, _, rest = line.partition(" ")
-        if kind == "case":
-            if case:
-                yield case
-            case = Case(rest)
-        elif kind in ("create", "words"):
-            case.start = (kind, words(rest))
-        elif kind == "start":
-            case.result = int(rest.split()[0])
-        elif kind in ("=", "~"):
-            ask, answer, _ = [x.strip() for x in rest.split(">")]
-            case.calls.append(("=", words(ask), words(answer)))
-        elif kind == "!":
-            lent, result, ask = rest.split(" ", 2)
-            case.calls.append(("!", int(lent), int(result), words(ask.split(">")[0])))
-        elif kind == "text":
-            intext = True
-    if case:
-        yield case
 
 
 def listed(numbers):
@@ -406,7 +355,7 @@ def main():
             module = f"Case{lists}"
             state = f"created ({parameters(start)})" if kind == "create" else state_of(start)
             made[module] = (
-                f"-- {name}: {case.name}\n{HEAD}use Rattle.replay.specs.Show.{{shown, brief, replayed, stored}}\n\nstart : State\nunfolding created\nstart = {state}\n\n"
+                f"-- {name}: {case.name}\n{HEAD}use Rattle.computed.specs.Show.{{shown, brief, replayed, stored}}\n\nstart : State\nunfolding created\nstart = {state}\n\n"
                 f"asked : List ℕ\nasked = {listed(asked)}\n\ntold : List ℕ\ntold = {listed(told)}\n\n"
                 f"holds : sameList (replayed start asked) told ≡ true\n{UNFOLD.rstrip()} start asked told\nholds = refl\n"
                 + (
@@ -427,8 +376,8 @@ def main():
     with tempfile.TemporaryDirectory() as folder:
         scratch = copied(Path(folder))
         with open(scratch / "crates.txt", "a") as f:
-            f.write("\nreplay: model codec authority format\n")
-        crate = scratch / "crates" / "replay"
+            f.write("\ncomputed: model codec authority format\n")
+        crate = scratch / "crates" / "computed"
         (crate / "src").mkdir(parents=True)
         (crate / "specs").mkdir()
         (crate / "src" / "lib.rt").write_text("// Recorded lists, computed from the definitions.\n")
@@ -436,9 +385,9 @@ def main():
         for module, text in made.items():
             (crate / "specs" / f"{module}.antt").write_text(text)
         (crate / "specs" / "Lib.antt").write_text("pub mod Show\n" + "".join(f"pub mod {m}\n" for m in made))
-        done = subprocess.run(["rt", "check", "replay"], cwd=scratch, capture_output=True, text=True)
+        done = subprocess.run(["rt", "check", "computed"], cwd=scratch, capture_output=True, text=True)
         log = done.stdout + done.stderr
-        whole = scratch / "target" / "log" / "replay.out"
+        whole = scratch / "target" / "log" / "computed.out"
         if whole.exists():
             log += whole.read_text()
     wrong = sorted(set(re.findall(r"(Case\d+|Creations)\.antt:\d+:\d+: error", log)))

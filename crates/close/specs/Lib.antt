@@ -1,0 +1,3 @@
+pub mod Close
+pub mod Renew
+pub mod Replace

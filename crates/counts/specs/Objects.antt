@@ -1,0 +1,225 @@
+-- The fields of an object's record: their ranges, and the object that they show. Assumes nothing.
+use mathlib.Core.Path.{_≡_, refl, sym, ap, _∙_}
+use mathlib.Core.Bool.{Bool, true, false, _&&_}
+use Prim.Native.Nat.{ℕ, zero, suc, _+_, _^_, _≤_, _<_}
+use native.Mathlib.Omega.{arith}
+use lib.Dec.{eqb, leb}
+use borrow.Author.Tests.{eq-eqb, ne-eqb, eqb-true, eqb-false, le-leb, leb-true}
+use Rattle.words.specs.Pick.{bool, clash, both}
+use Rattle.words.specs.All.{all, all-at, all-yes, all-more, all-stop, all-end}
+use Rattle.model.specs.Base.{bit}
+use Rattle.model.specs.State.{till, Class, Class.leaf, Class.rendezvousOnly, Class.never, Stage, Stage.stillNew, Stage.nowActive, Stage.nowRetired, Object, State, maxLimit}
+use Rattle.model.specs.Create.{classOf}
+use Rattle.model.specs.WellFormed.{ObjectRange, StageCount, WellFormed}
+use Rattle.layout.specs.declared.Shape.{Shape}
+use Rattle.layout.specs.Layout.{Mem, object}
+use Rattle.representation.specs.Represents.{classWord, stageWord, ObjectIs, Represents}
+
+-- "a new object has count 0, an active one more": of a stage's word and a count
+abbrev pub stageB : ℕ → ℕ → Bool
+stageB zero n = eqb n 0
+stageB (suc zero) n = leb 1 n
+stageB (suc (suc zero)) n = true
+stageB (suc (suc (suc g))) n = false
+
+-- "limits and field ranges hold", and "none is above its limit"
+unfoldable pub objectB : Mem → ℕ → Bool
+objectB m o =
+    leb 1 (m (object o 0))
+    && (leb (m (object o 1)) 4294967295
+    && (leb (m (object o 2)) 2
+    && (leb (m (object o 4)) 1
+    && (leb (m (object o 7)) 4294967295
+    && (leb (m (object o 6)) (m (object o 7))
+    && stageB (m (object o 5)) (m (object o 6)))))))
+
+unfoldable pub objectsB : Mem → Shape → Bool
+objectsB m sh = all (sh .objects) (objectB m)
+
+-- what the tests say of object o
+pub record ObjectFits (m : Mem) (o : ℕ) : Type 0 where
+  pub koid : 1 ≤ m (object o 0)
+  pub kind : m (object o 1) ≤ 4294967295
+  pub class : m (object o 2) ≤ 2
+  pub exportable : m (object o 4) ≤ 1
+  pub limit : m (object o 7) ≤ 4294967295
+  pub within : m (object o 6) ≤ m (object o 7)
+  pub staged : stageB (m (object o 5)) (m (object o 6)) ≡ true
+
+module _ (m : Mem) (o : ℕ) where
+  pub object-sound : objectB m o ≡ true → ObjectFits m o
+  unfolding objectB
+  object-sound e =
+      let b₀ = both _ _ e in
+      let b₁ = both _ _ (b₀ .1) in
+      let b₂ = both _ _ (b₁ .1) in
+      let b₃ = both _ _ (b₂ .1) in
+      let b₄ = both _ _ (b₃ .1) in
+      let b₅ = both _ _ (b₄ .1) in
+      record {
+        koid = leb-true _ _ (b₀ .0);
+        kind = leb-true _ _ (b₁ .0);
+        class = leb-true _ _ (b₂ .0);
+        exportable = leb-true _ _ (b₃ .0);
+        limit = leb-true _ _ (b₄ .0);
+        within = leb-true _ _ (b₅ .0);
+        staged = b₅ .1;
+      }
+
+  pub object-complete : ObjectFits m o → objectB m o ≡ true
+  unfolding objectB
+  object-complete f =
+      rw (
+        le-leb 1 (m (object o 0)) (f .koid),
+        le-leb (m (object o 1)) 4294967295 (f .kind),
+        le-leb (m (object o 2)) 2 (f .class),
+        le-leb (m (object o 4)) 1 (f .exportable),
+        le-leb (m (object o 7)) 4294967295 (f .limit),
+        le-leb (m (object o 6)) (m (object o 7)) (f .within),
+      ) (f .staged)
+
+  -- a failed test
+  pub object-bad : (ObjectFits m o → ⊥) → false ≡ objectB m o
+  object-bad h = bool (objectB m o) (λ e. absurd (h (object-sound e))) (λ e. sym e)
+
+pub objects-sound : (m : Mem) (sh : Shape) → objectsB m sh ≡ true → (o : ℕ) → o < sh .objects → ObjectFits m o
+unfolding objectsB
+objects-sound m sh e o l = object-sound m o (all-at (sh .objects) (objectB m) e o l)
+
+pub objects-complete : (m : Mem) (sh : Shape) → ((o : ℕ) → o < sh .objects → ObjectFits m o) → objectsB m sh ≡ true
+unfolding objectsB
+objects-complete m sh h = all-yes (sh .objects) (objectB m) (λ o l. object-complete m o (h o l))
+
+-- ---- the object that the words show
+
+abbrev pub stageOf : ℕ → Stage
+stageOf zero = stillNew
+stageOf (suc zero) = nowActive
+stageOf (suc (suc n)) = nowRetired
+
+abbrev pub objectFrom : Mem → ℕ → Object
+objectFrom m o = record {
+  koid = m (object o 0);
+  kind = m (object o 1);
+  class = classOf (m (object o 2));
+  supported = m (object o 3);
+  exportable = eqb (m (object o 4)) 1;
+  limit = m (object o 7);
+  stage = stageOf (m (object o 5));
+  count = m (object o 6);
+}
+
+class-word : (n : ℕ) → n ≤ 2 → n ≡ classWord (classOf n)
+class-word zero h = refl
+class-word (suc zero) h = refl
+class-word (suc (suc n)) h = omega arith
+
+stage-word : (g n : ℕ) → stageB g n ≡ true → g ≡ stageWord (stageOf g)
+stage-word zero n e = refl
+stage-word (suc zero) n e = refl
+stage-word (suc (suc zero)) n e = refl
+stage-word (suc (suc (suc g))) n e = clash e refl
+
+bit-word : (n : ℕ) → n ≤ 1 → n ≡ bit (eqb n 1)
+bit-word n h = bool (eqb n 1) (λ e. rw e (eqb-true n 1 e)) (λ e. rw e (omega (arith, eqb-false n 1 e)))
+
+stage-count : (g n : ℕ) → stageB g n ≡ true → StageCount (stageOf g) n
+stage-count zero n e = eqb-true n 0 e
+stage-count (suc zero) n e = leb-true 1 n e
+stage-count (suc (suc zero)) n e = tt
+stage-count (suc (suc (suc g))) n e = tt
+
+module _ (m : Mem) (o : ℕ) (f : ObjectFits m o) where
+  pub from-is : ObjectIs m o (objectFrom m o)
+  from-is = record {
+    koid = refl;
+    kind = refl;
+    class = class-word (m (object o 2)) (f .class);
+    supported = refl;
+    exportable = bit-word (m (object o 4)) (f .exportable);
+    stage = stage-word (m (object o 5)) (m (object o 6)) (f .staged);
+    count = refl;
+    limit = refl;
+  }
+
+  pub from-range : m (object o 0) < 2 ^ 64 → m (object o 3) < 2 ^ 64 → ObjectRange (objectFrom m o)
+  unfolding maxLimit
+  from-range a b = record { koid = (f .koid, a); kind = omega (arith, f .kind); supported = b; limit = f .limit }
+
+  pub from-staged : StageCount (objectFrom m o .stage) (objectFrom m o .count)
+  from-staged = stage-count (m (object o 5)) (m (object o 6)) (f .staged)
+
+-- ---- and back: the words of a well-formed state's object fit
+
+class-small : (c : Class) → classWord c ≤ 2
+class-small leaf = omega arith
+class-small rendezvousOnly = omega arith
+class-small never = omega arith
+
+bit-small : (b : Bool) → bit b ≤ 1
+bit-small true = omega arith
+bit-small false = omega arith
+
+stage-fits : (g : Stage) (n : ℕ) → StageCount g n → stageB (stageWord g) n ≡ true
+stage-fits stillNew n h = eq-eqb n 0 h
+stage-fits nowActive n h = le-leb 1 n h
+stage-fits nowRetired n h = refl
+
+pub fits-of : (m : Mem) (o : ℕ) (x : Object) → ObjectIs m o x → ObjectRange x → StageCount (x .stage) (x .count) → x .count ≤ x .limit → ObjectFits m o
+unfolding maxLimit
+fits-of m o x i r g w = record {
+  koid = omega (arith, i .koid, r .koid .0);
+  kind = omega (arith, i .kind, r .kind);
+  class = omega (arith, i .class, class-small (x .class));
+  exportable = omega (arith, i .exportable, bit-small (x .exportable));
+  limit = omega (arith, i .limit, r .limit);
+  within = omega (arith, i .count, i .limit);
+  staged = rw (i .stage, i .count) (stage-fits (x .stage) (x .count) g);
+}
+
+-- every object of a well-formed state does
+pub objects-fit : (sh : Shape) (m : Mem) (s : State) → Represents sh m s → WellFormed till s → objectsB m sh ≡ true
+objects-fit sh m s r w = objects-complete m sh (λ o l. let i : o < s .objectCount = omega (arith, r .objectCount) in
+    fits-of m o (s .objects o) (r .objects o i) (w .ranges .objects o i) (w .counts .staged o i) (w .counts .within o i))
+
+-- ---- what the code's tests say
+
+-- `stage_ok`
+pub stage-new : (g n : ℕ) (r : Bool) → g ≡ 0 → r ≡ eqb n 0 → r ≡ stageB g n
+stage-new g n r e q = q ∙ ap (λ (x : ℕ). stageB x n) (sym e)
+
+pub stage-active : (g n : ℕ) (r : Bool) → g ≡ 1 → r ≡ leb 1 n → r ≡ stageB g n
+stage-active g n r e q = q ∙ ap (λ (x : ℕ). stageB x n) (sym e)
+
+pub stage-rest : (g n : ℕ) (r : Bool) → (g ≡ 0 → ⊥) → (g ≡ 1 → ⊥) → r ≡ eqb g 2 → r ≡ stageB g n
+stage-rest zero n r a b q = absurd (a refl)
+stage-rest (suc zero) n r a b q = absurd (b refl)
+stage-rest (suc (suc zero)) n r a b q = q
+stage-rest (suc (suc (suc g))) n r a b q = q ∙ ne-eqb (suc (suc (suc g))) 2 (λ e. omega arith)
+
+-- `object_ok`, with every test before the last passed
+pub object-last : (m : Mem) (o a b c d e f g : ℕ) (r : Bool) → a ≡ m (object o 0) → b ≡ m (object o 1) → c ≡ m (object o 2) → d ≡ m (object o 4) → e ≡ m (object o 7) → f ≡ m (object o 6)
+    → g ≡ m (object o 5) → 1 ≤ a → b ≤ 4294967295 → c ≤ 2 → d ≤ 1 → e ≤ 4294967295 → f ≤ e → r ≡ stageB g f → r ≡ objectB m o
+unfolding objectB
+object-last m o a b c d e f g r pa pb pc pd pe pf pg ha hb hc hd he hf q =
+    q ∙ rw (pg, pf) (rw (
+      le-leb 1 (m (object o 0)) (omega arith),
+      le-leb (m (object o 1)) 4294967295 (omega arith),
+      le-leb (m (object o 2)) 2 (omega arith),
+      le-leb (m (object o 4)) 1 (omega arith),
+      le-leb (m (object o 7)) 4294967295 (omega arith),
+      le-leb (m (object o 6)) (m (object o 7)) (omega arith),
+    ))
+
+-- `check_objects`
+module _ (m : Mem) (sh : Shape) where
+  pub objects-stop : (o : ℕ) (t : Bool) → o < sh .objects → t ≡ objectB m o → t ≡ false → false ≡ objectsB m sh
+  unfolding objectsB
+  objects-stop o t l e d = sym (all-stop (sh .objects) (objectB m) o l (sym e ∙ d))
+
+  pub objects-more : (o : ℕ) (t : Bool) → all o (objectB m) ≡ true → t ≡ objectB m o → t ≡ true → all (o + 1) (objectB m) ≡ true
+  objects-more o t h e d = all-more o (objectB m) h (sym e ∙ d)
+
+  pub objects-end : (o : ℕ) → all o (objectB m) ≡ true → sh .objects ≤ o → true ≡ objectsB m sh
+  unfolding objectsB
+  objects-end o h l = sym (all-end (sh .objects) o (objectB m) h l)

@@ -1,0 +1,88 @@
+-- The parcel with an id, in the model. Assumes nothing.
+use mathlib.Core.Path.{_≡_, refl, sym, ap, _∙_}
+use mathlib.Core.Bool.{Bool, true, false}
+use mathlib.Core.List.{List, [], _∷_}
+use mathlib.Core.Option.{Option, none, some}
+use Prim.Native.Nat.{ℕ, zero, suc, _-_, _≤_, _<_}
+use native.Mathlib.Omega.{arith}
+use lib.Dec.{eqb}
+use borrow.Author.Tests.{eqb-true, eqb-false, eq-eqb}
+use Rattle.words.specs.Pick.{bool}
+use Rattle.model.specs.State.{Handle, Body, Body.reservation, Body.claim, Body.parcel, State}
+use Rattle.model.specs.Book.{find}
+use Rattle.model.specs.Decision.{asParcel}
+use Rattle.layout.specs.declared.Shape.{Shape}
+use Rattle.layout.specs.Layout.{Mem, index, row, load}
+use Rattle.representation.specs.Represents.{BodyIs, Represents}
+use Rattle.storage.specs.Reps.{Held}
+use Rattle.book.specs.Lists.{ids-apart, nothing}
+use Rattle.book.specs.Ops.{rowLink}
+use Rattle.book.specs.Find.{Fits, RowAt, row-found, row-none, at-find}
+use Rattle.parcel.specs.Ops.{parcelLink}
+
+-- word 1 of a row tells a parcel
+a-parcel : (m : Mem) (x : ℕ) (y : Body) → BodyIs m x y → m (row x 1) ≡ 3 → (hs : List Handle) × (y ≡ parcel hs)
+a-parcel m x (reservation b ks) p e = absurd (omega (arith, p .0))
+a-parcel m x (claim b es) p e = absurd (omega (arith, p .0))
+a-parcel m x (parcel hs) p e = (hs, refl)
+
+no-parcel : (m : Mem) (x : ℕ) (y : Body) → BodyIs m x y → (m (row x 1) ≡ 3 → ⊥) → asParcel (some y) ≡ none
+no-parcel m x (reservation b ks) p e = refl
+no-parcel m x (claim b es) p e = refl
+no-parcel m x (parcel hs) p e = absurd (e (p .0))
+
+-- a parcel of the book, in its place
+pub record Loose (m : Mem) (s : State) (x i : ℕ) (hs : List Handle) : Type 0 where
+  pub found : find i (s .book .rows) ≡ some (parcel hs)
+  pub row : RowAt m s x i (parcel hs)
+
+module _ (ws : List ℕ) (sh : Shape) (s : State) (h : Held ws sh s) (f : Fits s) (i : ℕ) where
+  by-row : (x : ℕ) → rowLink (load ws sh) sh i ≡ suc x → (y : Body) × (find i (s .book .rows) ≡ some y) × RowAt (load ws sh) s x i y
+  by-row x e = row-found sh (load ws sh) s (h .reps .memory) f (h .reps .shaped .limits .few-rows) i x e
+
+  -- "unknown .. open row of the kind named"
+  pub parcel-none : parcelLink (load ws sh) sh i ≡ 0 → asParcel (find i (s .book .rows)) ≡ none
+  unfolding parcelLink
+  parcel-none e = go (rowLink (load ws sh) sh i) refl e
+    where
+      go : (l : ℕ) → rowLink (load ws sh) sh i ≡ l → parcelLink (load ws sh) sh i ≡ 0 → asParcel (find i (s .book .rows)) ≡ none
+      go zero q d = ap asParcel (row-none sh (load ws sh) s (h .reps .memory) f i q)
+      go (suc x) q d =
+          let p = by-row x q in
+          let z : rowLink (load ws sh) sh i - 1 ≡ x = omega arith in
+          ap asParcel (p .1) ∙ no-parcel (load ws sh) x (p .0) (p .2 .body) (λ k.
+          let g : rowLink (load ws sh) sh i ≡ 0 = rw (z, k) at d in omega arith)
+
+  loose-of : (x : ℕ) (y : Body) (hs : List Handle) → find i (s .book .rows) ≡ some y → RowAt (load ws sh) s x i y → y ≡ parcel hs → (hs : List Handle) × Loose (load ws sh) s x i hs
+  loose-of x y hs d a e = (hs, record { found = d ∙ ap some e; row = rw e at a })
+
+  pub parcel-some : (x : ℕ) → parcelLink (load ws sh) sh i ≡ suc x → (hs : List Handle) × Loose (load ws sh) s x i hs
+  unfolding parcelLink
+  parcel-some x e = bool (eqb (load ws sh (row (rowLink (load ws sh) sh i - 1) 1)) 3)
+      (λ q. let l : rowLink (load ws sh) sh i ≡ suc x = rw q at e in
+      let p = by-row x l in
+      let z : rowLink (load ws sh) sh i - 1 ≡ x = omega arith in
+      let k : load ws sh (row x 1) ≡ 3 = ap (λ (v : ℕ). load ws sh (row v 1)) (sym z) ∙ eqb-true (load ws sh (row (rowLink (load ws sh) sh i - 1) 1)) 3 q in
+      let g = a-parcel (load ws sh) x (p .0) (p .2 .body) k in
+      loose-of x (p .0) (g .0) (p .1) (p .2) (g .1))
+      (λ q. let l : 0 ≡ suc x = rw q at e in absurd (omega arith))
+
+  -- a row stands in one place
+  row-one : (x z : ℕ) (y c : Body) → RowAt (load ws sh) s x i y → RowAt (load ws sh) s z i c → x ≡ z
+  row-one x z y c a d = sym (a .named) ∙ ap (λ (k : ℕ). load ws sh (index k))
+      (ids-apart 1 (s .book .next) (s .book .rows) _ _ (record { id = i; body = y }) (record { id = i; body = c }) (f .rise) (a .listed) (d .listed) refl) ∙ d .named
+
+  -- where the walk finds it
+  pub row-link : (x : ℕ) (y : Body) → RowAt (load ws sh) s x i y → rowLink (load ws sh) sh i ≡ suc x
+  row-link x y a = go (rowLink (load ws sh) sh i) refl
+    where
+      go : (l : ℕ) → rowLink (load ws sh) sh i ≡ l → l ≡ suc x
+      go zero q = nothing y (sym (row-none sh (load ws sh) s (h .reps .memory) f i q) ∙ at-find sh (load ws sh) s (h .reps .memory) f x i y a)
+      go (suc z) q = let p = by-row z q in ap suc (row-one z x (p .0) y (p .2) a)
+
+  pub parcel-link : (x : ℕ) (hs : List Handle) → RowAt (load ws sh) s x i (parcel hs) → parcelLink (load ws sh) sh i ≡ suc x
+  unfolding parcelLink
+  parcel-link x hs a =
+      let e = row-link x (parcel hs) a in
+      let z : rowLink (load ws sh) sh i - 1 ≡ x = omega (arith, e) in
+      rw (z, eq-eqb (load ws sh (row x 1)) 3 (a .body .0)) e

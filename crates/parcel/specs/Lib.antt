@@ -1,0 +1,10 @@
+pub mod Ops
+pub mod Code
+pub mod Opened
+pub mod Found
+pub mod Keeps
+pub mod Released
+pub mod Publishing
+pub mod Publish
+pub mod Published
+pub mod PublishCode

@@ -1,0 +1,78 @@
+-- A parcel is released: its function takes the model's step. Assumes nothing.
+use mathlib.Core.Path.{_≡_, refl, sym, ap, _∙_}
+use mathlib.Core.List.{List, [], _∷_}
+use mathlib.Core.Option.{Option, none, some}
+use Prim.Native.Nat.{ℕ, zero, suc, _+_, _-_, _<_}
+use native.Mathlib.Omega.{arith}
+use lib.ListN.{length}
+use lib.Dec.{eqb}
+use borrow.Author.Tests.{ne-eqb}
+use Rattle.model.specs.State.{till, Handle, Body.parcel, State}
+use Rattle.model.specs.Change.{withObjects}
+use Rattle.model.specs.Objects.{lower, change, changeAll, release}
+use Rattle.model.specs.Book.{find, dropRow}
+use Rattle.model.specs.WellFormed.{HandleRange, All}
+use Rattle.model.specs.Request.{Request.releaseParcel, Answer.done}
+use Rattle.model.specs.Decision.{Decision, asParcel, onSome}
+use Rattle.model.specs.Step.{releaseParcelOf, decide}
+use Rattle.model.specs.Words.{usedWords}
+use Rattle.invariant.specs.BookLemmas.{found-range}
+use Rattle.layout.specs.declared.Shape.{Shape}
+use Rattle.layout.specs.Layout.{Mem, row, item, load}
+use Rattle.representation.specs.Represents.{HandleIs, Items, Rep}
+use Rattle.storage.specs.Reps.{Held}
+use Rattle.object.specs.Words.{lowerW}
+use Rattle.book.specs.Find.{Fits, fits-of, RowAt}
+use Rattle.book.specs.Marks.{named-parcel}
+use Rattle.book.specs.Fades.{unnamed-fades}
+use Rattle.book.specs.Close.{close-held}
+use Rattle.answer.specs.Does.{Does, does-refused, does-accepted}
+use Rattle.reserve.specs.Ends.{held-of}
+use Rattle.parcel.specs.Ops.{parcelLink, loweredW, releasedW, releaseR}
+use Rattle.parcel.specs.Found.{Loose, parcel-none, parcel-some}
+use Rattle.parcel.specs.Keeps.{Keeps, keeps-none, keeps-then, handles-same, lower-keeps}
+
+lowered-more : (ws : List ℕ) (sh : Shape) (x j n o : ℕ) → load ws sh (item x j 2) ≡ o → loweredW ws sh x j (suc n) ≡ loweredW (lowerW ws sh o) sh x (suc j) n
+unfolding loweredW
+lowered-more ws sh x j n o e = ap (λ (k : ℕ). loweredW (lowerW ws sh k) sh x (suc j) n) e
+
+-- the handles of a list, which stand in the items from j on
+lowered-all : (sh : Shape) (x : ℕ) (hs : List Handle) (ws : List ℕ) (s : State) (j : ℕ) → Held ws sh s → All (λ h. h .object < s .objectCount) hs → Items (HandleIs (load ws sh) x) j hs
+    → Keeps sh ws s (loweredW ws sh x j (length hs)) (release s hs)
+unfolding loweredW
+lowered-all sh x [] ws s j h known its = keeps-none sh ws s h
+lowered-all sh x (y ∷ hs) ws s j h known its =
+    let ws₁ : List ℕ = lowerW ws sh (y .object) in
+    let s₁ : State = withObjects s (change lower (s .objects) (y .object)) in
+    let p = lower-keeps sh ws s h (y .object) (known .0) in
+    let q = lowered-all sh x hs (lowerW ws sh (y .object)) (withObjects s (change lower (s .objects) (y .object))) (suc j) (p .held) (known .1)
+    (handles-same (load ws sh) (load (lowerW ws sh (y .object)) sh) (p .items) x (suc j) hs (its .1)) in
+    rw (lowered-more ws sh x j (length hs) (y .object) (its .0 .0))
+    (keeps-then sh ws s ws₁ s₁ (loweredW (lowerW ws sh (y .object)) sh x (suc j) (length hs)) (release s (y ∷ hs)) p q)
+
+objects-of : (s : State) (hs : List Handle) → All (HandleRange s) hs → All (λ h. h .object < s .objectCount) hs
+objects-of s [] p = tt
+objects-of s (h ∷ hs) p = (p .0 .object, objects-of s hs (p .1))
+
+module _ (ws : List ℕ) (sh : Shape) (s : State) (r : Rep ws sh s) where
+  pub released-held : (x i : ℕ) (hs : List Handle) → Loose (load ws sh) s x i hs → Held (releasedW ws sh x) sh (dropRow i (release s hs))
+  unfolding releasedW
+  released-held x i hs o =
+      let f = fits-of s (r .wellFormed) in
+      let p = lowered-all sh x hs ws s 0 (held-of ws sh s r) (objects-of s hs (found-range s (r .wellFormed .ranges .rows) i (parcel hs) (o .found) .1)) (o .row .body .2) in
+      rw (o .row .body .1) (close-held (loweredW ws sh x 0 (length hs)) sh (release s hs) (p .held) (p .fits f) x i (parcel hs) (p .rows x i (parcel hs) (o .row))
+      (unnamed-fades (load ws sh) s (load (loweredW ws sh x 0 (length hs)) sh) (release s hs) x (p .fades)
+      (named-parcel sh (load ws sh) s (r .reps .memory) f (r .wellFormed .marks) x i hs (o .row))))
+
+  -- RELEASE PARCEL is the model's step
+  pub releaseParcel-does : (os : List ℕ) (base i : ℕ) → Does os sh base s (releaseParcel i) (releaseR ws os sh base i)
+  unfolding releaseR decide releaseParcelOf usedWords
+  releaseParcel-does os base i = go (parcelLink (load ws sh) sh i) refl
+    where
+      go : (l : ℕ) → parcelLink (load ws sh) sh i ≡ l → Does os sh base s (releaseParcel i) (releaseR ws os sh base i)
+      go zero e = rw e (does-refused os sh base s (releaseParcel i) ws 18 (r .reps) (rw (parcel-none ws sh s (held-of ws sh s r) (fits-of s (r .wellFormed)) i e)))
+      go (suc x) e =
+          let p = parcel-some ws sh s (held-of ws sh s r) (fits-of s (r .wellFormed)) i x e in let hs : List Handle = p .0 in
+          let z : suc x - 1 ≡ x = omega arith in
+          rw (e, z, ne-eqb (suc x) 0 (λ q. omega arith))
+          (does-accepted os sh base s (releaseParcel i) (releasedW ws sh x) (dropRow i (release s hs)) done (released-held x i hs (p .1) .reps) (rw (p .1 .found)))

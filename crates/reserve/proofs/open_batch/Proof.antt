@@ -1,0 +1,35 @@
+use Rattle.reserve.specs.Ops.{batchW}
+use borrow.Author.Needs.{needs}
+use Rattle.reserve.proofs.open_batch.Statement.{statement}
+use Rattle.reserve.proofs.open_batch.Tie as tie
+use Rattle.reserve.proofs.open_batch.Reads as reads
+use Rattle.reserve.proofs.open_batch.Lts as lts
+use Rattle.book.proofs.open_row.Reads as open-row-reads
+use Rattle.book.proofs.spare_place.Reads as spare-place-reads
+use Rattle.reserve.proofs.take_slots.Reads as take-slots-reads
+
+-- src/lib.rt:180:9
+spare-place-requires : tie.Need-spare-place-requires
+spare-place-requires c κs = search needs
+
+-- src/lib.rt:181:5
+open-row-requires : tie.Need-open-row-requires
+open-row-requires c κs = search needs
+
+-- src/lib.rt:182:5
+take-slots-requires : tie.Need-take-slots-requires
+take-slots-requires c κs = search needs
+
+-- src/lib.rt:177:1
+same-length : tie.Need-same-length
+same-length c = search needs
+
+-- src/lib.rt:177:1
+returns : tie.Need-returns
+unfolding batchW
+returns c = cc
+
+pub open-batch-spec : {M : Type 1} → statement M
+open-batch-spec =
+    tie.close
+    (tie.spec spare-place-requires open-row-requires take-slots-requires same-length returns)

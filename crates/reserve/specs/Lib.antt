@@ -1,0 +1,10 @@
+pub mod Ops
+pub mod Tables
+pub mod Found
+pub mod Ends
+pub mod Code
+pub mod Listed
+pub mod Taken
+pub mod Batch
+pub mod Reserve
+pub mod ReserveCode

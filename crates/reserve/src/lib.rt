@@ -1,0 +1,226 @@
+// SPDX-FileCopyrightText: 2026 roolrz
+// SPDX-License-Identifier: Apache-2.0
+// Ported from src/capability/handle/mod.rs of HypeR-Proj/kernel, with changes.
+
+// The requests on reservations: reserve, trim and abort.
+ghost use mathlib.Core.Path.{_≡_};
+ghost use Prim.Native.Nat.{min};
+ghost use Rattle.layout.specs.Layout.{load as loadAt};
+ghost use Rattle.request.specs.Answers.{puts};
+ghost use Rattle.answer.specs.Does.{both, answered};
+ghost use Rattle.reserve.specs.Ops.{reservationLink, abortedW, trimmedW, abortR, trimR, batchRefusal, roomRefusal, listedW, listW, takenW, batchW, valuesAt, batchWords, openR, reserveR};
+use codec::HandleCodec;
+use codec::ReservationId;
+use layout::Shape;
+
+// Word 1 of a reservation's row.
+pub const RESERVATION: u64 = 1;
+
+// The most slots of a batch.
+pub const MAX_BATCH: u64 = 64;
+
+// What `growth::pages_needed` gives where a new page would pass the limit.
+pub const NO_PLAN: u64 = 65;
+
+// The id that is never given out.
+pub const LAST_ID: u64 = 0xffff_ffff_ffff_ffff;
+
+// The place of the open reservation with an id, plus 1; 0 if there is none.
+pub fn reservation_of(s: &[u64], sh: Shape, id: ReservationId) -> u64
+    ensures { λ r. ⌜ r ≡ reservationLink (loadAt (now (s .entry)) sh) sh (id .0) ⌝ }
+{
+    let link = book::row_of(s, sh, id.0);
+    if words::eq(layout::row_word(s, sh, words::dec(link), 1), RESERVATION) {
+        return link;
+    }
+    0
+}
+
+// The reservation in place x ends: its slots fall vacant and its row leaves.
+fn abort_row(s: &mut [u64], sh: Shape, x: u64)
+    ensures words { λ _. ⌜ now (s .exit) ≡ abortedW (now (s .entry)) sh x ⌝ }
+{
+    let b = layout::row_word(s, sh, x, 2);
+    let n = layout::row_word(s, sh, x, 3);
+    book::vacate_items(s, sh, b, x, 0, n);
+    book::close_row(s, sh, x);
+}
+
+// "Closing, aborting, trimming and committing put slots at the head of the free order, one by one in list order".
+pub fn abort(s: &mut [u64], sh: Shape, id: ReservationId, out: &mut [u64], base: usize)
+    ensures { λ _. ⌜ both (now (s .exit)) (now (out .exit)) ≡ abortR (now (s .entry)) (now (out .entry)) sh base (id .0) ⌝ }
+{
+    let link = reservation_of(s, sh, id);
+    if words::eq(link, 0) {
+        answer::refuse(out, base, format::refusal::MISUSE);
+        return;
+    }
+    abort_row(s, sh, words::dec(link));
+    answer::say(out, base);
+}
+
+// The reservation in place x keeps its first n slots.
+fn trim_row(s: &mut [u64], sh: Shape, x: u64, n: u64)
+    ensures words { λ _. ⌜ now (s .exit) ≡ trimmedW (now (s .entry)) sh x n ⌝ }
+{
+    let b = layout::row_word(s, sh, x, 2);
+    let count = layout::row_word(s, sh, x, 3);
+    book::vacate_items(s, sh, b, x, n, count);
+    book::shrink_row(s, sh, x, n);
+}
+
+// "trim to 0 or above the batch": 18.
+pub fn trim(s: &mut [u64], sh: Shape, id: ReservationId, n: u64, out: &mut [u64], base: usize)
+    ensures { λ _. ⌜ both (now (s .exit)) (now (out .exit)) ≡ trimR (now (s .entry)) (now (out .entry)) sh base (id .0) n ⌝ }
+{
+    let link = reservation_of(s, sh, id);
+    if words::eq(link, 0) {
+        answer::refuse(out, base, format::refusal::MISUSE);
+        return;
+    }
+    let x = words::dec(link);
+    if words::eq(n, 0) {
+        answer::refuse(out, base, format::refusal::MISUSE);
+        return;
+    }
+    if words::lt(layout::row_word(s, sh, x, 3), n) {
+        answer::refuse(out, base, format::refusal::MISUSE);
+        return;
+    }
+    trim_row(s, sh, x, n);
+    answer::say(out, base);
+}
+
+// "Reserve: 16, 17, 13": the number of the refusal of n slots in table b; 0 for none.
+fn batch_refusal(s: &[u64], sh: Shape, b: u64, n: u64) -> u64
+    ensures { λ r. ⌜ r ≡ batchRefusal (loadAt (now (s .entry)) sh) sh b n ⌝ }
+{
+    let known = lookup::table_refusal(s, sh, b);
+    if words::eq(known, 0) {
+        if words::eq(n, 0) {
+            return format::refusal::EMPTY_RESERVATION;
+        }
+        if words::lt(MAX_BATCH, n) {
+            return format::refusal::RESERVATION_TOO_LARGE;
+        }
+        return format::refusal::DONE;
+    }
+    known
+}
+
+// "15, 1, 12", for a batch that needs p pages.
+fn room_refusal(s: &[u64], sh: Shape, p: u64) -> u64
+    ensures { λ r. ⌜ r ≡ roomRefusal (loadAt (now (s .entry)) sh) sh p ⌝ }
+{
+    if words::eq(p, NO_PLAN) {
+        return format::refusal::TABLE_FULL;
+    }
+    if words::lt(layout::root_word(s, sh, 7), p) {
+        return format::refusal::ALLOCATION;
+    }
+    if words::lt(layout::root_word(s, sh, 6), sh.rows as u64) {
+        if words::eq(layout::root_word(s, sh, 5), LAST_ID) {
+            return format::refusal::RESERVATION_ID_EXHAUSTED;
+        }
+        return format::refusal::DONE;
+    }
+    format::refusal::ALLOCATION
+}
+
+// The first n slots of the free order of table b, from the link l on, into the items of the row in place x.
+fn list_slots(s: &mut [u64], sh: Shape, b: u64, x: u64, l: u64, n: u64)
+    ensures words { λ _. ⌜ now (s .exit) ≡ listedW (now (s .entry)) sh b x 0 l n ⌝ }
+{
+    let mut link: u64 = l;
+    let mut j: u64 = 0;
+    while j < n {
+        let k = words::dec(link);
+        link = storage::slot_word(s, sh, b, k, 2);
+        layout::put_item(s, sh, x, j, 0, k);
+        j += 1;
+    }
+}
+
+// They stand in the row that opens next.
+fn list_free(s: &mut [u64], sh: Shape, b: u64, n: u64)
+    ensures words { λ _. ⌜ now (s .exit) ≡ listW (now (s .entry)) sh b n ⌝ }
+{
+    let x = book::spare_place(s, sh);
+    let l = layout::head_word(s, sh, b, 6);
+    list_slots(s, sh, b, x, l, n);
+}
+
+// The head of the free order is taken n times, for the positions of the row in place x in turn.
+fn take_slots(s: &mut [u64], sh: Shape, b: u64, x: u64, n: u64)
+    ensures words { λ _. ⌜ now (s .exit) ≡ takenW (now (s .entry)) sh b x 0 n ⌝ }
+{
+    let mut j: u64 = 0;
+    while j < n {
+        storage::take_free(s, sh, b, x, j);
+        j += 1;
+    }
+}
+
+// The row opens, and the slots that its items name are Reserved by it.
+fn open_batch(s: &mut [u64], sh: Shape, b: u64, n: u64)
+    ensures words { λ _. ⌜ now (s .exit) ≡ batchW (now (s .entry)) sh b n ⌝ }
+{
+    let x = book::spare_place(s, sh);
+    book::open_row(s, sh, RESERVATION, b, n);
+    take_slots(s, sh, b, x, n);
+}
+
+// The values of the slots that the first n items of the row in place x name, at most 64, from word 3 of the answer on.
+fn say_values(s: &[u64], sh: Shape, b: u64, x: u64, n: u64, out: &mut [u64], base: usize)
+    ensures { λ _. ⌜ now (out .exit) ≡ puts (now (out .entry)) base 3 (valuesAt (loadAt (now (s .entry)) sh) b x 0 (min n 64)) ⌝ }
+{
+    let most = words::smaller(n, MAX_BATCH);
+    let mask = layout::head_word(s, sh, b, 1);
+    let mut j: u64 = 0;
+    while j < most {
+        let k = layout::item_word(s, sh, x, j, 0);
+        let g = storage::slot_word(s, sh, b, k, 1);
+        let codec = HandleCodec { mask: mask };
+        let v = codec.encode(k, g);
+        request::answer_put(out, base, (j + 3) as usize, v.0);
+        j += 1;
+    }
+}
+
+// The answer: the next id, the count and the values.
+fn say_batch(s: &[u64], sh: Shape, b: u64, n: u64, out: &mut [u64], base: usize)
+    ensures { λ _. ⌜ now (out .exit) ≡ answered (now (out .entry)) base (batchWords (loadAt (now (s .entry)) sh) b n) ⌝ }
+{
+    let x = book::spare_place(s, sh);
+    let id = layout::root_word(s, sh, 5);
+    answer::say2(out, base, id, n);
+    say_values(s, sh, b, x, n, out, base);
+}
+
+// A batch of n slots of table b, after p pages.
+fn reserve_slots(s: &mut [u64], sh: Shape, b: u64, n: u64, p: u64, out: &mut [u64], base: usize)
+    ensures { λ _. ⌜ both (now (s .exit)) (now (out .exit)) ≡ openR (now (s .entry)) (now (out .entry)) sh base b n p ⌝ }
+{
+    growth::grow(s, sh, b, p);
+    list_free(s, sh, b, n);
+    say_batch(s, sh, b, n, out, base);
+    open_batch(s, sh, b, n);
+}
+
+// "Reserve: 16, 17, 13, 15, 1, 12".
+pub fn reserve(s: &mut [u64], sh: Shape, b: u64, n: u64, out: &mut [u64], base: usize)
+    ensures { λ _. ⌜ both (now (s .exit)) (now (out .exit)) ≡ reserveR (now (s .entry)) (now (out .entry)) sh base b n ⌝ }
+{
+    let wrong = batch_refusal(s, sh, b, n);
+    if words::ne(wrong, 0) {
+        answer::refuse(out, base, wrong);
+        return;
+    }
+    let p = growth::pages_needed(s, sh, b, n);
+    let full = room_refusal(s, sh, p);
+    if words::ne(full, 0) {
+        answer::refuse(out, base, full);
+        return;
+    }
+    reserve_slots(s, sh, b, n, p, out, base);
+}

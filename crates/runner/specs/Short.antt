@@ -1,0 +1,161 @@
+-- An answer has at most 72 words. Assumes nothing.
+use mathlib.Core.Path.{_≡_, refl, sym, ap, _∙_}
+use mathlib.Core.Bool.{Bool, true, false, not, _&&_}
+use mathlib.Core.List.{List, [], _∷_, _++_, map}
+use mathlib.Core.Option.{Option, none, some}
+use Prim.Native.Nat.{ℕ, zero, suc, _+_, _-_, _*_, _≤_, _<_, min}
+use native.Mathlib.Omega.{arith}
+use lib.ListN.{length, take, drop, length-append}
+use lib.Dec.{eqb, ltb}
+use borrow.Author.Tests.{ltb-false, not-true}
+use Rattle.words.specs.Pick.{clash, bool}
+use Rattle.authority.specs.Rights.{contains, duplicateRight}
+use Rattle.format.specs.Format.{answerWords}
+use Rattle.model.specs.Base.{atMost, pick}
+use Rattle.model.specs.State.{till, Handle, Slot, Table, State, isActive, isOccupied, knownFlags, maxBatch}
+use Rattle.model.specs.Storage.{pagesFor, Walk, walk, lengthOf, grow}
+use Rattle.model.specs.Objects.{isNowActive, isNowRetired}
+use Rattle.model.specs.Book.{find, freeRow, idLeft}
+use Rattle.model.specs.Decision.{Decision, Decision.refusal, Decision.refusalAfterId, Decision.accept, asParcel, handlesOf, distinct}
+use Rattle.model.specs.Lookup.{lookup, snapshotAt, valueAt}
+use Rattle.model.specs.Request.{Request, Answer, Snapshot, Answer.batch, Answer.scanned, Request.newObject, Request.duplicate, Request.releaseParcel, Request.retireObject, Request.reserve, Request.trim, Request.abort, Request.publish, Request.getInfo, Request.resolve, Request.replace, Request.close, Request.scanHandles, Request.prepareTransfer, Request.prepareConsumption, Request.rollback, Request.commit, Request.directCommit, Request.directRollback, Request.removeStoppingOwner, Request.teardownStart, Request.teardownStep, Request.teardownFinish, Request.takeEmptyPage}
+use Rattle.model.specs.Words.{usedWords, entryWords, infoWords}
+use Rattle.model.specs.Step.{decide, step, carry, newObjectOf, duplicateOf, releaseParcelOf, retireObjectOf, reserveOf, trimOf, abortOf, publishOf, getInfoOf, resolveOf, replaceOf, closeOf, scanHandlesOf, takeEmptyPageOf, takeAt, snapshotPage}
+use Rattle.model.specs.Decided.{Decided, Any, accepts, checked, with-some, with-view, with-handle, with-reservation, either-way, first-or}
+use Rattle.runner.specs.Run.{Short}
+use Rattle.runner.specs.Served.{served}
+
+take-most {ℓ} : {A : Type ℓ} (n : ℕ) (xs : List A) → length (take n xs) ≤ n
+take-most zero xs = omega arith
+take-most (suc n) [] = omega arith
+take-most (suc n) (x ∷ xs) = let h = take-most n xs in omega arith
+
+map-length {ℓ κ} : {A : Type ℓ} {B : Type κ} (f : A → B) (xs : List A) → length (map f xs) ≡ length xs
+map-length f [] = refl
+map-length f (x ∷ xs) = ap suc (map-length f xs)
+
+entries-length : (es : List Snapshot) → length (entryWords es) ≡ 5 * length es
+entries-length [] = refl
+entries-length (e ∷ es) = let h = entries-length es in omega (arith, h)
+
+-- a walk finds at most so many
+walk-most : (f : ℕ → Slot) (k n e : ℕ) → length (walk f k n e .found) ≤ e
+walk-most f k zero e = omega arith
+walk-most f k (suc n) zero = omega arith
+walk-most f k (suc n) (suc e) = bool (isOccupied (f k))
+    (λ b. rw b (let h = walk-most f (suc k) n e in omega (arith, h)))
+    (λ b. rw b (walk-most f (suc k) n (suc e)))
+
+batch-short : (s : State) (b n : ℕ) (ps : List ℕ) → atMost n maxBatch ≡ true
+    → Short (batch (s .book .next) (map (valueAt (grow till ps (s .frames) (s .tables b))) (take n (grow till ps (s .frames) (s .tables b) .free))))
+unfolding usedWords maxBatch
+batch-short s b n ps few =
+    let u : Table = grow till ps (s .frames) (s .tables b) in
+    let l : n ≤ 64 = ltb-false 64 n (not-true (ltb 64 n) few) in
+    omega (arith, map-length (valueAt u) (take n (u .free)), take-most n (u .free), l)
+
+scan-short : (s : State) (b c : ℕ) → Short (scanned (snapshotPage till s (s .tables b) c))
+unfolding usedWords
+scan-short s b c =
+    let t : Table = s .tables b in
+    let start : ℕ = min c (lengthOf till t) in
+    let w : Walk = walk (t .slots) start (min 256 (lengthOf till t - start)) 8 in
+    omega (arith, entries-length (map (snapshotAt s t) (w .found)), map-length (snapshotAt s t) (w .found), walk-most (t .slots) start (min 256 (lengthOf till t - start)) 8)
+
+module _ (s : State) where
+  pub decide-short : (r : Request) → served r ≡ true → Decided Any Any (λ u a. Short a) (decide till s r)
+  unfolding decide newObjectOf duplicateOf releaseParcelOf retireObjectOf reserveOf trimOf abortOf publishOf getInfoOf resolveOf replaceOf closeOf scanHandlesOf takeEmptyPageOf usedWords
+  decide-short (newObject o r f) sv =
+      checked (ltb o (s .objectCount)) 18 tt λ e.
+      checked (freeRow s) 1 tt λ e.
+      checked (contains (s .objects o .supported) r) 6 tt λ e.
+      checked (contains knownFlags f) 7 tt λ e.
+      checked (s .objects o .exportable) 6 tt λ e.
+      checked (not (isNowRetired (s .objects o .stage))) 9 tt λ e.
+      checked (not (isNowActive (s .objects o .stage))) 10 tt λ e.
+      checked (ltb (s .objects o .count) (s .objects o .limit)) 11 tt λ e.
+      checked (idLeft s) 12 tt λ e.
+      accepts (omega arith)
+  decide-short (duplicate b v r) sv =
+      checked (ltb b (s .tableCount)) 18 tt λ e.
+      checked (isActive (s .tables b .life)) 16 tt λ e.
+      checked (freeRow s) 1 tt λ e.
+      with-view (lookup (s .tables b) v) tt tt λ k h e.
+      checked (contains (h .rights) duplicateRight) 5 tt λ e.
+      checked (contains (h .rights) r) 5 tt λ e.
+      checked (not (isNowRetired (s .objects (h .object) .stage))) 9 tt λ e.
+      checked (not (eqb (s .objects (h .object) .count) (s .objects (h .object) .limit))) 11 tt λ e.
+      checked (idLeft s) 12 tt λ e.
+      accepts (omega arith)
+  decide-short (releaseParcel i) sv =
+      with-some (asParcel (find i (s .book .rows))) 18 tt λ hs e.
+      accepts (omega arith)
+  decide-short (retireObject o) sv =
+      checked (ltb o (s .objectCount)) 18 tt λ e.
+      accepts (omega arith)
+  decide-short (reserve b n) sv =
+      checked (ltb b (s .tableCount)) 18 tt λ e.
+      checked (isActive (s .tables b .life)) 16 tt λ e.
+      checked (ltb 0 n) 17 tt λ e.
+      checked (atMost n maxBatch) 13 tt λ few.
+      with-some (pagesFor till (s .tables b) n) 15 tt λ ps e.
+      checked (atMost (length ps) (length (s .frames))) 1 tt λ e.
+      checked (freeRow s) 1 tt λ e.
+      checked (idLeft s) 12 tt λ e.
+      accepts (batch-short s b n ps few)
+  decide-short (trim i n) sv =
+      with-reservation (find i (s .book .rows)) tt λ b ks e.
+      checked (ltb 0 n) 18 tt λ e.
+      checked (atMost n (length ks)) 18 tt λ e.
+      accepts (omega arith)
+  decide-short (abort i) sv =
+      with-reservation (find i (s .book .rows)) tt λ b ks e.
+      accepts (omega arith)
+  decide-short (publish i is) sv =
+      with-reservation (find i (s .book .rows)) tt λ b ks e.
+      with-some (handlesOf is (s .book .rows)) 18 tt λ hs e.
+      checked (distinct is) 18 tt λ e.
+      checked (eqb (length hs) (length ks)) 18 tt λ e.
+      accepts (omega arith)
+  decide-short (getInfo b v) sv =
+      with-handle s b v tt tt tt tt λ l a k h e.
+      accepts (omega arith)
+  decide-short (resolve b v r kind) sv =
+      with-handle s b v tt tt tt tt λ l a k h e.
+      checked (contains (h .rights) r) 5 tt λ e.
+      checked (eqb (s .objects (h .object) .kind) kind) 4 tt λ e.
+      accepts (omega arith)
+  decide-short (replace b v r) sv =
+      with-handle s b v tt tt tt tt λ l a k h e.
+      checked (contains (h .rights) r) 5 tt λ e.
+      accepts (omega arith)
+  decide-short (close b v) sv =
+      with-handle s b v tt tt tt tt λ l a k h e.
+      accepts (omega arith)
+  decide-short (scanHandles b c) sv =
+      checked (ltb b (s .tableCount)) 18 tt λ e.
+      checked (isActive (s .tables b .life)) 16 tt λ e.
+      accepts (scan-short s b c)
+  decide-short (prepareConsumption b v r kind koid) sv = clash refl (sym sv)
+  decide-short (rollback i) sv = clash refl (sym sv)
+  decide-short (commit i) sv = clash refl (sym sv)
+  decide-short (directCommit i j) sv = clash refl (sym sv)
+  decide-short (directRollback i j) sv = clash refl (sym sv)
+  decide-short (teardownStart b) sv = clash refl (sym sv)
+  decide-short (prepareTransfer b route o k qs) sv = clash refl (sym sv)
+  decide-short (removeStoppingOwner b c) sv = clash refl (sym sv)
+  decide-short (teardownStep b) sv = clash refl (sym sv)
+  decide-short (teardownFinish b) sv = clash refl (sym sv)
+  decide-short (takeEmptyPage b) sv =
+      let t : Table = s .tables b in
+      checked (ltb b (s .tableCount)) 18 tt λ e.
+      either-way (isActive (t .life)) (λ a. first-or (takeAt till s b t) (t .empty) (accepts (omega arith)) λ p ps e. accepts (omega arith)) (accepts (omega arith))
+
+  pub step-short : (r : Request) → served r ≡ true → Short (step till s r .1)
+  unfolding step usedWords
+  step-short r sv = go (decide till s r) (decide-short r sv)
+    where
+      go : (d : Decision) → Decided Any Any (λ u a. Short a) d → Short (carry till s d .1)
+      go (refusal n) p = omega arith
+      go (refusalAfterId n) p = omega arith
+      go (accept u a) p = p .leaves

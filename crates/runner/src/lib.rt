@@ -1,0 +1,298 @@
+// The runner: a list of requests over lent words. Document 01, "The request list": "The kernel's C entry calls the runner on word slices".
+ghost use mathlib.Core.Path.{_≡_};
+ghost use Prim.Native.Nat.{ℕ, _*_, _≤_};
+ghost use lib.ListN.{length};
+ghost use lib.Dec.{ltb};
+ghost use Rattle.words.specs.Pick.{pick};
+ghost use Rattle.wellformed.specs.Whole.{wellB};
+ghost use Rattle.format.specs.Format.{answerWords};
+ghost use Rattle.request.specs.Place.{endAt, countAt};
+ghost use Rattle.request.specs.Answers.{cleared};
+ghost use Rattle.answer.specs.Does.{both};
+ghost use Rattle.parcel.specs.Ops.{newObjectR, duplicateR, releaseR, retireR};
+ghost use Rattle.reserve.specs.Ops.{reserveR, trimR, abortR};
+ghost use Rattle.parcel.specs.Publishing.{idsAt, publishR};
+ghost use Rattle.lookup.specs.Read.{getInfoR, resolveR};
+ghost use Rattle.close.specs.Replace.{replaceR};
+ghost use Rattle.close.specs.Close.{closeR};
+ghost use Rattle.lookup.specs.Scan.{scanR};
+ghost use Rattle.detach.specs.Ops.{takePageR};
+ghost use Rattle.runner.specs.Run.{listR};
+ghost use Rattle.runner.specs.Meets.{called, done, requestsW, checkedW, runW, Meets};
+ghost use Rattle.runner.specs.Serve.{fieldOf, serveR, oneR};
+ghost use Rattle.runner.specs.Served.{servedOp, servedFrom, readServed};
+use authority::Rights;
+use codec::HandleValue;
+use codec::ReservationId;
+use layout::Shape;
+use layout::ShapeRead;
+use request::Listed;
+
+// Whether the runner serves an op.
+fn op_served(op: u64) -> bool
+    ensures { λ r. ⌜ r ≡ servedOp op ⌝ }
+{
+    if op < 14 {
+        true
+    } else {
+        op == format::op::OP_TAKE_EMPTY_PAGE
+    }
+}
+
+// Whether the n requests of a list are served.
+fn all_served(rq: &[u64], n: u64) -> bool
+    ensures { λ r. ⌜ r ≡ servedFrom n (now (rq .entry)) 0 ⌝ }
+{
+    let mut at: usize = 0;
+    let mut left = n;
+    while 0 < left {
+        if op_served(request::field(rq, at, format::field::FIELD_OP)) {
+            at = request::next_request(rq, at);
+            left -= 1;
+        } else {
+            return false;
+        }
+    }
+    true
+}
+
+fn serve_new_object(s: &mut [u64], sh: Shape, rq: &[u64], at: usize, out: &mut [u64], base: usize)
+    ensures { λ _. ⌜ both (now (s .exit)) (now (out .exit)) ≡ newObjectR (now (s .entry)) (now (out .entry)) sh base (fieldOf (now (rq .entry)) at 2) (fieldOf (now (rq .entry)) at 5) (fieldOf (now (rq .entry)) at 6) ⌝ }
+{
+    let object = request::field(rq, at, format::field::FIELD_OBJECT);
+    let rights = request::field(rq, at, format::field::FIELD_RIGHTS);
+    let flags = request::field(rq, at, format::field::FIELD_FLAGS);
+    parcel::new_object(s, sh, object, Rights(rights), flags, out, base);
+}
+
+fn serve_duplicate(s: &mut [u64], sh: Shape, rq: &[u64], at: usize, out: &mut [u64], base: usize)
+    ensures { λ _. ⌜ both (now (s .exit)) (now (out .exit)) ≡ duplicateR (now (s .entry)) (now (out .entry)) sh base (fieldOf (now (rq .entry)) at 1) (fieldOf (now (rq .entry)) at 4) (fieldOf (now (rq .entry)) at 5) ⌝ }
+{
+    let table = request::field(rq, at, format::field::FIELD_TABLE);
+    let value = request::field(rq, at, format::field::FIELD_VALUE);
+    let rights = request::field(rq, at, format::field::FIELD_RIGHTS);
+    parcel::duplicate(s, sh, table, HandleValue(value), Rights(rights), out, base);
+}
+
+fn serve_release_parcel(
+    s: &mut [u64],
+    sh: Shape,
+    rq: &[u64],
+    at: usize,
+    out: &mut [u64],
+    base: usize,
+)
+    ensures { λ _. ⌜ both (now (s .exit)) (now (out .exit)) ≡ releaseR (now (s .entry)) (now (out .entry)) sh base (fieldOf (now (rq .entry)) at 7) ⌝ }
+{
+    let id = request::field(rq, at, format::field::FIELD_ID);
+    parcel::release_parcel(s, sh, ReservationId(id), out, base);
+}
+
+fn serve_retire_object(
+    s: &mut [u64],
+    sh: Shape,
+    rq: &[u64],
+    at: usize,
+    out: &mut [u64],
+    base: usize,
+)
+    ensures { λ _. ⌜ both (now (s .exit)) (now (out .exit)) ≡ retireR (now (s .entry)) (now (out .entry)) sh base (fieldOf (now (rq .entry)) at 2) ⌝ }
+{
+    let object = request::field(rq, at, format::field::FIELD_OBJECT);
+    parcel::retire_object(s, sh, object, out, base);
+}
+
+fn serve_reserve(s: &mut [u64], sh: Shape, rq: &[u64], at: usize, out: &mut [u64], base: usize)
+    ensures { λ _. ⌜ both (now (s .exit)) (now (out .exit)) ≡ reserveR (now (s .entry)) (now (out .entry)) sh base (fieldOf (now (rq .entry)) at 1) (fieldOf (now (rq .entry)) at 3) ⌝ }
+{
+    let table = request::field(rq, at, format::field::FIELD_TABLE);
+    let count = request::field(rq, at, format::field::FIELD_COUNT);
+    reserve::reserve(s, sh, table, count, out, base);
+}
+
+fn serve_trim(s: &mut [u64], sh: Shape, rq: &[u64], at: usize, out: &mut [u64], base: usize)
+    ensures { λ _. ⌜ both (now (s .exit)) (now (out .exit)) ≡ trimR (now (s .entry)) (now (out .entry)) sh base (fieldOf (now (rq .entry)) at 7) (fieldOf (now (rq .entry)) at 3) ⌝ }
+{
+    let id = request::field(rq, at, format::field::FIELD_ID);
+    let count = request::field(rq, at, format::field::FIELD_COUNT);
+    reserve::trim(s, sh, ReservationId(id), count, out, base);
+}
+
+fn serve_abort(s: &mut [u64], sh: Shape, rq: &[u64], at: usize, out: &mut [u64], base: usize)
+    ensures { λ _. ⌜ both (now (s .exit)) (now (out .exit)) ≡ abortR (now (s .entry)) (now (out .entry)) sh base (fieldOf (now (rq .entry)) at 7) ⌝ }
+{
+    let id = request::field(rq, at, format::field::FIELD_ID);
+    reserve::abort(s, sh, ReservationId(id), out, base);
+}
+
+fn serve_publish(s: &mut [u64], sh: Shape, rq: &[u64], at: usize, out: &mut [u64], base: usize)
+    ensures { λ _. ⌜ both (now (s .exit)) (now (out .exit)) ≡ publishR (now (s .entry)) (now (out .entry)) sh base (fieldOf (now (rq .entry)) at 7) (idsAt (now (rq .entry)) (endAt (now (rq .entry)) at) (countAt (now (rq .entry)) at)) ⌝ }
+{
+    let id = request::field(rq, at, format::field::FIELD_ID);
+    let count = request::field(rq, at, format::field::FIELD_COUNT);
+    let items = request::record_end(rq, at);
+    parcel::publish(s, sh, rq, items, count, ReservationId(id), out, base);
+}
+
+fn serve_get_info(s: &mut [u64], sh: Shape, rq: &[u64], at: usize, out: &mut [u64], base: usize)
+    ensures { λ _. ⌜ both (now (s .exit)) (now (out .exit)) ≡ getInfoR (now (s .entry)) (now (out .entry)) sh base (fieldOf (now (rq .entry)) at 1) (fieldOf (now (rq .entry)) at 4) ⌝ }
+{
+    let table = request::field(rq, at, format::field::FIELD_TABLE);
+    let value = request::field(rq, at, format::field::FIELD_VALUE);
+    lookup::get_info(s, sh, table, HandleValue(value), out, base);
+}
+
+fn serve_resolve(s: &mut [u64], sh: Shape, rq: &[u64], at: usize, out: &mut [u64], base: usize)
+    ensures { λ _. ⌜ both (now (s .exit)) (now (out .exit)) ≡ resolveR (now (s .entry)) (now (out .entry)) sh base (fieldOf (now (rq .entry)) at 1) (fieldOf (now (rq .entry)) at 4) (fieldOf (now (rq .entry)) at 5) (fieldOf (now (rq .entry)) at 9) ⌝ }
+{
+    let table = request::field(rq, at, format::field::FIELD_TABLE);
+    let value = request::field(rq, at, format::field::FIELD_VALUE);
+    let rights = request::field(rq, at, format::field::FIELD_RIGHTS);
+    let kind = request::field(rq, at, format::field::FIELD_KIND);
+    lookup::resolve(
+        s,
+        sh,
+        table,
+        HandleValue(value),
+        Rights(rights),
+        kind,
+        out,
+        base,
+    );
+}
+
+fn serve_replace(s: &mut [u64], sh: Shape, rq: &[u64], at: usize, out: &mut [u64], base: usize)
+    ensures { λ _. ⌜ both (now (s .exit)) (now (out .exit)) ≡ replaceR (now (s .entry)) (now (out .entry)) sh base (fieldOf (now (rq .entry)) at 1) (fieldOf (now (rq .entry)) at 4) (fieldOf (now (rq .entry)) at 5) ⌝ }
+{
+    let table = request::field(rq, at, format::field::FIELD_TABLE);
+    let value = request::field(rq, at, format::field::FIELD_VALUE);
+    let rights = request::field(rq, at, format::field::FIELD_RIGHTS);
+    close::replace(s, sh, table, HandleValue(value), Rights(rights), out, base);
+}
+
+fn serve_close(s: &mut [u64], sh: Shape, rq: &[u64], at: usize, out: &mut [u64], base: usize)
+    ensures { λ _. ⌜ both (now (s .exit)) (now (out .exit)) ≡ closeR (now (s .entry)) (now (out .entry)) sh base (fieldOf (now (rq .entry)) at 1) (fieldOf (now (rq .entry)) at 4) ⌝ }
+{
+    let table = request::field(rq, at, format::field::FIELD_TABLE);
+    let value = request::field(rq, at, format::field::FIELD_VALUE);
+    close::close(s, sh, table, HandleValue(value), out, base);
+}
+
+fn serve_scan_handles(s: &mut [u64], sh: Shape, rq: &[u64], at: usize, out: &mut [u64], base: usize)
+    ensures { λ _. ⌜ both (now (s .exit)) (now (out .exit)) ≡ scanR (now (s .entry)) (now (out .entry)) sh base (fieldOf (now (rq .entry)) at 1) (fieldOf (now (rq .entry)) at 11) ⌝ }
+{
+    let table = request::field(rq, at, format::field::FIELD_TABLE);
+    let cursor = request::field(rq, at, format::field::FIELD_CURSOR);
+    lookup::scan_handles(s, sh, table, cursor, out, base);
+}
+
+fn serve_take_empty_page(
+    s: &mut [u64],
+    sh: Shape,
+    rq: &[u64],
+    at: usize,
+    out: &mut [u64],
+    base: usize,
+)
+    ensures { λ _. ⌜ both (now (s .exit)) (now (out .exit)) ≡ takePageR (now (s .entry)) (now (out .entry)) sh base (fieldOf (now (rq .entry)) at 1) ⌝ }
+{
+    let table = request::field(rq, at, format::field::FIELD_TABLE);
+    detach::take_empty_page(s, sh, table, out, base);
+}
+
+// The request at a place, by its op.
+fn serve(s: &mut [u64], sh: Shape, rq: &[u64], at: usize, op: u64, out: &mut [u64], base: usize)
+    ensures { λ _. ⌜ both (now (s .exit)) (now (out .exit)) ≡ serveR op (now (s .entry)) (now (out .entry)) sh (now (rq .entry)) at base ⌝ }
+{
+    match op {
+        1 => serve_new_object(s, sh, rq, at, out, base),
+        2 => serve_duplicate(s, sh, rq, at, out, base),
+        3 => serve_release_parcel(s, sh, rq, at, out, base),
+        4 => serve_retire_object(s, sh, rq, at, out, base),
+        5 => serve_reserve(s, sh, rq, at, out, base),
+        6 => serve_trim(s, sh, rq, at, out, base),
+        7 => serve_abort(s, sh, rq, at, out, base),
+        8 => serve_publish(s, sh, rq, at, out, base),
+        9 => serve_get_info(s, sh, rq, at, out, base),
+        10 => serve_resolve(s, sh, rq, at, out, base),
+        11 => serve_replace(s, sh, rq, at, out, base),
+        12 => serve_close(s, sh, rq, at, out, base),
+        13 => serve_scan_handles(s, sh, rq, at, out, base),
+        24 => serve_take_empty_page(s, sh, rq, at, out, base),
+        _ => {}
+    }
+}
+
+// The request at a place, whose answer's 72 words begin at a base.
+fn run_one(s: &mut [u64], sh: Shape, rq: &[u64], at: usize, out: &mut [u64], base: usize)
+    ensures { λ _. ⌜ both (now (s .exit)) (now (out .exit)) ≡ oneR (now (s .entry)) (cleared (now (out .entry)) base answerWords) sh (now (rq .entry)) at base ⌝ }
+{
+    request::clear_answer(out, base);
+    let op = request::field(rq, at, format::field::FIELD_OP);
+    serve(s, sh, rq, at, op, out, base);
+}
+
+// "Then every request runs; a refused one does not stop the next": n requests, for whose answers there are words enough.
+fn run_all(s: &mut [u64], sh: Shape, rq: &[u64], n: u64, out: &mut [u64])
+    requires { ⌜ answerWords * n ≤ length (now out) ⌝ }
+    ensures { λ _. ⌜ both (now (s .exit)) (now (out .exit)) ≡ listR oneR n (now (s .entry)) (now (out .entry)) sh (now (rq .entry)) 0 0 ⌝ }
+{
+    let mut at: usize = 0;
+    let mut base: usize = 0;
+    let mut left = n;
+    while 0 < left {
+        run_one(s, sh, rq, at, out, base);
+        at = request::next_request(rq, at);
+        base += 72;
+        left -= 1;
+    }
+}
+
+// "answer length 20"; then every request runs.
+fn answer_all(s: &mut [u64], sh: Shape, rq: &[u64], n: u64, out: &mut [u64]) -> u64
+    ensures { λ r. ⌜ called r (now (s .exit)) (now (out .exit)) ≡ pick (ltb (length (now (out .entry))) (answerWords * n)) (called 20 (now (s .entry)) (now (out .entry))) (done (listR oneR n (now (s .entry)) (now (out .entry)) sh (now (rq .entry)) 0 0)) ⌝ }
+{
+    if request::answers_short(out, n) {
+        return format::refusal::ANSWER_SHORT;
+    }
+    run_all(s, sh, rq, n, out);
+    format::refusal::DONE
+}
+
+// "list 19".
+fn run_list(s: &mut [u64], sh: Shape, rq: &[u64], out: &mut [u64]) -> u64
+    ensures { λ r. ⌜ called r (now (s .exit)) (now (out .exit)) ≡ requestsW oneR wellB (now (s .entry)) (now (out .entry)) sh (now (rq .entry)) (readServed (now (rq .entry))) ⌝ }
+{
+    match request::list_ok(rq) {
+        Listed::Malformed => format::refusal::MALFORMED,
+        Listed::Requests(n) => {
+            if all_served(rq, n) {
+                return answer_all(s, sh, rq, n, out);
+            }
+            format::refusal::MALFORMED
+        }
+    }
+}
+
+// "state check 18".
+fn run_checked(s: &mut [u64], sh: Shape, rq: &[u64], out: &mut [u64]) -> u64
+    ensures { λ r. ⌜ called r (now (s .exit)) (now (out .exit)) ≡ checkedW oneR wellB (now (s .entry)) (now (rq .entry)) (now (out .entry)) sh ⌝ }
+{
+    if wellformed::check(s, sh) {
+        return run_list(s, sh, rq, out);
+    }
+    format::refusal::MISUSE
+}
+
+// A list of requests on a state. The result is 18, 19 or 20 and no lent word has changed, or 0 and every request has run.
+#[no_mangle]
+pub extern "C" fn gurtxozal_run(state: &mut [u64], list: &[u64], answers: &mut [u64]) -> u64
+    ensures words { λ r. ⌜ called r (now (state .exit)) (now (answers .exit)) ≡ runW oneR wellB (now (state .entry)) (now (list .entry)) (now (answers .entry)) ⌝ }
+    ensures meets { λ r. ⌜ Meets (now (state .entry)) (now (list .entry)) (now (answers .entry)) (called r (now (state .exit)) (now (answers .exit))) ⌝ }
+{
+    wellformed::are_words(state);
+    match layout::shape_of(state) {
+        ShapeRead::Bad => format::refusal::MISUSE,
+        ShapeRead::Shape(sh) => run_checked(state, sh, list, answers),
+    }
+}

@@ -1,0 +1,5 @@
+pub mod Small
+pub mod View
+pub mod Shown
+pub mod Whole
+pub mod Code
