@@ -64,8 +64,9 @@ check "what the documents cite is there" tests/trace.py
 check "every public function has a contract and demands nothing" tests/contracts.py
 echo "proofs: $((SECONDS - start)) s"
 
-# What stands beside the crates: slips in the definitions, the oracle, the recorded lists on the definitions, the example.
-for script in tests/slips.py oracle/test.sh; do
+# What stands beside the crates: slips in the definitions, the oracle, the port through its C calls, the recorded lists on the definitions and on
+# the port, the examples.
+for script in tests/slips.py oracle/test.sh c/test.sh; do
   "$script" >"$logs/script" 2>&1
   status=$?
   cat "$logs/script"
@@ -74,7 +75,8 @@ for script in tests/slips.py oracle/test.sh; do
   echo "$script: $((SECONDS - start)) s"
 done
 check "the recorded lists, computed from the definitions" tests/model_replay.py
-check "the example prints what it should" tests/example.sh
+check "the recorded lists, replayed by a Rattle program on the port" tests/replay.py
+check "the examples print what they should" tests/example.sh
 
 echo "the whole test: $((SECONDS - start)) s"
 echo "$passed passed, $failed failed"

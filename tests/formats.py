@@ -88,7 +88,33 @@ for number, word in enumerate(words):
     same(f"the number {word}", constant(source["refusal"], re.sub(r"(?<!^)(?=[A-Z])", "_", word).upper()), number)
 same("ANSWER_WORDS", constant(source["lib"], "ANSWER_WORDS"), 72)
 
+# the C header
+header = (root / "c/gurtxozal.h").read_text()
+
+
+def in_c(name):
+    found = re.search(r"\bGURTXOZAL_%s (?:= |UINT64_C\()(0x[0-9A-F]+|\d+)" % name, header)
+    return int(found.group(1), 0) if found else None
+
+
+def upper(name):
+    return name.upper().replace(" ", "_")
+
+
+for number, word in enumerate(words):
+    same(f"the header's number {word}", in_c(re.sub(r"(?<!^)(?=[A-Z])", "_", word).upper()), number)
+for name, bit in bits.items():
+    same(f"the header's field {name}", in_c("FIELD_" + upper(name)), bit)
+for op, name in enumerate(names[1:], 1):
+    same(f"the header's op {name}", in_c("OP_" + upper(name)), op)
+    same(f"the header's must map of {name}", in_c("MUST_" + upper(name)), musts[op])
+    same(f"the header's may map of {name}", in_c("MAY_" + upper(name)) or 0, mays[op])
+for item in ("transfer", "parcel"):
+    for part in ("MUST", "MAY"):
+        same(f"the header's {part} of a {item} item", in_c(f"{part}_{item.upper()}_ITEM"), constant(source["lib"], f"{item.upper()}_ITEM_{part}"))
+same("the header's words of an answer", in_c("ANSWER_WORDS"), 72)
+
 for fault in faults:
     print(fault)
-print(f"{compared} comparisons of docs/formats.md with the code and the definitions")
-sys.exit(1 if faults or compared < 150 else 0)
+print(f"{compared} comparisons of docs/formats.md with the code, the definitions and the C header")
+sys.exit(1 if faults or compared < 270 else 0)

@@ -2,10 +2,10 @@
 use mathlib.Core.Path.{_≡_, refl, sym, ap, _∙_}
 use mathlib.Core.Bool.{Bool, true, false}
 use mathlib.Core.List.{List, [], _∷_}
-use Prim.Native.Nat.{ℕ, zero, suc, _+_, _-_, _≤_, _<_}
+use Prim.Native.Nat.{ℕ, suc, _+_, _-_, _≤_, _<_}
 use native.Mathlib.Omega.{arith}
 use lib.Dec.{eqb, ltb}
-use Rattle.words.specs.Pick.{pick, yes-is, no-is}
+use Rattle.words.specs.Pick.{yes-is, no-is}
 use Rattle.authority.specs.Rights.{contains, duplicateRight}
 use Rattle.model.specs.State.{knownFlags, lastId}
 use Rattle.layout.specs.declared.Shape.{Shape}
@@ -13,13 +13,12 @@ use Rattle.layout.specs.Layout.{Mem, root, row, item, load}
 use Rattle.object.specs.declared.ObjectRecord.{ObjectRecord}
 use Rattle.object.specs.Words.{recordAt, activateW, raiseW, lowerW, retireW}
 use Rattle.book.specs.Ops.{rowLink, spare, openW, handleW, closeW}
-use Rattle.answer.specs.Does.{Both, both, answered, refuseR}
+use Rattle.answer.specs.Does.{both, answered}
 use Rattle.lookup.specs.declared.PreparedHandle.{PreparedHandle}
 use Rattle.lookup.specs.declared.Opened.{Opened}
 use Rattle.lookup.specs.declared.Opened.the-variants.{Refused, Handle as Found}
 use Rattle.lookup.specs.View.{tableRefusal, openOf}
-use Rattle.lookup.specs.Read.{onOpened}
-use Rattle.lookup.specs.Code.{on-refused, on-found}
+use Rattle.lookup.specs.Code.{on-refused}
 use Rattle.parcel.specs.Ops.{retireR, rowLeft, idRefusal, parcelW, activationRefusal, rowRefusal, newRefusal, newObjectR, copyRefusal, copiedR, duplicateR, parcelLink, loweredW, releasedW, releaseR}
 
 -- `retire_object`

@@ -1,19 +1,18 @@
 -- The parcel with an id, in the model. Assumes nothing.
 use mathlib.Core.Path.{_≡_, refl, sym, ap, _∙_}
-use mathlib.Core.Bool.{Bool, true, false}
-use mathlib.Core.List.{List, [], _∷_}
-use mathlib.Core.Option.{Option, none, some}
-use Prim.Native.Nat.{ℕ, zero, suc, _-_, _≤_, _<_}
+use mathlib.Core.List.{List}
+use mathlib.Core.Option.{none, some}
+use Prim.Native.Nat.{ℕ, zero, suc, _-_}
 use native.Mathlib.Omega.{arith}
 use lib.Dec.{eqb}
-use borrow.Author.Tests.{eqb-true, eqb-false, eq-eqb}
+use borrow.Author.Tests.{eqb-true, eq-eqb}
 use Rattle.words.specs.Pick.{bool}
 use Rattle.model.specs.State.{Handle, Body, Body.reservation, Body.claim, Body.parcel, State}
 use Rattle.model.specs.Book.{find}
 use Rattle.model.specs.Decision.{asParcel}
 use Rattle.layout.specs.declared.Shape.{Shape}
 use Rattle.layout.specs.Layout.{Mem, index, row, load}
-use Rattle.representation.specs.Represents.{BodyIs, Represents}
+use Rattle.representation.specs.Represents.{BodyIs}
 use Rattle.storage.specs.Reps.{Held}
 use Rattle.book.specs.Lists.{ids-apart, nothing}
 use Rattle.book.specs.Ops.{rowLink}

@@ -1,19 +1,18 @@
 -- What the steps of a request keep: marks and rows, while objects are lowered and slots are occupied. Assumes nothing.
-use mathlib.Core.Path.{_≡_, refl, sym, ap, _∙_}
+use mathlib.Core.Path.{_≡_, refl, _∙_}
 use mathlib.Core.Bool.{true}
 use mathlib.Core.List.{List, [], _∷_}
-use Prim.Native.Nat.{ℕ, zero, suc, _+_, _<_}
+use Prim.Native.Nat.{ℕ, suc, _<_}
 use native.Mathlib.Omega.{arith}
-use Rattle.model.specs.State.{till, Handle, Slot.occupied, Table, Body, State, isBusy}
-use Rattle.model.specs.Base.{put}
+use Rattle.model.specs.State.{till, Handle, Slot.occupied, Body, State, isBusy}
 use Rattle.model.specs.Storage.{keep}
 use Rattle.model.specs.Change.{withTable, withObjects}
 use Rattle.model.specs.Objects.{lower, change}
 use Rattle.layout.specs.declared.Shape.{Shape}
-use Rattle.layout.specs.Layout.{Mem, head, entry, cell, index, rank, row, item, load}
-use Rattle.representation.specs.Represents.{slotWord, HandleIs, Items}
+use Rattle.layout.specs.Layout.{Mem, index, rank, row, item, load}
+use Rattle.representation.specs.Represents.{HandleIs, Items}
 use Rattle.storage.specs.Ops.{occupyW}
-use Rattle.storage.specs.Turns.{Turns, occupy-turns}
+use Rattle.storage.specs.Turns.{occupy-turns}
 use Rattle.storage.specs.Whole.{off-table}
 use Rattle.storage.specs.Reps.{Held, ready-of, occupy-held}
 use Rattle.object.specs.Record.{loweredBy}

@@ -2,15 +2,15 @@
 use mathlib.Core.Path.{_≡_, refl, sym, ap, _∙_}
 use mathlib.Core.Bool.{Bool, true, false, not}
 use mathlib.Core.List.{List, [], _∷_}
-use Prim.Native.Nat.{ℕ, zero, suc, _+_, _-_, _^_, _≤_, _<_}
+use Prim.Native.Nat.{ℕ, zero, suc, _+_, _-_, _^_, _<_}
 use native.Mathlib.Omega.{arith}
 use lib.ListN.{length}
 use lib.Dec.{eqb, ltb}
-use borrow.Author.Tests.{eq-eqb, ne-eqb, eqb-true, eqb-false, lt-ltb, le-ltb, ltb-true, ltb-false}
-use Rattle.words.specs.Pick.{pick, bool, clash}
+use borrow.Author.Tests.{eq-eqb, ne-eqb, eqb-true, eqb-false, lt-ltb, ltb-true}
+use Rattle.words.specs.Pick.{pick, bool}
 use Rattle.authority.specs.Rights.{contains, duplicateRight}
 use Rattle.model.specs.Base.{bit}
-use Rattle.model.specs.State.{till, Handle, Stage, Stage.stillNew, Stage.nowActive, Stage.nowRetired, Table, Object, Body.parcel, State, knownFlags, lastId, isActive}
+use Rattle.model.specs.State.{till, Handle, Stage, Stage.stillNew, Stage.nowActive, Stage.nowRetired, Table, Object, Body.parcel, State, knownFlags, lastId}
 use Rattle.model.specs.Change.{withObjects}
 use Rattle.model.specs.Objects.{isNowActive, isNowRetired, activated, raise, retiredByOwner, change, withRights}
 use Rattle.model.specs.Book.{addRow, freeRow, idLeft}
@@ -20,26 +20,23 @@ use Rattle.model.specs.Lookup.{lookup, onView, onHandle}
 use Rattle.model.specs.Step.{newObjectOf, duplicateOf, retireObjectOf, decide}
 use Rattle.model.specs.Words.{usedWords}
 use Rattle.layout.specs.declared.Shape.{Shape}
-use Rattle.layout.specs.Layout.{Mem, total, root, index, object, item, load, upds, Write.at, load-writes, in-item}
+use Rattle.layout.specs.Layout.{Mem, root, index, object, item, load, Write.at, load-writes, in-item}
 use Rattle.representation.specs.Represents.{stageWord, HandleIs, ObjectIs, Represents, Rep}
-use Rattle.storage.specs.Whole.{placed-of}
 use Rattle.storage.specs.Reps.{Held}
-use Rattle.object.specs.declared.ObjectRecord.{ObjectRecord}
-use Rattle.object.specs.Words.{recordAt, activateW, raiseW, retireW, stepW}
-use Rattle.object.specs.Whole.{OnlyObject}
-use Rattle.object.specs.Reps.{step-only, activate-held, raise-held, retire-held, limit-room}
-use Rattle.book.specs.Ops.{spare, handleW, openW, Fills, fills-handle}
+use Rattle.object.specs.Words.{recordAt, activateW, raiseW, retireW}
+use Rattle.object.specs.Reps.{activate-held, raise-held, retire-held, limit-room}
+use Rattle.book.specs.Ops.{spare, handleW, Fills, fills-handle}
 use Rattle.book.specs.Swap.{spare-held}
-use Rattle.book.specs.Open.{Opens as Stands, open-held}
-use Rattle.answer.specs.Does.{Both, both, answered, refuseR, Does, does-refused, does-accepted}
+use Rattle.book.specs.Open.{open-held}
+use Rattle.answer.specs.Does.{refuseR, Does, does-refused, does-accepted}
 use Rattle.lookup.specs.declared.PreparedHandle.{PreparedHandle}
 use Rattle.lookup.specs.declared.Opened.{Opened}
 use Rattle.lookup.specs.declared.Opened.the-variants.{Refused, Handle as Found}
-use Rattle.lookup.specs.View.{tableRefusal, openOf, handleOf}
+use Rattle.lookup.specs.View.{tableRefusal, openOf}
 use Rattle.lookup.specs.Named.{Opens, Active, active-on, table-open, table-refused, open-refused-is, open-found-is}
 use Rattle.lookup.specs.Read.{onOpened, opened-known}
 use Rattle.reserve.specs.Ends.{held-of}
-use Rattle.parcel.specs.Ops.{retireR, rowLeft, idRefusal, parcelW, activationRefusal, rowRefusal, newRefusal, newObjectR, copyRefusal, copiedR, duplicateR}
+use Rattle.parcel.specs.Ops.{retireR, rowLeft, parcelW, activationRefusal, rowRefusal, newRefusal, newObjectR, copyRefusal, copiedR, duplicateR}
 
 -- ---- the words of a parcel of one handle
 

@@ -1,7 +1,7 @@
 -- What the functions of the requests retire object, new object, duplicate and release parcel do to the words. Assumes nothing.
 use mathlib.Core.Bool.{Bool}
 use mathlib.Core.List.{List, [], _∷_}
-use Prim.Native.Nat.{ℕ, zero, suc, _+_, _-_}
+use Prim.Native.Nat.{ℕ, zero, suc, _-_}
 use lib.Dec.{eqb, ltb}
 use Rattle.words.specs.Pick.{pick}
 use Rattle.authority.specs.Rights.{contains, duplicateRight}

@@ -1,42 +1,38 @@
 -- Publish: its function takes the model's step. Assumes nothing.
 use mathlib.Core.Path.{_≡_, refl, sym, ap, _∙_}
-use mathlib.Core.Bool.{Bool, true, false, not, _&&_}
+use mathlib.Core.Bool.{Bool, true, false}
 use mathlib.Core.List.{List, [], _∷_, _++_}
 use mathlib.Core.Option.{Option, none, some}
 use Prim.Native.Nat.{ℕ, zero, suc, _+_, _-_, _≤_, _<_}
 use native.Mathlib.Omega.{arith}
-use lib.ListN.{length, take, drop, length-append}
+use lib.ListN.{length, drop, length-append}
 use lib.Dec.{eqb, ltb}
-use borrow.Author.Tests.{eqb-true, eqb-false, eq-eqb, ne-eqb, ltb-true, ltb-false, not-true}
-use Rattle.words.specs.Pick.{pick, bool, clash}
-use Rattle.model.specs.Base.{nth, occurs, member}
-use Rattle.model.specs.State.{till, Handle, Slot, Slot.occupied, Table, Body, Body.reservation, Body.claim, Body.parcel, State, isBusy, maxBatch}
+use borrow.Author.Tests.{eqb-true, eqb-false, eq-eqb, ne-eqb, ltb-true, ltb-false}
+use Rattle.words.specs.Pick.{pick, bool}
+use Rattle.model.specs.Base.{occurs}
+use Rattle.model.specs.State.{till, Handle, Slot.occupied, Table, Body, Body.reservation, Body.claim, Body.parcel, State, isBusy}
 use Rattle.model.specs.Storage.{keep}
 use Rattle.model.specs.Change.{withTable}
-use Rattle.model.specs.Book.{find, dropRow, dropRows}
-use Rattle.model.specs.Decision.{asParcel, joined, handlesOf, distinct}
+use Rattle.model.specs.Book.{find}
+use Rattle.model.specs.Decision.{asParcel, joined, handlesOf}
 use Rattle.model.specs.Step.{fillAll}
 use Rattle.model.specs.Sums.{occurs-split}
-use Rattle.model.specs.Tests.{apart, and-left, and-right}
+use Rattle.model.specs.Tests.{apart}
 use Rattle.invariant.specs.Parcels.{Parts}
 use Rattle.invariant.specs.StorageViews.{fillAll-busy}
 use Rattle.layout.specs.declared.Shape.{Shape}
 use Rattle.layout.specs.Layout.{Mem, row, item, load}
-use Rattle.representation.specs.Represents.{slotWord, HandleIs, Items, isMarked, Rep}
+use Rattle.representation.specs.Represents.{HandleIs, Items}
 use Rattle.storage.specs.Order.{occurs-head}
 use Rattle.storage.specs.Ops.{occupyW}
 use Rattle.storage.specs.Reps.{Held}
-use Rattle.book.specs.Ops.{rowLink, closeW}
 use Rattle.book.specs.Lists.{some-same}
 use Rattle.book.specs.Find.{Fits, RowAt}
-use Rattle.book.specs.Marks.{Unnamed}
-use Rattle.book.specs.Fades.{fades-rows, unnamed-fades, fits-drop}
-use Rattle.book.specs.Close.{close-held, close-other, close-slots, ids-places}
 use Rattle.book.specs.Vacated.{with-table-at as table-at, with-own as table-same, with-over as table-twice}
 use Rattle.parcel.specs.Ops.{parcelLink}
-use Rattle.parcel.specs.Found.{Loose, parcel-none, parcel-some, row-link}
+use Rattle.parcel.specs.Found.{parcel-none, parcel-some}
 use Rattle.parcel.specs.Keeps.{Keeps, keeps-none, keeps-then, handles-same, slots-same, occupy-keeps}
-use Rattle.parcel.specs.Publishing.{plus, fits, filledW, publishedW, droppedW}
+use Rattle.parcel.specs.Publishing.{plus, fits, filledW, publishedW}
 
 -- what handles joined come from
 pub parts : (x : Option Body) (r : Option (List Handle)) (hs : List Handle) → joined (asParcel x) r ≡ some hs → Parts x r hs

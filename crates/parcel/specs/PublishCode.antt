@@ -1,8 +1,8 @@
 -- What the loops and branches of publish say, in the terms of the definitions. Assumes nothing.
 use mathlib.Core.Path.{_≡_, refl, sym, ap, _∙_}
-use mathlib.Core.Bool.{Bool, true, false, not, _&&_}
-use mathlib.Core.List.{List, [], _∷_, map}
-use Prim.Native.Nat.{ℕ, zero, suc, _+_, _-_, _≤_, _<_}
+use mathlib.Core.Bool.{Bool, true, false}
+use mathlib.Core.List.{List, [], _∷_}
+use Prim.Native.Nat.{ℕ, suc, _+_, _-_, _≤_, _<_}
 use native.Mathlib.Omega.{arith}
 use lib.Dec.{eqb, ltb}
 use borrow.Author.Tests.{ltb-false}
@@ -12,11 +12,11 @@ use Rattle.model.specs.Words.{must}
 use Rattle.model.specs.Decision.{distinct}
 use Rattle.layout.specs.declared.Shape.{Shape}
 use Rattle.layout.specs.Layout.{Mem, row, item, load}
-use Rattle.request.specs.Place.{fieldsAt, endAt, placesFrom, parcelAt}
+use Rattle.request.specs.Place.{fieldsAt, endAt, parcelAt}
 use Rattle.request.specs.Laws.{places-turn, places-end}
 use Rattle.storage.specs.Ops.{occupyW}
 use Rattle.book.specs.Ops.{rowLink, closeW}
-use Rattle.answer.specs.Does.{Both, both, answered, refuseR}
+use Rattle.answer.specs.Does.{both, answered}
 use Rattle.reserve.specs.Ops.{reservationLink}
 use Rattle.parcel.specs.Ops.{parcelLink}
 use Rattle.parcel.specs.Publishing.{idsAt, plus, fits, filledW, publishedW, droppedW, spentW, publishR}

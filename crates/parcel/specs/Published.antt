@@ -1,7 +1,7 @@
 -- Publish: the rows leave, and the request as a whole. Assumes nothing.
 use mathlib.Core.Path.{_≡_, refl, sym, ap, _∙_}
-use mathlib.Core.Bool.{Bool, true, false, not, _&&_}
-use mathlib.Core.List.{List, [], _∷_, _++_}
+use mathlib.Core.Bool.{true, false, not}
+use mathlib.Core.List.{List, [], _∷_}
 use mathlib.Core.Option.{Option, none, some}
 use Prim.Native.Nat.{ℕ, zero, suc, _+_, _-_, _≤_, _<_}
 use native.Mathlib.Omega.{arith}
@@ -15,23 +15,23 @@ use Rattle.model.specs.Change.{withTable}
 use Rattle.model.specs.Book.{find, dropRow, dropRows}
 use Rattle.model.specs.WellFormed.{Batch}
 use Rattle.model.specs.Request.{Request.publish, Answer.done}
-use Rattle.model.specs.Decision.{Decision, Decision.refusal, asParcel, joined, handlesOf, distinct}
+use Rattle.model.specs.Decision.{Decision.refusal, asParcel, handlesOf, distinct}
 use Rattle.model.specs.Step.{fillAll, publishOf, decide}
 use Rattle.model.specs.Words.{usedWords}
 use Rattle.model.specs.Tests.{apart, and-left, and-right}
 use Rattle.invariant.specs.Pointwise.{given, filled, fillAll-slots}
-use Rattle.invariant.specs.Parcels.{Parts, not-parcel}
+use Rattle.invariant.specs.Parcels.{not-parcel}
 use Rattle.invariant.specs.Marks.{Owns}
 use Rattle.invariant.specs.BookLemmas.{found-range}
 use Rattle.invariant.specs.StorageDecisions.{reservation-owns}
 use Rattle.layout.specs.declared.Shape.{Shape}
 use Rattle.layout.specs.Layout.{Mem, row, load}
-use Rattle.representation.specs.Represents.{slotWord, isMarked, Rep}
+use Rattle.representation.specs.Represents.{isMarked, Rep}
 use Rattle.storage.specs.Reps.{Held}
 use Rattle.book.specs.Ops.{rowLink, closeW}
-use Rattle.book.specs.Lists.{nth-occurs, nothing}
+use Rattle.book.specs.Lists.{nth-occurs}
 use Rattle.book.specs.Find.{Fits, fits-of, RowAt}
-use Rattle.book.specs.Marks.{NamedBy, Unnamed, unnamed, named-reservation, named-parcel}
+use Rattle.book.specs.Marks.{Unnamed, unnamed, named-reservation, named-parcel}
 use Rattle.book.specs.Fades.{Fades, fades-rows, named-fades, unnamed-fades, fits-drop}
 use Rattle.book.specs.Close.{close-held, close-other, close-slots, ids-places}
 use Rattle.answer.specs.Does.{Both, both, answered, refuseR, Does, does-refused, does-accepted}
@@ -40,7 +40,7 @@ use Rattle.book.specs.Vacated.{with-table-at as table-at}
 use Rattle.reserve.specs.Found.{Open, reservation-none, reservation-some}
 use Rattle.reserve.specs.Ends.{held-of}
 use Rattle.parcel.specs.Ops.{parcelLink}
-use Rattle.parcel.specs.Found.{Loose, parcel-none, parcel-some, row-link}
+use Rattle.parcel.specs.Found.{parcel-none, parcel-some, row-link}
 use Rattle.parcel.specs.Keeps.{Keeps}
 use Rattle.parcel.specs.Publishing.{fits, publishedW, droppedW, spentW, publishR}
 use Rattle.parcel.specs.Publish.{parts, agreed, fits-is, published-keeps}

@@ -1,28 +1,25 @@
 -- A parcel is released: its function takes the model's step. Assumes nothing.
-use mathlib.Core.Path.{_≡_, refl, sym, ap, _∙_}
+use mathlib.Core.Path.{_≡_, refl, ap}
 use mathlib.Core.List.{List, [], _∷_}
-use mathlib.Core.Option.{Option, none, some}
-use Prim.Native.Nat.{ℕ, zero, suc, _+_, _-_, _<_}
+use Prim.Native.Nat.{ℕ, zero, suc, _-_, _<_}
 use native.Mathlib.Omega.{arith}
 use lib.ListN.{length}
-use lib.Dec.{eqb}
 use borrow.Author.Tests.{ne-eqb}
-use Rattle.model.specs.State.{till, Handle, Body.parcel, State}
+use Rattle.model.specs.State.{Handle, Body.parcel, State}
 use Rattle.model.specs.Change.{withObjects}
-use Rattle.model.specs.Objects.{lower, change, changeAll, release}
-use Rattle.model.specs.Book.{find, dropRow}
+use Rattle.model.specs.Objects.{lower, change, release}
+use Rattle.model.specs.Book.{dropRow}
 use Rattle.model.specs.WellFormed.{HandleRange, All}
 use Rattle.model.specs.Request.{Request.releaseParcel, Answer.done}
-use Rattle.model.specs.Decision.{Decision, asParcel, onSome}
 use Rattle.model.specs.Step.{releaseParcelOf, decide}
 use Rattle.model.specs.Words.{usedWords}
 use Rattle.invariant.specs.BookLemmas.{found-range}
 use Rattle.layout.specs.declared.Shape.{Shape}
-use Rattle.layout.specs.Layout.{Mem, row, item, load}
+use Rattle.layout.specs.Layout.{row, item, load}
 use Rattle.representation.specs.Represents.{HandleIs, Items, Rep}
 use Rattle.storage.specs.Reps.{Held}
 use Rattle.object.specs.Words.{lowerW}
-use Rattle.book.specs.Find.{Fits, fits-of, RowAt}
+use Rattle.book.specs.Find.{fits-of}
 use Rattle.book.specs.Marks.{named-parcel}
 use Rattle.book.specs.Fades.{unnamed-fades}
 use Rattle.book.specs.Close.{close-held}

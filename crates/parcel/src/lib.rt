@@ -59,6 +59,7 @@ pub fn id_refusal(s: &[u64], sh: Shape) -> u64
     format::refusal::DONE
 }
 
+// Whether the flags are known ones.
 fn known_flags(flags: u64) -> bool
     ensures { λ r. ⌜ r ≡ contains knownFlags flags ⌝ }
 {
@@ -267,7 +268,7 @@ pub fn release_parcel(s: &mut [u64], sh: Shape, id: ReservationId, out: &mut [u6
     answer::say(out, base);
 }
 
-// The larger sum that a word holds: two numbers added, or the largest word.
+// Two numbers added; the largest word stays.
 fn add(a: u64, b: u64) -> u64
     ensures { λ r. ⌜ r ≡ plus a b ⌝ }
 {
