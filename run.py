@@ -101,8 +101,10 @@ class Port:
 
     def __init__(self, create):
         folder = root / "target" / "staticlib"
+        newest = max(path.stat().st_mtime for path in root.glob("crates/*/src/**/*.rt"))
         for crate in ("create", "runner"):
-            if not (folder / f"lib{crate}.a").is_file():
+            library = folder / f"lib{crate}.a"
+            if not library.is_file() or library.stat().st_mtime < newest:
                 if shutil.which("rt") is None:
                     raise Fault(f"{folder}/lib{crate}.a is not there, and the Rattle toolchain's command 'rt', which makes it, is not on the PATH")
                 print(f"proving and compiling the crate {crate}, once; this takes some minutes", file=sys.stderr)

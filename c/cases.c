@@ -199,6 +199,10 @@ static void p11(void) {
     expect("whether there is a next", answer[GURTXOZAL_ANSWER_SCAN_HAS_NEXT], 1);
     expect("the next cursor", answer[GURTXOZAL_ANSWER_SCAN_NEXT], 256);
     expect("examined", answer[GURTXOZAL_ANSWER_SCAN_EXAMINED], 256);
+    /* the page that fell empty last is taken first */
+    RECORD(GURTXOZAL_MUST_TAKE_EMPTY_PAGE, FIELD(OP, GURTXOZAL_OP_TAKE_EMPTY_PAGE), FIELD(TABLE, 0));
+    expect("take_empty_page", run(), GURTXOZAL_DONE);
+    expect("the page", answer[GURTXOZAL_ANSWER_TAKEN_PAGE], 4);
 }
 
 /* P12 fresh: publish in 63, close, take the page, reserve 1: slot 63, generation 3. */
