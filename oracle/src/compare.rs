@@ -120,11 +120,16 @@ pub fn random(settings: &Settings, mut other: Option<&mut dyn Runs>, tally: &mut
                 })
                 .collect();
             wanted.extend([FILL; 3]);
-            let once = oracle.run(&start, &[whole]);
             let end = found.steps.last().map(|step| &step.text);
-            if once.steps.first().map(|step| (&step.answers, Some(&step.text))) != Some((&wanted, end)) {
-                differences += 1;
-                println!("one list gives other answers than its requests one by one, seed {seed}");
+            let mut same = |once: &Trace, who: &str| {
+                if once.steps.first().map(|step| (&step.answers, Some(&step.text))) != Some((&wanted, end)) {
+                    differences += 1;
+                    println!("one list gives other answers than its requests one by one, seed {seed}, on {who}");
+                }
+            };
+            same(&oracle.run(&start, &[whole.clone()]), "the Rust");
+            if let Some(other) = other.as_mut() {
+                same(&other.run(&start, &[whole]), "the other");
             }
         }
     }
@@ -149,11 +154,12 @@ pub fn random(settings: &Settings, mut other: Option<&mut dyn Runs>, tally: &mut
     if settings.covers {
         tally.line(unseen == 0 && strange == 0, &format!("{name}: coverage, {unseen} possible cells unseen, {strange} impossible cells seen"));
     }
+    tally.line(lists > 0 && differences == 0, &format!("{name}: {lists} of these lists run as one call: the same answers and the same end"));
     if !whole {
         return;
     }
     tally.line(reader_faults == 0, &format!("random: {readers} end states through their words: the second reader's text equals the driver's"));
-    tally.line(lists > 0 && loads > 0 && differences == 0, &format!("random: {lists} lists run as one call, {loads} states loaded from words: the same answers and states"));
+    tally.line(loads > 0 && differences == 0, &format!("random: {loads} states loaded from words: the same states"));
 }
 
 /// A table of the last state before the stop had its epoch at the end.
