@@ -100,9 +100,14 @@ static uint64_t close_value(uint64_t handle) {
     RECORD(GURTXOZAL_MUST_CLOSE, FIELD(OP, GURTXOZAL_OP_CLOSE), FIELD(TABLE, 0), FIELD(VALUE, handle));
     return run();
 }
-static void scan(uint64_t cursor) {
+/* A scan, and what its first words must be. */
+static void scan(uint64_t cursor, uint64_t length, uint64_t has_next, uint64_t next, uint64_t examined) {
     RECORD(GURTXOZAL_MUST_SCAN_HANDLES, FIELD(OP, GURTXOZAL_OP_SCAN_HANDLES), FIELD(TABLE, 0), FIELD(CURSOR, cursor));
     expect("scan_handles", run(), GURTXOZAL_DONE);
+    expect("the length", answer[GURTXOZAL_ANSWER_SCAN_LENGTH], length);
+    expect("whether there is a next", answer[GURTXOZAL_ANSWER_SCAN_HAS_NEXT], has_next);
+    expect("the next cursor", answer[GURTXOZAL_ANSWER_SCAN_NEXT], next);
+    expect("examined", answer[GURTXOZAL_ANSWER_SCAN_EXAMINED], examined);
 }
 
 /* P6 fresh, reserve 3: slots 63, 62, 61, generation 1. */
@@ -161,11 +166,7 @@ static void entry(uint64_t i, uint64_t slot) {
 /* P9 64 slots, occupied 0 to 8, scan from 0: 8 entries, next 8, examined 8. */
 static void p9(void) {
     nine_occupied();
-    scan(0);
-    expect("the length", answer[GURTXOZAL_ANSWER_SCAN_LENGTH], 8);
-    expect("whether there is a next", answer[GURTXOZAL_ANSWER_SCAN_HAS_NEXT], 1);
-    expect("the next cursor", answer[GURTXOZAL_ANSWER_SCAN_NEXT], 8);
-    expect("examined", answer[GURTXOZAL_ANSWER_SCAN_EXAMINED], 8);
+    scan(0, 8, 1, 8, 8);
     for (uint64_t i = 0; i < 8; i++) {
         entry(i, i);
     }
@@ -174,11 +175,7 @@ static void p9(void) {
 /* P10 from 8: one entry, no next, examined 56. */
 static void p10(void) {
     nine_occupied();
-    scan(8);
-    expect("the length", answer[GURTXOZAL_ANSWER_SCAN_LENGTH], 1);
-    expect("whether there is a next", answer[GURTXOZAL_ANSWER_SCAN_HAS_NEXT], 0);
-    expect("the next cursor", answer[GURTXOZAL_ANSWER_SCAN_NEXT], 0);
-    expect("examined", answer[GURTXOZAL_ANSWER_SCAN_EXAMINED], 56);
+    scan(8, 1, 0, 0, 56);
     entry(0, 8);
     expect("the word after the entry", answer[GURTXOZAL_ANSWER_SCAN_ENTRIES + GURTXOZAL_SCAN_ENTRY_WORDS], 0);
 }
@@ -194,11 +191,7 @@ static void p11(void) {
     for (int i = 0; i < 5; i++) {
         abort_row(rows[i]);
     }
-    scan(0);
-    expect("the length", answer[GURTXOZAL_ANSWER_SCAN_LENGTH], 0);
-    expect("whether there is a next", answer[GURTXOZAL_ANSWER_SCAN_HAS_NEXT], 1);
-    expect("the next cursor", answer[GURTXOZAL_ANSWER_SCAN_NEXT], 256);
-    expect("examined", answer[GURTXOZAL_ANSWER_SCAN_EXAMINED], 256);
+    scan(0, 0, 1, 256, 256);
     /* the page that fell empty last is taken first */
     RECORD(GURTXOZAL_MUST_TAKE_EMPTY_PAGE, FIELD(OP, GURTXOZAL_OP_TAKE_EMPTY_PAGE), FIELD(TABLE, 0));
     expect("take_empty_page", run(), GURTXOZAL_DONE);

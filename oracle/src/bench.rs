@@ -46,14 +46,11 @@ fn filled(pages: u64, free: u64, spare: u64) -> (Direct, Vec<u64>) {
     (rust, vec![first])
 }
 
-struct Timed {
-    whole: f64,
-}
-
-fn best(mut run: impl FnMut() -> f64) -> Timed {
+/// The median of some runs, in nanoseconds.
+fn median(mut run: impl FnMut() -> f64) -> f64 {
     let mut times: Vec<f64> = (0..TIMES).map(|_| run()).collect();
     times.sort_by(f64::total_cmp);
-    Timed { whole: times[TIMES / 2] }
+    times[TIMES / 2]
 }
 
 /// A list made by asking the Rust: `next` gives the next request from the last answers.
@@ -125,7 +122,7 @@ fn measure() {
                 "reserve 17 (a page more), abort, take_empty_page",
                 3,
                 list_of(&start, LONG / 3 * 3, |at, answers| match at % 3 {
-                    0 => reserve(0, if pages == 1 { 17 } else { 17 }),
+                    0 => reserve(0, 17),
                     1 => abort(answers[at - 1][1]),
                     _ => take_page(0),
                 }),
@@ -135,7 +132,7 @@ fn measure() {
             let mut answers = vec![0u64; count * ANSWER];
             let mut wanted = vec![0u64; count * ANSWER];
             // The Rust.
-            let rust_time = best(|| {
+            let rust_time = median(|| {
                 let mut rust = Direct::default();
                 assert_eq!(rust.start(&start), 0);
                 let from = Instant::now();
@@ -145,7 +142,7 @@ fn measure() {
                 rust.end();
                 time
             });
-            let reading = best(|| {
+            let reading = median(|| {
                 let from = Instant::now();
                 black_box(read_list(black_box(&list)).map(|list| list.len()));
                 from.elapsed().as_nanos() as f64
@@ -153,7 +150,7 @@ fn measure() {
             // The port.
             let mut port = CEntry::of_the_port();
             let mut timed = |list: &[u64], answers: &mut [u64]| {
-                best(|| {
+                median(|| {
                     let mut state = words.clone();
                     let from = Instant::now();
                     let result = port.bare(&mut state, black_box(list), answers);
@@ -166,12 +163,12 @@ fn measure() {
             let whole = timed(&list, &mut answers);
             assert_eq!(answers, wanted, "{name}: the answers differ");
             let each = |time: f64| time / count as f64 * cycle as f64;
-            let (port_ns, rust_ns, less_ns) = (each(whole.whole - check.whole), each(rust_time.whole), each(rust_time.whole - reading.whole));
+            let (port_ns, rust_ns, less_ns) = (each(whole - check), each(rust_time), each(rust_time - reading));
             println!("{:>9} {name:40} {port_ns:>10.0} {rust_ns:>10.0} {less_ns:>10.0} {:>7.2} {:>7.2}", pages * 64, port_ns / rust_ns, port_ns / less_ns);
         }
         // The state check beside a plain read of the same words.
         let mut port = CEntry::of_the_port();
-        let check = best(|| {
+        let check = median(|| {
             let mut state = words.clone();
             let from = Instant::now();
             let result = port.bare(&mut state, &[], &mut []);
@@ -179,7 +176,7 @@ fn measure() {
             assert_eq!(result, 0);
             time
         });
-        let read = best(|| {
+        let read = median(|| {
             let state = words.clone();
             let from = Instant::now();
             let mut sum = 0u64;
@@ -189,6 +186,6 @@ fn measure() {
             black_box(sum);
             from.elapsed().as_nanos() as f64
         });
-        println!("{:>9} state check of {} words: {:.0} ns; a plain read of them {:.0} ns; ratio {:.2}", pages * 64, words.len(), check.whole, read.whole, check.whole / read.whole);
+        println!("{:>9} state check of {} words: {:.0} ns; a plain read of them {:.0} ns; ratio {:.2}", pages * 64, words.len(), check, read, check / read);
     }
 }
