@@ -1,10 +1,10 @@
 -- What a request's function over words does: the state's words come to represent the model's next state, and the answer's words are those of
 -- the model's answer. Assumes nothing.
-use mathlib.Core.Path.{_≡_, ap, _∙_}
+use mathlib.Core.Path.{_≡_, refl, sym, ap, _∙_}
 use mathlib.Core.List.{List, [], _∷_, _++_}
 use Prim.Native.Nat.{ℕ, suc, _+_}
 use native.Mathlib.Omega.{arith}
-use lib.ListN.{length, set}
+use lib.ListN.{length, getD, set}
 use Rattle.model.specs.State.{till, State}
 use Rattle.model.specs.Request.{Request, Answer, Answer.refused}
 use Rattle.model.specs.Decision.{Decision.refusal, Decision.refusalAfterId, Decision.accept}
@@ -31,28 +31,41 @@ answered os base vs = puts os base 0 vs
 abbrev pub refuseR : List ℕ → List ℕ → ℕ → ℕ → Both
 refuseR ws os base n = both ws (answered os base (n ∷ []))
 
--- THE STEP over words: what the words x are after request r in state s
-pub record Does (os : List ℕ) (sh : Shape) (base : ℕ) (s : State) (r : Request) (x : Both) : Type 0 where
+-- the words with one id spent: the next id, word 5 of the header, is one more
+unfoldable pub idSpent : List ℕ → List ℕ
+idSpent ws = set ws 5 (getD ws 5 0 + 1)
+
+-- what a decision is, it is alone
+refusal-is : (n k : ℕ) → refusal n ≡ refusalAfterId k → ⊥
+refusal-is n k e = let z : _≡_ {A = ℕ} 0 1 = cc in omega arith
+
+accept-not : (u : State) (a : Answer) (n : ℕ) → accept u a ≡ refusal n → ⊥
+accept-not u a n e = let z : _≡_ {A = ℕ} 0 1 = cc in omega arith
+
+accept-never : (u : State) (a : Answer) (n : ℕ) → accept u a ≡ refusalAfterId n → ⊥
+accept-never u a n e = let z : _≡_ {A = ℕ} 0 1 = cc in omega arith
+
+-- THE STEP over words: what the words x are after request r in state s, whose words were ws
+pub record Does (ws os : List ℕ) (sh : Shape) (base : ℕ) (s : State) (r : Request) (x : Both) : Type 0 where
   pub state : Reps (x .state) sh (step till s r .0)
   pub answers : x .answers ≡ answered os base (usedWords (step till s r .1))
+  -- "a refused request .. changes nothing": every word of the state is as it was, save the next id's word after a transfer's id step
+  pub kept : (n : ℕ) → decide till s r ≡ refusal n → x .state ≡ ws
+  pub spent : (n : ℕ) → decide till s r ≡ refusalAfterId n → x .state ≡ idSpent ws
 
 module _ (os : List ℕ) (sh : Shape) (base : ℕ) (s : State) (r : Request) where
-  pub does-refused : (ws : List ℕ) (n : ℕ) → Reps ws sh s → decide till s r ≡ refusal n → Does os sh base s r (refuseR ws os base n)
+  pub does-refused : (ws : List ℕ) (n : ℕ) → Reps ws sh s → decide till s r ≡ refusal n → Does ws os sh base s r (refuseR ws os base n)
   unfolding step usedWords
-  does-refused ws n i e = record { state = rw e i; answers = rw e }
+  does-refused ws n i e = record { state = rw e i; answers = rw e; kept = λ k q. refl; spent = λ k q. absurd (refusal-is n k (sym e ∙ q)) }
 
   -- a transfer preparation refused after its id step: the id is spent
-  pub does-refused-after-id : (ws : List ℕ) (n : ℕ) → Reps ws sh (spendId s) → decide till s r ≡ refusalAfterId n → Does os sh base s r (refuseR ws os base n)
+  pub does-refused-after-id : (ws : List ℕ) (n : ℕ) → Reps (idSpent ws) sh (spendId s) → decide till s r ≡ refusalAfterId n → Does ws os sh base s r (refuseR (idSpent ws) os base n)
   unfolding step usedWords
-  does-refused-after-id ws n i e = record { state = rw e i; answers = rw e }
+  does-refused-after-id ws n i e = record { state = rw e i; answers = rw e; kept = λ k q. absurd (refusal-is k n (sym q ∙ e)); spent = λ k q. refl }
 
-  pub does-accepted : (ws : List ℕ) (u : State) (a : Answer) → Reps ws sh u → decide till s r ≡ accept u a → Does os sh base s r (both ws (answered os base (usedWords a)))
+  pub does-accepted : {ws : List ℕ} (vs : List ℕ) (u : State) (a : Answer) → Reps vs sh u → decide till s r ≡ accept u a → Does ws os sh base s r (both vs (answered os base (usedWords a)))
   unfolding step
-  does-accepted ws u a i e = record { state = rw e i; answers = rw e }
-
--- words that are the same do the same
-pub does-is : (os : List ℕ) (sh : Shape) (base : ℕ) (s : State) (r : Request) (x y : Both) → x ≡ y → Does os sh base s r y → Does os sh base s r x
-does-is os sh base s r x y e d = rw e d
+  does-accepted vs u a i e = record { state = rw e i; answers = rw e; kept = λ k q. absurd (accept-not u a k (sym e ∙ q)); spent = λ k q. absurd (accept-never u a k (sym e ∙ q)) }
 
 -- ---- answers of many words
 

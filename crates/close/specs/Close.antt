@@ -47,14 +47,14 @@ module _ (ws : List ℕ) (sh : Shape) (s : State) (i : Rep ws sh s) (b v : ℕ) 
       (vacate-held ws sh s held b (o .table .known) (h .slot) was) (h .object) (opened-known ws sh s i b v h o)
 
   -- CLOSE is the model's step
-  pub close-does : (os : List ℕ) (base : ℕ) → Does os sh base s (close b v) (closeR ws os sh base b v)
+  pub close-does : (os : List ℕ) (base : ℕ) → Does ws os sh base s (close b v) (closeR ws os sh base b v)
   unfolding closeR closedR decide closeOf usedWords
   close-does os base = go (openOf (load ws sh) sh b v) refl
     where
       rest : Table → ℕ → Handle → Decision
       rest t k h = accept (release (withTable s b (vacate till t k)) (h ∷ [])) (infoOf (infoFor s h))
 
-      go : (x : Opened) → openOf (load ws sh) sh b v ≡ x → Does os sh base s (close b v) (onOpened x (λ n. refuseR ws os base n) (λ h. closedR ws os sh base b h))
+      go : (x : Opened) → openOf (load ws sh) sh b v ≡ x → Does ws os sh base s (close b v) (onOpened x (λ n. refuseR ws os base n) (λ h. closedR ws os sh base b h))
       go (Refused n) e = does-refused os sh base s (close b v) ws n (i .reps) (open-refused-is sh (load ws sh) s (i .reps .memory) b v n e rest)
       go (Found h) e = let o = open-found-is sh (load ws sh) s (i .reps .memory) b v h e in
           rw (info-is sh (load ws sh) s (i .reps .memory) h (opened-known ws sh s i b v h o))

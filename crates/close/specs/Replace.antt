@@ -46,7 +46,7 @@ module _ (ws : List ℕ) (sh : Shape) (s : State) (i : Rep ws sh s) (b v : ℕ) 
       (nextGeneration (h .generation)) r (next-range (h .generation))
 
   -- REPLACE is the model's step
-  pub replace-does : (os : List ℕ) (base r : ℕ) → Does os sh base s (replace b v r) (replaceR ws os sh base b v r)
+  pub replace-does : (os : List ℕ) (base r : ℕ) → Does ws os sh base s (replace b v r) (replaceR ws os sh base b v r)
   unfolding replaceR replacedR decide replaceOf usedWords
   replace-does os base r = go (openOf (load ws sh) sh b v) refl
     where
@@ -56,7 +56,7 @@ module _ (ws : List ℕ) (sh : Shape) (s : State) (i : Rep ws sh s) (b v : ℕ) 
           let g : ℕ = nextGeneration (generation (t .slots k)) in
           accept (withTable s b (place till t k (occupied g (withRights h r)))) (renewed (encode (t .mask) k g))
 
-      go : (x : Opened) → openOf (load ws sh) sh b v ≡ x → Does os sh base s (replace b v r) (onOpened x (λ n. refuseR ws os base n) (λ h. replacedR ws os sh base b r h))
+      go : (x : Opened) → openOf (load ws sh) sh b v ≡ x → Does ws os sh base s (replace b v r) (onOpened x (λ n. refuseR ws os base n) (λ h. replacedR ws os sh base b r h))
       go (Refused n) e = does-refused os sh base s (replace b v r) ws n (i .reps) (open-refused-is sh (load ws sh) s (i .reps .memory) b v n e rest)
       go (Found h) e =
           let o = open-found-is sh (load ws sh) s (i .reps .memory) b v h e in

@@ -61,16 +61,16 @@ module _ (ws os : List ℕ) (sh : Shape) (base : ℕ) (s : State) (i : Rep ws sh
     unfolding decide takeEmptyPageOf
     on-active e l d = rw (lt-ltb b (s .tableCount) lb, e) (ap (λ (x : List ℕ). takeAt till s b t x) d)
 
-    none-does : decide till s (takeEmptyPage b) ≡ accept s (taken none) → Does os sh base s (takeEmptyPage b) (both ws (answered os base (0 ∷ 0 ∷ [])))
+    none-does : decide till s (takeEmptyPage b) ≡ accept s (taken none) → Does ws os sh base s (takeEmptyPage b) (both ws (answered os base (0 ∷ 0 ∷ [])))
     unfolding usedWords
     none-does e = does-accepted os sh base s (takeEmptyPage b) ws s (taken none) (i .reps) e
 
     page-does : (p : ℕ) → 0 < occurs p (t .empty) → decide till s (takeEmptyPage b) ≡ takeAt till s b t (p ∷ [])
-        → Does os sh base s (takeEmptyPage b) (both (detachW ws sh b p) (answered os base (0 ∷ 1 ∷ p ∷ [])))
+        → Does ws os sh base s (takeEmptyPage b) (both (detachW ws sh b p) (answered os base (0 ∷ 1 ∷ p ∷ [])))
     unfolding usedWords
     page-does p h e = go (t .pages p .frame) refl
       where
-        go : (x : Option ℕ) → t .pages p .frame ≡ x → Does os sh base s (takeEmptyPage b) (both (detachW ws sh b p) (answered os base (0 ∷ 1 ∷ p ∷ [])))
+        go : (x : Option ℕ) → t .pages p .frame ≡ x → Does ws os sh base s (takeEmptyPage b) (both (detachW ws sh b p) (answered os base (0 ∷ 1 ∷ p ∷ [])))
         go none d = clash (empty-attached t (held .placed .sound b lb) p h) (ap isSome d)
         go (some f) d = does-accepted os sh base s (takeEmptyPage b) (detachW ws sh b p) (withFrames (withTable s b (detach till t p)) (insert f (s .frames))) (taken (some p))
             (detach-held ws sh s held (i .wellFormed .frames) b lb p f h d .reps) (e ∙ rw d)
@@ -83,12 +83,12 @@ module _ (ws os : List ℕ) (sh : Shape) (base : ℕ) (s : State) (i : Rep ws sh
     unfolding firstEmpty
     first-active e = rw (life-is, e)
 
-    known-does : Does os sh base s (takeEmptyPage b)
+    known-does : Does ws os sh base s (takeEmptyPage b)
         (pick (eqb (firstEmpty m b) 0) (both ws (answered os base (0 ∷ 0 ∷ []))) (both (detachW ws sh b (firstEmpty m b - 1)) (answered os base (0 ∷ 1 ∷ (firstEmpty m b - 1) ∷ []))))
     known-does = bool (isActive (t .life)) (λ e. go e (t .empty) refl)
         (λ e. rw (first-idle e) (none-does (inactive e)))
       where
-        go : isActive (t .life) ≡ true → (l : List ℕ) → t .empty ≡ l → Does os sh base s (takeEmptyPage b)
+        go : isActive (t .life) ≡ true → (l : List ℕ) → t .empty ≡ l → Does ws os sh base s (takeEmptyPage b)
             (pick (eqb (firstEmpty m b) 0) (both ws (answered os base (0 ∷ 0 ∷ []))) (both (detachW ws sh b (firstEmpty m b - 1)) (answered os base (0 ∷ 1 ∷ (firstEmpty m b - 1) ∷ []))))
         go e [] d = let z : m (head b 8) ≡ 0 = rw d at (table .empty) in rw (first-active e, z) (none-does (on-active e [] d))
         go e (p ∷ l) d = let c : Chain (λ q. m (entry (entryAt m b q) 3)) (λ q. m (entry (entryAt m b q) 4)) (m (head b 8)) 0 (p ∷ l) = rw d at (table .empty) in
@@ -96,7 +96,7 @@ module _ (ws os : List ℕ) (sh : Shape) (base : ℕ) (s : State) (i : Rep ws sh
             rw (first-active e, c .0, ne-eqb (suc p) 0 (λ q. omega arith), y) (page-does p (rw d (occurs-head p l)) (on-active e (p ∷ l) d))
 
   -- TAKE_EMPTY_PAGE is the model's step
-  pub takePage-does : Does os sh base s (takeEmptyPage b) (takePageR ws os sh base b)
+  pub takePage-does : Does ws os sh base s (takeEmptyPage b) (takePageR ws os sh base b)
   unfolding takePageR
   takePage-does = let c : sh .tables ≡ s .tableCount = i .reps .memory .tableCount in
       bool (ltb b (sh .tables))

@@ -8,7 +8,7 @@ use native.Mathlib.Omega.{arith}
 use lib.ListN.{drop}
 use lib.Dec.{eqb}
 use lib.Bits.{bitAnd, and-le-l}
-use borrow.Author.Tests.{eqb-true, eqb-false}
+use borrow.Author.Tests.{eqb-true, eqb-false, not-true}
 use Rattle.authority.specs.Rights.{contains, duplicateRight, transferRight}
 use Rattle.codec.specs.Codec.{decodes, slotIn, generationIn}
 use Rattle.codec.specs.Laws.{same-value}
@@ -19,7 +19,7 @@ use Rattle.model.specs.Request.{Answer, Route, Operation, Operation.asMove, Ope
 use Rattle.model.specs.Book.{movedOf, copiesOf}
 use Rattle.model.specs.Decision.{Decision}
 use Rattle.model.specs.Lookup.{View, View.invalid, View.busy, View.holds, viewSlot, lookup, handleOr, onHandle}
-use Rattle.model.specs.Transfer.{Check, _or_, firstFault, isCopy, itemChecks, viewFault, itemFault, firstOf, itemsFault, entryBy, entryFor}
+use Rattle.model.specs.Transfer.{Check, _or_, firstFault, isCopy, isHeld, lookupNumber, heldIn, itemChecks, firstOf, itemsFault, entryBy, entryFor}
 use Rattle.model.specs.WellFormed.{HandleRange, SlotRange, EntryRange, All, ofObject, inHandles}
 use Rattle.model.specs.Tests.{apart, bool, clash, same}
 use Rattle.model.specs.Decided.{Decided, Any, with-handle}
@@ -93,22 +93,10 @@ fault-head c cs e = bool (c .holds)
     (λ q. (q, rw q at e))
     (λ q. let y : some (c .number) ≡ none = rw q at e in apart (cc))
 
-third-fourth : (a b c d : Check) (cs : List Check) → firstFault (a ∷ b ∷ c ∷ d ∷ cs) ≡ none → (c .holds ≡ true) × (d .holds ≡ true)
-third-fourth a b c d cs e = let r = fault-head c (d ∷ cs) (fault-head b (c ∷ d ∷ cs) (fault-head a (b ∷ c ∷ d ∷ cs) e .1) .1) in
-    (r .0, fault-head d cs (r .1) .0)
-
-rights-pass : (x : Object) (route : Route) (bo bk : Option ℕ) (h : Handle) (q : Item) → firstFault (itemChecks x route bo bk h q) ≡ none
-    → q .rights ≤ h .rights
-rights-pass x route bo bk h q e = let offered : ℕ = orElse (q .offeredRights) (h .rights) in
-    let r = third-fourth (contains (h .rights) transferRight or 5) ((not (isCopy (q .operation)) || contains (h .rights) duplicateRight) or 5)
-    (contains (h .rights) offered or 5)
-    (contains offered (q .rights) or 5) (drop 4 (itemChecks x route bo bk h q)) e in
-    omega (arith, contains-le (h .rights) offered (r .0), contains-le offered (q .rights) (r .1))
-
-view-held : (x : View) (f : Handle → Option ℕ) → viewFault x f ≡ none → (k : ℕ) × (h : Handle) × (x ≡ holds k h) × (f h ≡ none)
-view-held invalid f e = apart (cc)
-view-held busy f e = apart (cc)
-view-held (holds k h) f e = (k, h, refl, e)
+held-view : (w : View) → isHeld w ≡ true → (k : ℕ) × (w ≡ holds k (heldIn w))
+held-view invalid e = apart (cc)
+held-view busy e = apart (cc)
+held-view (holds k h) e = (k, refl)
 
 -- an item without fault
 pub record Passed (t : Table) (earlier : List ℕ) (q : Item) : Type 0 where
@@ -119,20 +107,27 @@ pub record Passed (t : Table) (earlier : List ℕ) (q : Item) : Type 0 where
   pub rights : q .rights ≤ held .rights
 
 module _ (s : State) (t : Table) (route : Route) (bo bk : Option ℕ) where
-  check : Item → Handle → Option ℕ
-  check q h = firstFault (itemChecks (s .objects (h .object)) route bo bk h q)
-
-  pass : (earlier : List ℕ) (q : Item) (k : ℕ) (h : Handle) → member (q .value) earlier ≡ false → lookup t (q .value) ≡ holds k h → check q h ≡ none
-      → Passed t earlier q
-  unfolding check
-  pass earlier q k h m e c = let n : Named t (q .value) k h = named t (q .value) k h e in
-      record { new = m; held = h; decoded = n .decoded; stands = n .stands; rights = rights-pass (s .objects (h .object)) route bo bk h q c }
-
-  passed : (earlier : List ℕ) (q : Item) → itemFault s t route bo bk earlier q ≡ none → Passed t earlier q
-  unfolding check
-  passed earlier q e = bool (member (q .value) earlier)
-      (λ m. let y : some 2 ≡ none = rw m at e in apart (cc))
-      (λ m. let r = view-held (lookup t (q .value)) (check q) (rw m at e) in pass earlier q (r .0) (r .1) m (r .2) (r .3))
+  passed : (earlier : List ℕ) (q : Item) → firstFault (itemChecks s route bo bk earlier q (lookup t (q .value))) ≡ none → Passed t earlier q
+  passed earlier q e =
+      let w : View = lookup t (q .value) in
+      let h : Handle = heldIn w in
+      let offered : ℕ = orElse (q .offeredRights) (h .rights) in
+      let cs : List Check = itemChecks s route bo bk earlier q w in
+      let once = fault-head (not (member (q .value) earlier) or 2) (drop 1 cs) e in
+      let found = fault-head (isHeld w or lookupNumber w) (drop 2 cs) (once .1) in
+      let transfer = fault-head (contains (h .rights) transferRight or 5) (drop 3 cs) (found .1) in
+      let copy = fault-head ((not (isCopy (q .operation)) || contains (h .rights) duplicateRight) or 5) (drop 4 cs) (transfer .1) in
+      let source = fault-head (contains (h .rights) offered or 5) (drop 5 cs) (copy .1) in
+      let asked = fault-head (contains offered (q .rights) or 5) (drop 6 cs) (source .1) in
+      let v = held-view w (found .0) in
+      let n : Named t (q .value) (v .0) h = named t (q .value) (v .0) h (v .1) in
+      record {
+        new = not-true (member (q .value) earlier) (once .0);
+        held = h;
+        decoded = n .decoded;
+        stands = n .stands;
+        rights = omega (arith, contains-le (h .rights) offered (source .0), contains-le offered (q .rights) (asked .0));
+      }
 
   both-none : (a b : Option ℕ) → firstOf a b ≡ none → (a ≡ none) × (b ≡ none)
   both-none none b e = (refl, e)
@@ -140,7 +135,7 @@ module _ (s : State) (t : Table) (route : Route) (bo bk : Option ℕ) where
 
   items-head : (earlier : List ℕ) (q : Item) (qs : List Item) → itemsFault s t route bo bk earlier (q ∷ qs) ≡ none
       → Passed t earlier q × (itemsFault s t route bo bk (q .value ∷ earlier) qs ≡ none)
-  items-head earlier q qs e = let r = both-none (itemFault s t route bo bk earlier q) (itemsFault s t route bo bk (q .value ∷ earlier) qs) e in
+  items-head earlier q qs e = let r = both-none (firstFault (itemChecks s route bo bk earlier q (lookup t (q .value)))) (itemsFault s t route bo bk (q .value ∷ earlier) qs) e in
       (passed earlier q (r .0), r .1)
 
   -- the entry of an item, by its operation

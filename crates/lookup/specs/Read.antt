@@ -73,12 +73,12 @@ module _ (ws : List ℕ) (sh : Shape) (s : State) (i : Rep ws sh s) (b v : ℕ) 
 
   module _ (os : List ℕ) (base : ℕ) where
     -- GET_INFO is the model's step
-    pub getInfo-does : Does os sh base s (getInfo b v) (getInfoR ws os sh base b v)
+    pub getInfo-does : Does ws os sh base s (getInfo b v) (getInfoR ws os sh base b v)
     unfolding getInfoR decide getInfoOf usedWords
     getInfo-does = go (openOf (load ws sh) sh b v) refl
       where
         go : (x : Opened) → openOf (load ws sh) sh b v ≡ x
-            → Does os sh base s (getInfo b v) (onOpened x (λ n. refuseR ws os base n) (λ h. both ws (answered os base (0 ∷ infoList (infoAt (load ws sh) h)))))
+            → Does ws os sh base s (getInfo b v) (onOpened x (λ n. refuseR ws os base n) (λ h. both ws (answered os base (0 ∷ infoList (infoAt (load ws sh) h)))))
         go (Refused n) e = does-refused os sh base s (getInfo b v) ws n (i .reps)
             (open-refused-is sh (load ws sh) s (i .reps .memory) b v n e (λ t k h. accept s (infoOf (infoFor s h))))
         go (Found h) e = let o = open-found-is sh (load ws sh) s (i .reps .memory) b v h e in
@@ -86,7 +86,7 @@ module _ (ws : List ℕ) (sh : Shape) (s : State) (i : Rep ws sh s) (b v : ℕ) 
             (does-accepted os sh base s (getInfo b v) ws s (infoOf (infoFor s (handleOf h))) (i .reps) (o .handle (λ t k h. accept s (infoOf (infoFor s h)))))
 
     -- RESOLVE is the model's step
-    pub resolve-does : (r kind : ℕ) → Does os sh base s (resolve b v r kind) (resolveR ws os sh base b v r kind)
+    pub resolve-does : (r kind : ℕ) → Does ws os sh base s (resolve b v r kind) (resolveR ws os sh base b v r kind)
     unfolding resolveR resolvedR decide resolveOf usedWords
     resolve-does r kind = go (openOf (load ws sh) sh b v) refl
       where
@@ -96,7 +96,7 @@ module _ (ws : List ℕ) (sh : Shape) (s : State) (i : Rep ws sh s) (b v : ℕ) 
             unless eqb (s .objects (h .object) .kind) kind refuse 4 then
             accept s (resolved (h .object) (s .objects (h .object) .koid) (h .rights))
 
-        go : (x : Opened) → openOf (load ws sh) sh b v ≡ x → Does os sh base s (resolve b v r kind) (onOpened x (λ n. refuseR ws os base n) (λ h. resolvedR ws os sh base r kind h))
+        go : (x : Opened) → openOf (load ws sh) sh b v ≡ x → Does ws os sh base s (resolve b v r kind) (onOpened x (λ n. refuseR ws os base n) (λ h. resolvedR ws os sh base r kind h))
         go (Refused n) e = does-refused os sh base s (resolve b v r kind) ws n (i .reps) (open-refused-is sh (load ws sh) s (i .reps .memory) b v n e rest)
         go (Found h) e =
             let o = open-found-is sh (load ws sh) s (i .reps .memory) b v h e in

@@ -108,7 +108,7 @@ scan-is ws sh s i b l c =
     ∙ ap (λ (r : List ℕ). 0 ∷ r) (page-is ws sh s i b l (min c long) (min 256 (long - min c long)) long)
 
 -- SCAN_HANDLES is the model's step
-pub scan-does : (ws : List ℕ) (sh : Shape) (s : State) → Rep ws sh s → (b c : ℕ) (os : List ℕ) (base : ℕ) → Does os sh base s (scanHandles b c) (scanR ws os sh base b c)
+pub scan-does : (ws : List ℕ) (sh : Shape) (s : State) → Rep ws sh s → (b c : ℕ) (os : List ℕ) (base : ℕ) → Does ws os sh base s (scanHandles b c) (scanR ws os sh base b c)
 unfolding scanR decide scanHandlesOf
 scan-does ws sh s i b c os base =
     let m : Mem = load ws sh in

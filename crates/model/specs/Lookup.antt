@@ -40,12 +40,16 @@ onHandle s b v f = onTable s b λ t. unless isActive (t .life) refuse 16 then on
 abbrev pub valueAt : Table → ℕ → ℕ
 valueAt t k = encode (t .mask) k (generation (t .slots k))
 
--- the handle of an occupied slot; of any other a handle of nothing, which no accepted request uses
+-- a handle of nothing, which no accepted request uses
+abbrev pub noHandle : Handle
+noHandle = record { object = 0; rights = 0; flags = 0 }
+
+-- the handle of an occupied slot
 abbrev pub handleOr : Slot → Handle
-handleOr absent = record { object = 0; rights = 0; flags = 0 }
-handleOr (vacant g) = record { object = 0; rights = 0; flags = 0 }
-handleOr (reserved g i) = record { object = 0; rights = 0; flags = 0 }
-handleOr (transferReserved g i) = record { object = 0; rights = 0; flags = 0 }
+handleOr absent = noHandle
+handleOr (vacant g) = noHandle
+handleOr (reserved g i) = noHandle
+handleOr (transferReserved g i) = noHandle
 handleOr (occupied g h) = h
 
 abbrev pub snapshotAt : State → Table → ℕ → Snapshot

@@ -5,7 +5,7 @@ use mathlib.Core.Bool.{Bool, true, false, not, _&&_, _||_}
 use mathlib.Core.List.{List, [], _∷_, map}
 use mathlib.Core.Option.{Option, none, some}
 use Prim.Native.Nat.{ℕ, zero, suc}
-use lib.ListN.{length}
+use lib.ListN.{length, drop}
 use lib.Dec.{eqb, ltb}
 use borrow.Author.Tests.{not-true}
 use Rattle.authority.specs.Rights.{contains, duplicateRight}
@@ -24,7 +24,7 @@ use Rattle.model.specs.Book.{find, freeRow, idLeft, anyOpen, spendId, co
 use Rattle.model.specs.Decision.{Decision, Decision.refusal, Decision.refusalAfterId, Decision.accept, unless_refuse_then_, asParcel}
 use Rattle.model.specs.Decision.{handlesOf, distinct}
 use Rattle.model.specs.Lookup.{View, View.invalid, View.busy, View.holds, lookup}
-use Rattle.model.specs.Transfer.{Check, firstFault, itemChecks, viewFault, itemFault, firstOf, itemsFault, copiesFault, entryFor}
+use Rattle.model.specs.Transfer.{Check, firstFault, itemChecks, copyChecks, isHeld, lookupNumber, firstOf, itemsFault, copiesFault, entryFor}
 use Rattle.model.specs.Step.{decide, step, carry, newObjectOf, duplicateOf, releaseParcelOf, retireObjectOf, reserveOf, trimOf, abortOf}
 use Rattle.model.specs.Step.{publishOf, getInfoOf, resolveOf, replaceOf, closeOf, scanHandlesOf, prepareTransferOf, prepareConsumptionOf}
 use Rattle.model.specs.Step.{rollbackOf, commitOf, directCommitOf, directRollbackOf, removeStoppingOwnerOf, removeAt, nextOccupied}
@@ -107,10 +107,11 @@ faults-first : (cs : List Check) → AllNumbered cs → Faults (firstFault cs)
 faults-first [] h = tt
 faults-first (c ∷ cs) h = faults-pick (c .holds) (firstFault cs) (some (c .number)) (faults-first cs (h .1)) (h .0)
 
-faults-view : (v : View) (f : Handle → Option ℕ) → ((h : Handle) → Faults (f h)) → Faults (viewFault v f)
-faults-view invalid f h = refl
-faults-view busy f h = refl
-faults-view (holds k x) f h = h x
+-- the lookup's check fails with 2 or 3; where it holds, the rest may
+faults-lookup : (w : View) (f : Option ℕ) → Faults f → Faults (pick (isHeld w) f (some (lookupNumber w)))
+faults-lookup invalid f p = refl
+faults-lookup busy f p = refl
+faults-lookup (holds k x) f p = p
 
 faults-of : (a b : Option ℕ) → Faults a → Faults b → Faults (firstOf a b)
 faults-of none b p q = q
@@ -119,18 +120,20 @@ faults-of (some n) b p q = p
 faults-items : (s : State) (t : Table) (route : Route) (o k : Option ℕ) (earlier : List ℕ) (qs : List Item) → Faults (itemsFault s t route o k earlier qs)
 faults-items s t route o k earlier [] = tt
 faults-items s t route o k earlier (q ∷ qs) =
-    faults-of (itemFault s t route o k earlier q) (itemsFault s t route o k (q .value ∷ earlier) qs)
-    (faults-pick (member (q .value) earlier) (some 2) _ refl
-    (faults-view (lookup t (q .value)) _ λ h.
-    faults-first (itemChecks (s .objects (h .object)) route o k h q) (refl, (refl, (refl, (refl, (refl, (refl, (refl, (refl, tt))))))))))
+    let cs : List Check = itemChecks s route o k earlier q (lookup t (q .value)) in
+    faults-of (firstFault cs) (itemsFault s t route o k (q .value ∷ earlier) qs)
+    (faults-pick (not (member (q .value) earlier)) (firstFault (drop 1 cs)) (some 2)
+    (faults-lookup (lookup t (q .value)) (firstFault (drop 2 cs))
+    (faults-first (drop 2 cs) (refl, (refl, (refl, (refl, (refl, (refl, (refl, (refl, tt))))))))))
+    refl)
     (faults-items s t route o k (q .value ∷ earlier) qs)
 
 faults-copies : (os : ℕ → Object) (hs : List Handle) → Faults (copiesFault os hs)
 faults-copies os [] = tt
 faults-copies os (h ∷ hs) =
-    faults-pick (isNowRetired (os (h .object) .stage)) (some 9) _ refl
-    (faults-pick (eqb (os (h .object) .count) (os (h .object) .limit)) (some 11) (copiesFault (change raise os (h .object)) hs) refl
-    (faults-copies (change raise os (h .object)) hs))
+    faults-of (firstFault (copyChecks (os (h .object)))) (copiesFault (change raise os (h .object)) hs)
+    (faults-first (copyChecks (os (h .object))) (refl, (refl, tt)))
+    (faults-copies (change raise os (h .object)) hs)
 
 module _ (z : Sizes) (s : State) where
   pub decide-fits : (r : Request) → Fits (isTransfer r) (decide z s r)

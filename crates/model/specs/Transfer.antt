@@ -11,7 +11,7 @@ use Rattle.model.specs.State.{Handle, Table, Class, Class.leaf, Class.re
 use Rattle.model.specs.Request.{Route, Route.buffered, Route.rendezvous, Route.stagedStartup, Operation, Operation.asMove, Operation.asCopy, Item}
 use Rattle.model.specs.Objects.{isNowRetired, raise, change, withRights}
 use Rattle.model.specs.Decision.{Decision, Decision.refusalAfterId}
-use Rattle.model.specs.Lookup.{View, lookup, handleOr, View.invalid, View.busy, View.holds}
+use Rattle.model.specs.Lookup.{View, lookup, noHandle, handleOr, View.invalid, View.busy, View.holds}
 
 -- a check that holds or gives its number
 pub record Check : Type 0 where
@@ -39,12 +39,34 @@ abbrev pub isCopy : Operation → Bool
 isCopy asMove = false
 isCopy asCopy = true
 
--- "5 (rights), 8 (kind), 5 (object), 8 (route), 4". The rights: no TRANSFER, a copy without DUPLICATE, offered beyond the source's, requested
--- beyond the offered
-abbrev pub itemChecks : Object → Route → Option ℕ → Option ℕ → Handle → Item → List Check
-itemChecks x route bannedObject bannedKind h q =
+-- a lookup finds a handle, or gives 2 or 3
+abbrev pub isHeld : View → Bool
+isHeld invalid = false
+isHeld busy = false
+isHeld (holds k h) = true
+
+abbrev pub lookupNumber : View → ℕ
+lookupNumber invalid = 2
+lookupNumber busy = 3
+lookupNumber (holds k h) = 0
+
+-- the handle found; where none is, the check of the lookup has failed and no other is looked at
+abbrev pub heldIn : View → Handle
+heldIn invalid = noHandle
+heldIn busy = noHandle
+heldIn (holds k h) = h
+
+-- THE CHECKS OF AN ITEM, "item by item 2 (twice), 2 or 3 (lookup), 5 (rights), 8 (kind), 5 (object), 8 (route), 4", where w is what its value names.
+-- "A value listed twice in one transfer gives InvalidHandle, even if one is Copy". The rights are four places: no TRANSFER, a copy without
+-- DUPLICATE, offered beyond the source's, requested beyond the offered
+abbrev pub itemChecks : State → Route → Option ℕ → Option ℕ → List ℕ → Item → View → List Check
+itemChecks s route bannedObject bannedKind earlier q w =
+    let h : Handle = heldIn w in
+    let x : Object = s .objects (h .object) in
     let offered : ℕ = orElse (q .offeredRights) (h .rights) in
-    contains (h .rights) transferRight or 5
+    not (member (q .value) earlier) or 2
+    ∷ isHeld w or lookupNumber w
+    ∷ contains (h .rights) transferRight or 5
     ∷ (not (isCopy (q .operation)) || contains (h .rights) duplicateRight) or 5
     ∷ contains (h .rights) offered or 5
     ∷ contains offered (q .rights) or 5
@@ -54,16 +76,12 @@ itemChecks x route bannedObject bannedKind h q =
     ∷ (agrees (q .offeredKind) (x .kind) && agrees (q .expectedKind) (x .kind)) or 4
     ∷ []
 
-abbrev pub viewFault : View → (Handle → Option ℕ) → Option ℕ
-viewFault invalid f = some 2
-viewFault busy f = some 3
-viewFault (holds k h) f = f h
-
--- "A value listed twice in one transfer gives InvalidHandle, even if one is Copy"
-abbrev pub itemFault : State → Table → Route → Option ℕ → Option ℕ → List ℕ → Item → Option ℕ
-itemFault s t route bannedObject bannedKind earlier q =
-    pick (member (q .value) earlier) (some 2)
-    (viewFault (lookup t (q .value)) λ h. firstFault (itemChecks (s .objects (h .object)) route bannedObject bannedKind h q))
+-- THE CHECKS OF A COPY, "then copies 9, 11"
+abbrev pub copyChecks : Object → List Check
+copyChecks x =
+    not (isNowRetired (x .stage)) or 9
+    ∷ not (eqb (x .count) (x .limit)) or 11
+    ∷ []
 
 abbrev pub firstOf : Option ℕ → Option ℕ → Option ℕ
 firstOf none b = b
@@ -73,15 +91,13 @@ firstOf (some n) b = some n
 abbrev pub itemsFault : State → Table → Route → Option ℕ → Option ℕ → List ℕ → List Item → Option ℕ
 itemsFault s t route bannedObject bannedKind earlier [] = none
 itemsFault s t route bannedObject bannedKind earlier (q ∷ qs) =
-    firstOf (itemFault s t route bannedObject bannedKind earlier q) (itemsFault s t route bannedObject bannedKind (q .value ∷ earlier) qs)
+    firstOf (firstFault (itemChecks s route bannedObject bannedKind earlier q (lookup t (q .value))))
+    (itemsFault s t route bannedObject bannedKind (q .value ∷ earlier) qs)
 
--- "then copies 9, 11": copy by copy, with the counts that earlier copies raised
+-- copy by copy, with the counts that earlier copies raised
 abbrev pub copiesFault : (ℕ → Object) → List Handle → Option ℕ
 copiesFault os [] = none
-copiesFault os (h ∷ hs) =
-    pick (isNowRetired (os (h .object) .stage)) (some 9)
-    (pick (eqb (os (h .object) .count) (os (h .object) .limit)) (some 11)
-    (copiesFault (change raise os (h .object)) hs))
+copiesFault os (h ∷ hs) = firstOf (firstFault (copyChecks (os (h .object)))) (copiesFault (change raise os (h .object)) hs)
 
 -- an item as its claim keeps it
 abbrev pub entryBy : Operation → ℕ → Handle → ℕ → Entry

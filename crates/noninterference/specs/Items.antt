@@ -5,6 +5,7 @@ use mathlib.Core.List.{List, [], _∷_}
 use mathlib.Core.Option.{Option, none, some}
 use Prim.Native.Nat.{ℕ}
 use native.Mathlib.Omega.{arith}
+use lib.ListN.{drop}
 use lib.Dec.{eqb}
 use borrow.Author.Tests.{eqb-true}
 use Rattle.codec.specs.Codec.{decodes, slotIn, generationIn}
@@ -12,7 +13,7 @@ use Rattle.model.specs.Base.{member}
 use Rattle.model.specs.State.{Handle, Slot, Slot.absent, Slot.vacant, Slot.reserved, Slot.transferReserved, Slot.occupied, Table, State}
 use Rattle.model.specs.Request.{Route, Item}
 use Rattle.model.specs.Lookup.{View, View.invalid, View.busy, View.holds, viewSlot, lookup, handleOr}
-use Rattle.model.specs.Transfer.{firstFault, itemChecks, viewFault, itemFault, firstOf, itemsFault}
+use Rattle.model.specs.Transfer.{firstFault, itemChecks, firstOf, itemsFault}
 use Rattle.model.specs.Tests.{bool}
 
 view-holds : (k g : ℕ) (x : Slot) (j : ℕ) (h : Handle) → viewSlot k g x ≡ holds j h → (j ≡ k) × (x ≡ occupied g h)
@@ -44,7 +45,7 @@ module _ (s : State) (x : Table) (route : Route) (bannedObject bannedKind : Opti
   AllName [] = Unit {0}
   AllName (q ∷ qs) = Names x (q .value) (handleOr (x .slots (slotIn (x .mask) (q .value)))) × AllName qs
 
-  item-names : (earlier : List ℕ) (q : Item) → itemFault s x route bannedObject bannedKind earlier q ≡ none
+  item-names : (earlier : List ℕ) (q : Item) → firstFault (itemChecks s route bannedObject bannedKind earlier q (lookup x (q .value))) ≡ none
       → Names x (q .value) (handleOr (x .slots (slotIn (x .mask) (q .value))))
   item-names earlier q e = bool (member (q .value) earlier)
       (λ m. let y : _≡_ {A = Option ℕ} (some 2) none = rw m at e in absurd (never y))
@@ -53,10 +54,8 @@ module _ (s : State) (x : Table) (route : Route) (bannedObject bannedKind : Opti
       never : {n : ℕ} → some n ≡ none → ⊥
       never p = let y : _≡_ {A = ℕ} 0 1 = cc in omega arith
 
-      f : Handle → Option ℕ
-      f h = firstFault (itemChecks (s .objects (h .object)) route bannedObject bannedKind h q)
-
-      go : (w : View) → lookup x (q .value) ≡ w → viewFault w f ≡ none → Names x (q .value) (handleOr (x .slots (slotIn (x .mask) (q .value))))
+      go : (w : View) → lookup x (q .value) ≡ w → firstFault (drop 1 (itemChecks s route bannedObject bannedKind earlier q w)) ≡ none
+          → Names x (q .value) (handleOr (x .slots (slotIn (x .mask) (q .value))))
       go invalid p g = absurd (never g)
       go busy p g = absurd (never g)
       go (holds k h) p g = let w : Names x (q .value) h = look-holds x (q .value) k h p .1 in record { valid = w .valid; there = rw (w .there) }
@@ -68,6 +67,6 @@ module _ (s : State) (x : Table) (route : Route) (bannedObject bannedKind : Opti
   pub all-name : (earlier : List ℕ) (qs : List Item) → itemsFault s x route bannedObject bannedKind earlier qs ≡ none → AllName qs
   all-name earlier [] e = tt
   all-name earlier (q ∷ qs) e =
-      let w = first-none (itemFault s x route bannedObject bannedKind earlier q)
+      let w = first-none (firstFault (itemChecks s route bannedObject bannedKind earlier q (lookup x (q .value))))
       (itemsFault s x route bannedObject bannedKind (q .value ∷ earlier) qs) e in
       (item-names earlier q (w .0), all-name (q .value ∷ earlier) qs (w .1))

@@ -200,7 +200,7 @@ module _ (ws : List ℕ) (sh : Shape) (s : State) (i : Rep ws sh s) (os : List �
   next-after e = id-after (s .book .next) (i .wellFormed .ids .next) e
 
   -- RETIRE OBJECT is the model's step
-  pub retireObject-does : (o : ℕ) → Does os sh base s (retireObject o) (retireR ws os sh base o)
+  pub retireObject-does : (o : ℕ) → Does ws os sh base s (retireObject o) (retireR ws os sh base o)
   unfolding retireR decide retireObjectOf usedWords
   retireObject-does o = rw (known-is o)
       (bool (ltb o (s .objectCount))
@@ -246,7 +246,7 @@ module _ (ws : List ℕ) (sh : Shape) (s : State) (i : Rep ws sh s) (os : List �
         parcel-held (activateW ws sh o) sh (withObjects s (change activated (s .objects) o)) (activate-held ws sh s held o l) (room (p .0)) o rights flags (next-after (p .1))
 
     -- NEW OBJECT is the model's step
-    pub newObject-does : Does os sh base s (newObject o rights flags) (newObjectR ws os sh base o rights flags)
+    pub newObject-does : Does ws os sh base s (newObject o rights flags) (newObjectR ws os sh base o rights flags)
     unfolding newObjectR decide usedWords
     newObject-does = bool (ltb o (s .objectCount))
         (λ y. let l : o < s .objectCount = ltb-true o (s .objectCount) y in
@@ -320,7 +320,7 @@ module _ (ws : List ℕ) (sh : Shape) (s : State) (i : Rep ws sh s) (os : List �
           parcel-held (raiseW ws sh (h .object)) sh (withObjects s (change raise (s .objects) (h .object))) (raise-held ws sh s held (h .object) known w) (room e)
           (h .object) rights (h .flags) (next-after (p .1))
 
-      copied-does : Active s b → freeRow s ≡ true → Does os sh base s (duplicate b v rights) (copiedR ws os sh base rights h)
+      copied-does : Active s b → freeRow s ≡ true → Does ws os sh base s (duplicate b v rights) (copiedR ws os sh base rights h)
       unfolding copiedR decide usedWords
       copied-does a e = rw (copy-is, r .book .next) (bool (eqb copyBy′ 0)
           (λ p. let z : copyBy′ ≡ 0 = eqb-true copyBy′ 0 p in
@@ -330,7 +330,7 @@ module _ (ws : List ℕ) (sh : Shape) (s : State) (i : Rep ws sh s) (os : List �
           (refused-when copyBy′ (duplicateOf till s b v rights) copied (copy-decided a e) (eqb-false copyBy′ 0 p)))))
 
     -- DUPLICATE is the model's step
-    pub duplicate-does : Does os sh base s (duplicate b v rights) (duplicateR ws os sh base b v rights)
+    pub duplicate-does : Does ws os sh base s (duplicate b v rights) (duplicateR ws os sh base b v rights)
     unfolding duplicateR decide
     duplicate-does = rw left-is (bool (eqb (tableRefusal (load ws sh) sh b) 0)
         (λ p. let a = table-open sh (load ws sh) s r b (eqb-true (tableRefusal (load ws sh) sh b) 0 p) in
@@ -341,6 +341,6 @@ module _ (ws : List ℕ) (sh : Shape) (s : State) (i : Rep ws sh s) (os : List �
         (inactive-is (tableRefusal (load ws sh) sh b) refl (eqb-false (tableRefusal (load ws sh) sh b) 0 p)))))
       where
         go : Active s b → freeRow s ≡ true → (x : Opened) → openOf (load ws sh) sh b v ≡ x
-            → Does os sh base s (duplicate b v rights) (onOpened x (λ n. refuseR ws os base n) (λ h. copiedR ws os sh base rights h))
+            → Does ws os sh base s (duplicate b v rights) (onOpened x (λ n. refuseR ws os base n) (λ h. copiedR ws os sh base rights h))
         go a e (Refused n) d = does-refused os sh base s (duplicate b v rights) ws n (i .reps) (lookup-is a e (refusal n) (open-refused-is sh (load ws sh) s r b v n d copies))
         go a e (Found h) d = copied-does h (open-found-is sh (load ws sh) s r b v h d) a e

@@ -168,7 +168,7 @@ module _ (ws : List ℕ) (sh : Shape) (s : State) (r : Rep ws sh s) where
     abbrev tested : ℕ → ℕ → Option (List Handle) → Both
     tested x n g = pick (agreed g n) (pick (distinct is) (both (spentW ws sh x is) (answered os base (0 ∷ []))) (refuseR ws os base 18)) (refuseR ws os base 18)
 
-    tests : (x b : ℕ) (ks : List ℕ) → Open (load ws sh) s x i b ks → (g : Option (List Handle)) → handlesOf is (s .book .rows) ≡ g → Does os sh base s (publish i is) (tested x (length ks) g)
+    tests : (x b : ℕ) (ks : List ℕ) → Open (load ws sh) s x i b ks → (g : Option (List Handle)) → handlesOf is (s .book .rows) ≡ g → Does ws os sh base s (publish i is) (tested x (length ks) g)
     unfolding decide publishOf usedWords
     tests x b ks o none q = does-refused os sh base s (publish i is) ws 18 (r .reps) (rw (o .found, q))
     tests x b ks o (some hs) q = bool (eqb (length ks) (length hs))
@@ -185,11 +185,11 @@ module _ (ws : List ℕ) (sh : Shape) (s : State) (r : Rep ws sh s) where
     unknown e = reservation-none ws sh s r i e _
 
     -- PUBLISH is the model's step
-    pub publish-does : Does os sh base s (publish i is) (publishR ws os sh base i is)
+    pub publish-does : Does ws os sh base s (publish i is) (publishR ws os sh base i is)
     unfolding publishR
     publish-does = go (reservationLink (load ws sh) sh i) refl
       where
-        go : (l : ℕ) → reservationLink (load ws sh) sh i ≡ l → Does os sh base s (publish i is) (publishR ws os sh base i is)
+        go : (l : ℕ) → reservationLink (load ws sh) sh i ≡ l → Does ws os sh base s (publish i is) (publishR ws os sh base i is)
         go zero e = rw e (does-refused os sh base s (publish i is) ws 18 (r .reps) (unknown e))
         go (suc x) e =
             let p = reservation-some ws sh s r i x e in let b : ℕ = p .0 in let ks : List ℕ = p .1 in let o = p .2 in

@@ -62,11 +62,11 @@ module _ (ws : List ℕ) (sh : Shape) (s : State) (r : Rep ws sh s) where
       (named-parcel sh (load ws sh) s (r .reps .memory) f (r .wellFormed .marks) x i hs (o .row))))
 
   -- RELEASE PARCEL is the model's step
-  pub releaseParcel-does : (os : List ℕ) (base i : ℕ) → Does os sh base s (releaseParcel i) (releaseR ws os sh base i)
+  pub releaseParcel-does : (os : List ℕ) (base i : ℕ) → Does ws os sh base s (releaseParcel i) (releaseR ws os sh base i)
   unfolding releaseR decide releaseParcelOf usedWords
   releaseParcel-does os base i = go (parcelLink (load ws sh) sh i) refl
     where
-      go : (l : ℕ) → parcelLink (load ws sh) sh i ≡ l → Does os sh base s (releaseParcel i) (releaseR ws os sh base i)
+      go : (l : ℕ) → parcelLink (load ws sh) sh i ≡ l → Does ws os sh base s (releaseParcel i) (releaseR ws os sh base i)
       go zero e = rw e (does-refused os sh base s (releaseParcel i) ws 18 (r .reps) (rw (parcel-none ws sh s (held-of ws sh s r) (fits-of s (r .wellFormed)) i e)))
       go (suc x) e =
           let p = parcel-some ws sh s (held-of ws sh s r) (fits-of s (r .wellFormed)) i x e in let hs : List Handle = p .0 in

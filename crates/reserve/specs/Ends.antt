@@ -45,11 +45,11 @@ module _ (ws : List ℕ) (sh : Shape) (s : State) (r : Rep ws sh s) (x i b : ℕ
 
 module _ (ws : List ℕ) (sh : Shape) (s : State) (r : Rep ws sh s) (os : List ℕ) (base i : ℕ) where
   -- ABORT is the model's step
-  pub abort-does : Does os sh base s (abort i) (abortR ws os sh base i)
+  pub abort-does : Does ws os sh base s (abort i) (abortR ws os sh base i)
   unfolding abortR decide abortOf usedWords
   abort-does = go (reservationLink (load ws sh) sh i) refl
     where
-      go : (l : ℕ) → reservationLink (load ws sh) sh i ≡ l → Does os sh base s (abort i) (abortR ws os sh base i)
+      go : (l : ℕ) → reservationLink (load ws sh) sh i ≡ l → Does ws os sh base s (abort i) (abortR ws os sh base i)
       go zero e = rw e (does-refused os sh base s (abort i) ws 18 (r .reps) (reservation-none ws sh s r i e _))
       go (suc x) e =
           let p = reservation-some ws sh s r i x e in let b : ℕ = p .0 in let ks : List ℕ = p .1 in let o = p .2 in
@@ -58,11 +58,11 @@ module _ (ws : List ℕ) (sh : Shape) (s : State) (r : Rep ws sh s) (os : List �
           (aborted-held ws sh s r x i b ks o .reps) (rw (o .found)))
 
   -- TRIM is the model's step
-  pub trim-does : (n : ℕ) → Does os sh base s (trim i n) (trimR ws os sh base i n)
+  pub trim-does : (n : ℕ) → Does ws os sh base s (trim i n) (trimR ws os sh base i n)
   unfolding trimR decide trimOf usedWords
   trim-does n = go (reservationLink (load ws sh) sh i) refl
     where
-      go : (l : ℕ) → reservationLink (load ws sh) sh i ≡ l → Does os sh base s (trim i n) (trimR ws os sh base i n)
+      go : (l : ℕ) → reservationLink (load ws sh) sh i ≡ l → Does ws os sh base s (trim i n) (trimR ws os sh base i n)
       go zero e = rw e (does-refused os sh base s (trim i n) ws 18 (r .reps) (reservation-none ws sh s r i e _))
       go (suc x) e =
           let p = reservation-some ws sh s r i x e in let b : ℕ = p .0 in let ks : List ℕ = p .1 in let o = p .2 in

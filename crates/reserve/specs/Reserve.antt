@@ -123,10 +123,10 @@ module _ (ws : List ℕ) (sh : Shape) (s : State) (r : Rep ws sh s) (b n : ℕ) 
       rest p = pick (eqb (roomRefusal (load ws sh) sh p) 0) (openR ws os sh base b n p) (refuseR ws os base (roomRefusal (load ws sh) sh p))
 
       -- a refusal with the number k
-      no-room : (p k : ℕ) → roomRefusal (load ws sh) sh p ≡ k → (k ≡ 0 → ⊥) → planned s b n (s .tables b) ≡ refusal k → Does os sh base s (reserve b n) (rest p)
+      no-room : (p k : ℕ) → roomRefusal (load ws sh) sh p ≡ k → (k ≡ 0 → ⊥) → planned s b n (s .tables b) ≡ refusal k → Does ws os sh base s (reserve b n) (rest p)
       no-room p k e c d = rw (e, ne-eqb k 0 c) (does-refused os sh base s (reserve b n) ws k (r .reps) (decided s b n ∙ passed ∙ d))
 
-      planned-does : (o : Option (List ℕ)) → pagesFor till (s .tables b) n ≡ o → Does os sh base s (reserve b n) (rest (pagesNeeded (load ws sh) b n))
+      planned-does : (o : Option (List ℕ)) → pagesFor till (s .tables b) n ≡ o → Does ws os sh base s (reserve b n) (rest (pagesNeeded (load ws sh) b n))
       unfolding roomRefusal openR
       planned-does none e =
           let t = r .reps .memory .tables b (a .known) in
@@ -154,7 +154,7 @@ module _ (ws : List ℕ) (sh : Shape) (s : State) (r : Rep ws sh s) (b n : ℕ) 
           (λ q. no-room (length ps) 1 (rw (k, frames, p, used, rows, q)) (λ y. omega arith) (rw (e, p, q)))))
 
 -- RESERVE is the model's step
-pub reserve-does : (ws : List ℕ) (sh : Shape) (s : State) → Rep ws sh s → (os : List ℕ) (base b n : ℕ) → Does os sh base s (reserve b n) (reserveR ws os sh base b n)
+pub reserve-does : (ws : List ℕ) (sh : Shape) (s : State) → Rep ws sh s → (os : List ℕ) (base b n : ℕ) → Does ws os sh base s (reserve b n) (reserveR ws os sh base b n)
 unfolding reserveR
 reserve-does ws sh s r os base b n = bool (eqb (batchRefusal (load ws sh) sh b n) 0)
     (λ p. let a = batch-passed ws sh s r b n (eqb-true (batchRefusal (load ws sh) sh b n) 0 p) in

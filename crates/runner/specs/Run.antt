@@ -45,7 +45,7 @@ Short a = length (usedWords a) ≤ answerWords
 -- EACH REQUEST does what the model's step does
 abbrev pub Steps : One → (Request → Bool) → Type 0
 Steps one served = (ws os : List ℕ) (sh : Shape) (s : State) (list : List ℕ) (at base : ℕ) → Rep ws sh s → Formed list at (nextAt list at) → served (requestAt list at) ≡ true
-    → Does os sh base s (requestAt list at) (one ws os sh list at base) × Short (step till s (requestAt list at) .1)
+    → Does ws os sh base s (requestAt list at) (one ws os sh list at base) × Short (step till s (requestAt list at) .1)
 
 -- what a list leaves
 pub record Ran (os : List ℕ) (sh : Shape) (base : ℕ) (s : State) (rs : List Request) (x : Both) : Type 0 where

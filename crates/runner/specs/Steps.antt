@@ -36,7 +36,7 @@ module _ (ws os : List ℕ) (sh : Shape) (s : State) (list : List ℕ) (at base 
   f k = fieldOf list at k
 
   abbrev Done : ℕ → Type 0
-  Done op = served (requestOf op list at) ≡ true → Does os sh base s (requestOf op list at) (serveR op ws os sh list at base)
+  Done op = served (requestOf op list at) ≡ true → Does ws os sh base s (requestOf op list at) (serveR op ws os sh list at base)
 
   serves : (op : ℕ) → 1 ≤ op → op ≤ 24 → Done op
   unfolding serveR requestOf idsAt
