@@ -1,0 +1,162 @@
+-- What the code's loops and branches say, in the terms of the definitions. Assumes nothing.
+use mathlib.Core.Path.{_≡_, refl, sym, ap, _∙_}
+use mathlib.Core.Bool.{Bool, true, false}
+use mathlib.Core.List.{List, [], _∷_}
+use Prim.Native.Nat.{ℕ, suc, _+_, _-_, _≤_, _<_}
+use native.Mathlib.Omega.{arith}
+use lib.Dec.{eqb}
+use Rattle.words.specs.Pick.{yes-is, no-is}
+use Rattle.layout.specs.declared.Shape.{Shape}
+use Rattle.layout.specs.Layout.{Mem, row, item, load, save}
+use Rattle.storage.specs.Ops.{vacateW, occupyW}
+use Rattle.object.specs.Words.{lowerW}
+use Rattle.book.specs.Ops.{rowLink, closeW}
+use Rattle.answer.specs.Does.{Both, both, answered}
+use Rattle.reserve.specs.Ops.{reservationLink, abortR}
+use Rattle.claim.specs.Ops.{claimLink, each, undoW, undoneW, rolledW, rollbackR, sentRights, leaveW, leftW, sendW, sentW, committedW, commitR, paired, fillW, filledW, directW, directCommitR, directRollbackR}
+
+-- `claim_of`
+module _ (m : Mem) (sh : Shape) (i l x w : ℕ) (t : Bool) (e₁ : l ≡ rowLink m sh i) (e₂ : x ≡ l - 1) (e₃ : w ≡ m (row x 1)) (e₄ : t ≡ eqb w 2) where
+  a-claim : eqb (m (row (rowLink m sh i - 1) 1)) 2 ≡ t
+  a-claim = rw (e₄, e₃, e₂, e₁)
+
+  pub claim-yes : t ≡ true → l ≡ claimLink m sh i
+  unfolding claimLink
+  claim-yes y = yes-is _ _ _ _ (a-claim ∙ y) e₁
+
+  pub claim-no : t ≡ false → 0 ≡ claimLink m sh i
+  unfolding claimLink
+  claim-no y = no-is _ _ _ _ (a-claim ∙ y) refl
+
+-- the loops: at number j what is left is still to do
+module _ (f : List ℕ → ℕ → List ℕ) (ws : List ℕ) (n : ℕ) where
+  pub each-start : each f ws 0 n ≡ each f ws 0 (n - 0)
+  each-start = let z : n - 0 ≡ n = omega arith in rw z
+
+  pub each-turn : (us vs : List ℕ) (j : ℕ) → j < n → each f ws 0 n ≡ each f us j (n - j) → vs ≡ f us j → each f ws 0 n ≡ each f vs (j + 1) (n - (j + 1))
+  unfolding each
+  each-turn us vs j l inv a =
+      let z : n - j ≡ suc (n - (j + 1)) = omega arith in let y : j + 1 ≡ suc j = omega arith in
+      inv ∙ ap (each f us j) z ∙ rw (a, y)
+
+  pub each-end : (us : List ℕ) (j : ℕ) → n ≤ j → each f ws 0 n ≡ each f us j (n - j) → us ≡ each f ws 0 n
+  unfolding each
+  each-end us j l inv = let z : n - j ≡ 0 = omega arith in sym (inv ∙ ap (each f us j) z)
+
+-- the test of an entry's operation
+moves : (m : Mem) (x j w : ℕ) (t : Bool) → w ≡ m (item x j 0) → t ≡ eqb w 0 → eqb (m (item x j 0)) 0 ≡ t
+moves m x j w t e q = rw (q, e)
+
+-- `undo_entry`
+module _ (ws vs : List ℕ) (sh : Shape) (b x j o w : ℕ) (t : Bool) (e : o ≡ load ws sh (item x j 2)) (e₁ : w ≡ load ws sh (item x j 0)) (q : t ≡ eqb w 0) where
+  pub undo-move : (k r f : ℕ) → t ≡ true → k ≡ load ws sh (item x j 1) → r ≡ load ws sh (item x j 3) → f ≡ load ws sh (item x j 4) → vs ≡ occupyW ws sh b k o r f → vs ≡ undoW ws sh b x j
+  unfolding undoW
+  undo-move k r f y e₂ e₃ e₄ a = yes-is _ _ _ _ (moves (load ws sh) x j w t e₁ q ∙ y) (rw (a, e, e₂, e₃, e₄))
+
+  pub undo-copy : t ≡ false → vs ≡ lowerW ws sh o → vs ≡ undoW ws sh b x j
+  unfolding undoW
+  undo-copy y a = no-is _ _ _ _ (moves (load ws sh) x j w t e₁ q ∙ y) (rw (a, e))
+
+-- `rollback_row`
+pub rolled-is : (ws w₁ w₂ : List ℕ) (sh : Shape) (x b n : ℕ) → b ≡ load ws sh (row x 2) → n ≡ load ws sh (row x 3) → w₁ ≡ undoneW ws sh b x n → w₂ ≡ closeW w₁ sh x → w₂ ≡ rolledW ws sh x
+unfolding rolledW
+rolled-is ws w₁ w₂ sh x b n e₁ e₂ a₁ a₂ = rw (a₂, a₁, e₁, e₂)
+
+-- `sent_rights`
+module _ (m : Mem) (x j w : ℕ) (t : Bool) (e : w ≡ m (item x j 0)) (q : t ≡ eqb w 0) (r : ℕ) where
+  pub sent-move : t ≡ true → r ≡ m (item x j 5) → r ≡ sentRights m x j
+  unfolding sentRights
+  sent-move y a = yes-is _ _ _ _ (moves m x j w t e q ∙ y) a
+
+  pub sent-copy : t ≡ false → r ≡ m (item x j 3) → r ≡ sentRights m x j
+  unfolding sentRights
+  sent-copy y a = no-is _ _ _ _ (moves m x j w t e q ∙ y) a
+
+-- `leave_entry`
+module _ (ws : List ℕ) (sh : Shape) (b x j w : ℕ) (t : Bool) (e : w ≡ load ws sh (item x j 0)) (q : t ≡ eqb w 0) where
+  pub leave-move : (vs : List ℕ) (k : ℕ) → t ≡ true → k ≡ load ws sh (item x j 1) → vs ≡ vacateW ws sh b k → vs ≡ leaveW ws sh b x j
+  unfolding leaveW
+  leave-move vs k y d a = yes-is _ _ _ _ (moves (load ws sh) x j w t e q ∙ y) (rw (a, d))
+
+  pub leave-copy : t ≡ false → ws ≡ leaveW ws sh b x j
+  unfolding leaveW
+  leave-copy y = no-is _ _ _ _ (moves (load ws sh) x j w t e q ∙ y) refl
+
+-- `send_entries`, `fill_slots`: a turn
+pub send-is : (ws vs : List ℕ) (sh : Shape) (x j r : ℕ) → r ≡ sentRights (load ws sh) x j → vs ≡ save ws sh (item x j 3) r → vs ≡ sendW ws sh x j
+unfolding sendW
+send-is ws vs sh x j r e a = rw (a, e)
+
+pub fill-is : (ws vs : List ℕ) (sh : Shape) (c y x j k o r f : ℕ) → k ≡ load ws sh (item y j 0) → o ≡ load ws sh (item x j 2) → r ≡ sentRights (load ws sh) x j → f ≡ load ws sh (item x j 4)
+    → vs ≡ occupyW ws sh c k o r f → vs ≡ fillW ws sh c y x j
+unfolding fillW
+fill-is ws vs sh c y x j k o r f e₁ e₂ e₃ e₄ a = rw (a, e₁, e₂, e₃, e₄)
+
+-- `commit_row`
+pub committed-is : (ws w₁ w₂ w₃ : List ℕ) (sh : Shape) (x b n : ℕ) → b ≡ load ws sh (row x 2) → n ≡ load ws sh (row x 3) → w₁ ≡ leftW ws sh b x n → w₂ ≡ sentW w₁ sh x n
+    → w₃ ≡ save w₂ sh (row x 1) 3 → w₃ ≡ committedW ws sh x
+unfolding committedW
+committed-is ws w₁ w₂ w₃ sh x b n e₁ e₂ a₁ a₂ a₃ = rw (a₃, a₂, a₁, e₁, e₂)
+
+-- `rollback`, `commit`: the claim with an id, or none
+module _ (ws os os′ : List ℕ) (sh : Shape) (base i l : ℕ) (t : Bool) (e : l ≡ claimLink (load ws sh) sh i) (q : t ≡ eqb l 0) where
+  none-there : eqb (claimLink (load ws sh) sh i) 0 ≡ t
+  none-there = rw (q, e)
+
+  pub rollback-none : t ≡ true → os′ ≡ answered os base (18 ∷ []) → both ws os′ ≡ rollbackR ws os sh base i
+  unfolding rollbackR
+  rollback-none y a = yes-is _ _ _ _ (none-there ∙ y) (ap (both ws) a)
+
+  pub rollback-done : (ws′ : List ℕ) (x : ℕ) → t ≡ false → x ≡ l - 1 → ws′ ≡ rolledW ws sh x → os′ ≡ answered os base (0 ∷ []) → both ws′ os′ ≡ rollbackR ws os sh base i
+  unfolding rollbackR
+  rollback-done ws′ x y d a c = no-is _ _ _ _ (none-there ∙ y) (rw (a, c, d, e))
+
+  pub commit-none : t ≡ true → os′ ≡ answered os base (18 ∷ []) → both ws os′ ≡ commitR ws os sh base i
+  unfolding commitR
+  commit-none y a = yes-is _ _ _ _ (none-there ∙ y) (ap (both ws) a)
+
+  pub commit-done : (ws′ : List ℕ) (x : ℕ) → t ≡ false → x ≡ l - 1 → ws′ ≡ committedW ws sh x → os′ ≡ answered os base (0 ∷ []) → both ws′ os′ ≡ commitR ws os sh base i
+  unfolding commitR
+  commit-done ws′ x y d a c = no-is _ _ _ _ (none-there ∙ y) (rw (a, c, d, e))
+
+-- `paired`
+module _ (m : Mem) (l k : ℕ) (t : Bool) (q : t ≡ eqb l 0) where
+  pub unpaired-claim : t ≡ true → false ≡ paired m l k
+  unfolding paired
+  unpaired-claim y = yes-is _ _ _ _ (sym q ∙ y) refl
+
+  module _ (z : t ≡ false) (t₂ : Bool) (q₂ : t₂ ≡ eqb k 0) where
+    pub unpaired-reservation : t₂ ≡ true → false ≡ paired m l k
+    unfolding paired
+    unpaired-reservation y = no-is _ _ _ _ (sym q ∙ z) (yes-is _ _ _ _ (sym q₂ ∙ y) refl)
+
+    pub paired-is : (x y n c : ℕ) (r : Bool) → t₂ ≡ false → x ≡ l - 1 → n ≡ m (row x 3) → y ≡ k - 1 → c ≡ m (row y 3) → r ≡ eqb n c → r ≡ paired m l k
+    unfolding paired
+    paired-is x y n c r v e₁ e₂ e₃ e₄ a = no-is _ _ _ _ (sym q ∙ z) (no-is _ _ _ _ (sym q₂ ∙ v) (rw (a, e₂, e₁, e₄, e₃)))
+
+-- `direct_rows`
+pub direct-is : (ws w₁ w₂ w₃ w₄ : List ℕ) (sh : Shape) (x y b n c : ℕ) → b ≡ load ws sh (row x 2) → n ≡ load ws sh (row x 3) → c ≡ load ws sh (row y 2) → w₁ ≡ leftW ws sh b x n
+    → w₂ ≡ filledW w₁ sh c y x n → w₃ ≡ closeW w₂ sh x → w₄ ≡ closeW w₃ sh y → w₄ ≡ directW ws sh x y
+unfolding directW
+direct-is ws w₁ w₂ w₃ w₄ sh x y b n c e₁ e₂ e₃ a₁ a₂ a₃ a₄ = rw (a₄, a₃, a₂, a₁, e₁, e₂, e₃)
+
+-- `direct_commit`, `direct_rollback`
+module _ (ws os : List ℕ) (sh : Shape) (base i j l k : ℕ) (t : Bool) (e : l ≡ claimLink (load ws sh) sh i) (d : k ≡ reservationLink (load ws sh) sh j) (q : t ≡ paired (load ws sh) l k) where
+  pairing : paired (load ws sh) (claimLink (load ws sh) sh i) (reservationLink (load ws sh) sh j) ≡ t
+  pairing = rw (q, e, d)
+
+  pub direct-none : (os′ : List ℕ) → t ≡ false → os′ ≡ answered os base (18 ∷ []) → both ws os′ ≡ directCommitR ws os sh base i j
+  unfolding directCommitR
+  direct-none os′ y a = no-is _ _ _ _ (pairing ∙ y) (ap (both ws) a)
+
+  pub direct-done : (ws′ os′ : List ℕ) (x y : ℕ) → t ≡ true → x ≡ l - 1 → y ≡ k - 1 → ws′ ≡ directW ws sh x y → os′ ≡ answered os base (0 ∷ []) → both ws′ os′ ≡ directCommitR ws os sh base i j
+  unfolding directCommitR
+  direct-done ws′ os′ x y v e₁ e₂ a c = yes-is _ _ _ _ (pairing ∙ v) (rw (a, c, e₁, e₂, e, d))
+
+  pub undirect-none : (os′ : List ℕ) → t ≡ false → os′ ≡ answered os base (18 ∷ []) → both ws os′ ≡ directRollbackR ws os sh base i j
+  unfolding directRollbackR
+  undirect-none os′ y a = no-is _ _ _ _ (pairing ∙ y) (ap (both ws) a)
+
+  pub undirect-done : (ws′ : List ℕ) (x : ℕ) (r : Both) → t ≡ true → x ≡ l - 1 → ws′ ≡ rolledW ws sh x → r ≡ abortR ws′ os sh base j → r ≡ directRollbackR ws os sh base i j
+  unfolding directRollbackR
+  undirect-done ws′ x r v e₁ a c = yes-is _ _ _ _ (pairing ∙ v) (rw (c, a, e₁, e))

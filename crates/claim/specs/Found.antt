@@ -1,0 +1,91 @@
+-- The open claim with an id, in the model. Assumes nothing.
+use mathlib.Core.Path.{_≡_, refl, sym, ap, _∙_}
+use mathlib.Core.Bool.{false}
+use mathlib.Core.List.{List}
+use mathlib.Core.Option.{Option, some}
+use Prim.Native.Nat.{ℕ, zero, suc, _-_, _<_}
+use native.Mathlib.Omega.{arith}
+use lib.Dec.{eqb}
+use borrow.Author.Tests.{eqb-true}
+use Rattle.words.specs.Pick.{bool}
+use Rattle.model.specs.Base.{occurs}
+use Rattle.model.specs.State.{till, Entry, Body, Body.reservation, Body.claim, Body.parcel, State}
+use Rattle.model.specs.Book.{find, movedOf}
+use Rattle.model.specs.WellFormed.{BodyRange}
+use Rattle.model.specs.Decision.{Decision, Decision.refusal, asClaim, onClaim}
+use Rattle.invariant.specs.BookLemmas.{found-range}
+use Rattle.invariant.specs.Marks.{Owns}
+use Rattle.invariant.specs.StorageDecisions.{claim-owns}
+use Rattle.layout.specs.declared.Shape.{Shape}
+use Rattle.layout.specs.Layout.{Mem, row, load}
+use Rattle.representation.specs.Represents.{BodyIs, isMarked, Rep}
+use Rattle.book.specs.Ops.{rowLink}
+use Rattle.book.specs.Find.{fits-of, RowAt, row-found, row-none}
+use Rattle.book.specs.Marks.{Moves, moved-occurs, Unnamed, unnamed, named-claim}
+use Rattle.book.specs.Fades.{Fades, named-fades}
+use Rattle.claim.specs.Ops.{claimLink}
+
+-- word 1 of a row tells a claim
+a-claim : (m : Mem) (x : ℕ) (y : Body) → BodyIs m x y → m (row x 1) ≡ 2 → (b : ℕ) × (es : List Entry) × (y ≡ claim b es)
+a-claim m x (reservation b ks) p e = absurd (omega (arith, p .0))
+a-claim m x (claim b es) p e = (b, es, refl)
+a-claim m x (parcel hs) p e = absurd (omega (arith, p .0))
+
+no-claim : (m : Mem) (x : ℕ) (y : Body) → BodyIs m x y → (m (row x 1) ≡ 2 → ⊥) → (f : ℕ → List Entry → Decision) → asClaim (some y) f ≡ refusal 18
+no-claim m x (reservation b ks) p e f = refl
+no-claim m x (claim b es) p e f = absurd (e (p .0))
+no-claim m x (parcel hs) p e f = refl
+
+-- a claim of the book, in its place
+pub record Claimed (m : Mem) (s : State) (x i b : ℕ) (es : List Entry) : Type 0 where
+  pub found : find i (s .book .rows) ≡ some (claim b es)
+  pub row : RowAt m s x i (claim b es)
+
+module _ (ws : List ℕ) (sh : Shape) (s : State) (r : Rep ws sh s) (i : ℕ) where
+  by-row : (x : ℕ) → rowLink (load ws sh) sh i ≡ suc x → (y : Body) × (find i (s .book .rows) ≡ some y) × RowAt (load ws sh) s x i y
+  by-row x e = row-found sh (load ws sh) s (r .reps .memory) (fits-of s (r .wellFormed)) (r .reps .shaped .limits .few-rows) i x e
+
+  -- "unknown .. open row of the kind named": 18
+  pub claim-none : claimLink (load ws sh) sh i ≡ 0 → (f : ℕ → List Entry → Decision) → onClaim s i f ≡ refusal 18
+  unfolding claimLink
+  claim-none e f = go (rowLink (load ws sh) sh i) refl e
+    where
+      go : (l : ℕ) → rowLink (load ws sh) sh i ≡ l → claimLink (load ws sh) sh i ≡ 0 → onClaim s i f ≡ refusal 18
+      go zero q d = ap (λ (o : Option Body). asClaim o f) (row-none sh (load ws sh) s (r .reps .memory) (fits-of s (r .wellFormed)) i q)
+      go (suc x) q d =
+          let p = by-row x q in
+          let z : rowLink (load ws sh) sh i - 1 ≡ x = omega arith in
+          ap (λ (o : Option Body). asClaim o f) (p .1) ∙ no-claim (load ws sh) x (p .0) (p .2 .body) (λ k.
+          let g : rowLink (load ws sh) sh i ≡ 0 = rw (z, k) at d in omega arith) f
+
+  claimed-of : (x : ℕ) (y : Body) (b : ℕ) (es : List Entry) → find i (s .book .rows) ≡ some y → RowAt (load ws sh) s x i y → y ≡ claim b es
+      → (b : ℕ) × (es : List Entry) × Claimed (load ws sh) s x i b es
+  claimed-of x y b es d a e = (b, es, record { found = d ∙ ap some e; row = rw e at a })
+
+  pub claim-some : (x : ℕ) → claimLink (load ws sh) sh i ≡ suc x → (b : ℕ) × (es : List Entry) × Claimed (load ws sh) s x i b es
+  unfolding claimLink
+  claim-some x e = bool (eqb (load ws sh (row (rowLink (load ws sh) sh i - 1) 1)) 2)
+      (λ q. let l : rowLink (load ws sh) sh i ≡ suc x = rw q at e in
+      let p = by-row x l in
+      let z : rowLink (load ws sh) sh i - 1 ≡ x = omega arith in
+      let k : load ws sh (row x 1) ≡ 2 = ap (λ (v : ℕ). load ws sh (row v 1)) (sym z) ∙ eqb-true (load ws sh (row (rowLink (load ws sh) sh i - 1) 1)) 2 q in
+      let g = a-claim (load ws sh) x (p .0) (p .2 .body) k in
+      claimed-of x (p .0) (g .0) (g .1) (p .1) (p .2) (g .2))
+      (λ q. let l : 0 ≡ suc x = rw q at e in absurd (omega arith))
+
+-- ---- what a claim holds
+
+module _ (ws : List ℕ) (sh : Shape) (s : State) (r : Rep ws sh s) (x i b : ℕ) (es : List Entry) (o : Claimed (load ws sh) s x i b es) where
+  -- its moved slots, each marked by it and by no other
+  pub own : Owns false i (movedOf es) (s .tables b .slots)
+  own = claim-owns till s (r .wellFormed) i b es (o .found)
+
+  pub range : BodyRange s (claim b es)
+  range = found-range s (r .wellFormed .ranges .rows) i (claim b es) (o .found)
+
+  -- once these are marked no longer, no marked slot names its place
+  pub freed : (ws′ : List ℕ) (u : State) → Fades (load ws sh) s (load ws′ sh) u → ((k : ℕ) → 0 < occurs k (movedOf es) → isMarked (u .tables b .slots k) ≡ false) → Unnamed (load ws′ sh) u x
+  freed ws′ u p bare = unnamed (load ws′ sh) u x b (Moves es)
+      (named-fades (load ws sh) s (load ws′ sh) u x b (Moves es) p
+      (named-claim sh (load ws sh) s (r .reps .memory) (fits-of s (r .wellFormed)) (r .wellFormed .marks) x i b es (o .row)))
+      (λ k j q. bare k (moved-occurs es j k (q .0) (q .1) (q .2)))

@@ -1,0 +1,9 @@
+pub mod Ops
+pub mod Code
+pub mod Found
+pub mod Entries
+pub mod Rollback
+pub mod Sent
+pub mod Commit
+pub mod Pairs
+pub mod Direct

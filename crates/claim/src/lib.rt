@@ -1,0 +1,231 @@
+// SPDX-FileCopyrightText: 2026 roolrz
+// SPDX-License-Identifier: Apache-2.0
+// Ported from src/capability/handle/mod.rs of HypeR-Proj/kernel, with changes.
+
+// The requests that end a claim: rollback, commit, direct commit and direct rollback.
+ghost use mathlib.Core.Path.{_≡_};
+ghost use Rattle.layout.specs.Layout.{load as loadAt};
+ghost use Rattle.answer.specs.Does.{both};
+ghost use Rattle.claim.specs.Ops.{claimLink, undoW, undoneW, rolledW, rollbackR, sentRights, leaveW, leftW, sentW, committedW, commitR};
+ghost use Rattle.claim.specs.Ops.{paired, filledW, directW, directCommitR, directRollbackR};
+use codec::ReservationId;
+use layout::Shape;
+
+// Word 1 of a claim's row.
+pub const CLAIM: u64 = 2;
+
+// Word 0 of an entry that moves its handle: "operations: 0 Move, 1 Copy".
+pub const MOVE: u64 = 0;
+
+// The place of the open claim with an id, plus 1; 0 if there is none.
+pub fn claim_of(s: &[u64], sh: Shape, id: ReservationId) -> u64
+    ensures { λ r. ⌜ r ≡ claimLink (loadAt (now (s .entry)) sh) sh (id .0) ⌝ }
+{
+    let link = book::row_of(s, sh, id.0);
+    if words::eq(layout::row_word(s, sh, words::dec(link), 1), CLAIM) {
+        return link;
+    }
+    0
+}
+
+// Entry j of the claim in place x, of table b, is undone: a slot holds its handle again, which stands in the entry of its own; a copy is
+// released.
+fn undo_entry(s: &mut [u64], sh: Shape, b: u64, x: u64, j: u64)
+    ensures words { λ _. ⌜ now (s .exit) ≡ undoW (now (s .entry)) sh b x j ⌝ }
+{
+    let o = layout::item_word(s, sh, x, j, 2);
+    if words::eq(layout::item_word(s, sh, x, j, 0), MOVE) {
+        let k = layout::item_word(s, sh, x, j, 1);
+        let r = layout::item_word(s, sh, x, j, 3);
+        let f = layout::item_word(s, sh, x, j, 4);
+        storage::occupy(s, sh, b, k, o, r, f);
+        return;
+    }
+    object::lower_object(s, sh, o);
+}
+
+// Its first n entries are.
+fn undo_entries(s: &mut [u64], sh: Shape, b: u64, x: u64, n: u64)
+    ensures words { λ _. ⌜ now (s .exit) ≡ undoneW (now (s .entry)) sh b x n ⌝ }
+{
+    let mut j: u64 = 0;
+    while j < n {
+        undo_entry(s, sh, b, x, j);
+        j += 1;
+    }
+}
+
+// The claim in place x is rolled back, and its row leaves: mod.rs `rollback_transfer`.
+fn rollback_row(s: &mut [u64], sh: Shape, x: u64)
+    ensures words { λ _. ⌜ now (s .exit) ≡ rolledW (now (s .entry)) sh x ⌝ }
+{
+    let b = layout::row_word(s, sh, x, 2);
+    let n = layout::row_word(s, sh, x, 3);
+    undo_entries(s, sh, b, x, n);
+    book::close_row(s, sh, x);
+}
+
+// A claim ends: its slots hold their handles again, its copies are released. "unknown .. open row of the kind named": 18.
+pub fn rollback(s: &mut [u64], sh: Shape, id: ReservationId, out: &mut [u64], base: usize)
+    ensures { λ _. ⌜ both (now (s .exit)) (now (out .exit)) ≡ rollbackR (now (s .entry)) (now (out .entry)) sh base (id .0) ⌝ }
+{
+    let link = claim_of(s, sh, id);
+    if words::eq(link, 0) {
+        answer::refuse(out, base, format::refusal::MISUSE);
+        return;
+    }
+    rollback_row(s, sh, words::dec(link));
+    answer::say(out, base);
+}
+
+// The rights that the receiver of entry j gets: a copy has them already.
+fn sent_rights(s: &[u64], sh: Shape, x: u64, j: u64) -> u64
+    ensures { λ r. ⌜ r ≡ sentRights (loadAt (now (s .entry)) sh) x j ⌝ }
+{
+    if words::eq(layout::item_word(s, sh, x, j, 0), MOVE) {
+        return layout::item_word(s, sh, x, j, 5);
+    }
+    layout::item_word(s, sh, x, j, 3)
+}
+
+// The slot that entry j moves, if it moves one, falls vacant.
+fn leave_entry(s: &mut [u64], sh: Shape, b: u64, x: u64, j: u64)
+    ensures words { λ _. ⌜ now (s .exit) ≡ leaveW (now (s .entry)) sh b x j ⌝ }
+{
+    if words::eq(layout::item_word(s, sh, x, j, 0), MOVE) {
+        let k = layout::item_word(s, sh, x, j, 1);
+        storage::vacate(s, sh, b, k);
+    }
+}
+
+// Those of the first n entries, "one by one in list order".
+fn leave_entries(s: &mut [u64], sh: Shape, b: u64, x: u64, n: u64)
+    ensures words { λ _. ⌜ now (s .exit) ≡ leftW (now (s .entry)) sh b x n ⌝ }
+{
+    let mut j: u64 = 0;
+    while j < n {
+        leave_entry(s, sh, b, x, j);
+        j += 1;
+    }
+}
+
+// The first n entries become the handles that the receiver gets.
+fn send_entries(s: &mut [u64], sh: Shape, x: u64, n: u64)
+    ensures words { λ _. ⌜ now (s .exit) ≡ sentW (now (s .entry)) sh x n ⌝ }
+{
+    let mut j: u64 = 0;
+    while j < n {
+        let r = sent_rights(s, sh, x, j);
+        layout::put_item(s, sh, x, j, 3, r);
+        j += 1;
+    }
+}
+
+// The claim in place x is a parcel in that place: mod.rs `commit_transfer`.
+fn commit_row(s: &mut [u64], sh: Shape, x: u64)
+    ensures words { λ _. ⌜ now (s .exit) ≡ committedW (now (s .entry)) sh x ⌝ }
+{
+    let b = layout::row_word(s, sh, x, 2);
+    let n = layout::row_word(s, sh, x, 3);
+    leave_entries(s, sh, b, x, n);
+    send_entries(s, sh, x, n);
+    layout::put_row(s, sh, x, 1, parcel::PARCEL);
+}
+
+// "Commit turns a claim's row into a parcel of the same id."
+pub fn commit(s: &mut [u64], sh: Shape, id: ReservationId, out: &mut [u64], base: usize)
+    ensures { λ _. ⌜ both (now (s .exit)) (now (out .exit)) ≡ commitR (now (s .entry)) (now (out .entry)) sh base (id .0) ⌝ }
+{
+    let link = claim_of(s, sh, id);
+    if words::eq(link, 0) {
+        answer::refuse(out, base, format::refusal::MISUSE);
+        return;
+    }
+    commit_row(s, sh, words::dec(link));
+    answer::say(out, base);
+}
+
+// Whether a claim and a reservation, each given by its place plus 1, are there and have one length.
+fn paired(s: &[u64], sh: Shape, l: u64, k: u64) -> bool
+    ensures { λ r. ⌜ r ≡ paired (loadAt (now (s .entry)) sh) l k ⌝ }
+{
+    if words::eq(l, 0) {
+        return false;
+    }
+    if words::eq(k, 0) {
+        return false;
+    }
+    let n = layout::row_word(s, sh, words::dec(l), 3);
+    let m = layout::row_word(s, sh, words::dec(k), 3);
+    words::eq(n, m)
+}
+
+// The first n entries of the claim in place `from` fill the slots of the reservation in place `to`, of table c.
+fn fill_slots(s: &mut [u64], sh: Shape, c: u64, to: u64, from: u64, n: u64)
+    ensures words { λ _. ⌜ now (s .exit) ≡ filledW (now (s .entry)) sh c to from n ⌝ }
+{
+    let mut j: u64 = 0;
+    while j < n {
+        let k = layout::item_word(s, sh, to, j, 0);
+        let o = layout::item_word(s, sh, from, j, 2);
+        let r = sent_rights(s, sh, from, j);
+        let f = layout::item_word(s, sh, from, j, 4);
+        storage::occupy(s, sh, c, k, o, r, f);
+        j += 1;
+    }
+}
+
+// The handles of the claim in place `from` go into the slots of the reservation in place `to`, and both rows leave: mod.rs `commit_locked`.
+fn direct_rows(s: &mut [u64], sh: Shape, from: u64, to: u64)
+    ensures words { λ _. ⌜ now (s .exit) ≡ directW (now (s .entry)) sh from to ⌝ }
+{
+    let b = layout::row_word(s, sh, from, 2);
+    let n = layout::row_word(s, sh, from, 3);
+    let c = layout::row_word(s, sh, to, 2);
+    leave_entries(s, sh, b, from, n);
+    fill_slots(s, sh, c, to, from, n);
+    book::close_row(s, sh, from);
+    book::close_row(s, sh, to);
+}
+
+// A claim's handles straight into a reservation, of one table or two; "unknown .. open row of the kind named .. lengths differ": 18.
+pub fn direct_commit(
+    s: &mut [u64],
+    sh: Shape,
+    id: ReservationId,
+    destination: ReservationId,
+    out: &mut [u64],
+    base: usize,
+)
+    ensures { λ _. ⌜ both (now (s .exit)) (now (out .exit)) ≡ directCommitR (now (s .entry)) (now (out .entry)) sh base (id .0) (destination .0) ⌝ }
+{
+    let l = claim_of(s, sh, id);
+    let k = reserve::reservation_of(s, sh, destination);
+    if paired(s, sh, l, k) {
+        direct_rows(s, sh, words::dec(l), words::dec(k));
+        answer::say(out, base);
+        return;
+    }
+    answer::refuse(out, base, format::refusal::MISUSE);
+}
+
+// A claim rolled back, then a reservation aborted, of one table or two: mod.rs `rollback_locked`.
+pub fn direct_rollback(
+    s: &mut [u64],
+    sh: Shape,
+    id: ReservationId,
+    destination: ReservationId,
+    out: &mut [u64],
+    base: usize,
+)
+    ensures { λ _. ⌜ both (now (s .exit)) (now (out .exit)) ≡ directRollbackR (now (s .entry)) (now (out .entry)) sh base (id .0) (destination .0) ⌝ }
+{
+    let l = claim_of(s, sh, id);
+    let k = reserve::reservation_of(s, sh, destination);
+    if paired(s, sh, l, k) {
+        rollback_row(s, sh, words::dec(l));
+        reserve::abort(s, sh, destination, out, base);
+        return;
+    }
+    answer::refuse(out, base, format::refusal::MISUSE);
+}

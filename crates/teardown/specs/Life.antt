@@ -1,0 +1,132 @@
+-- The lifecycle of one table, in the state: only words 2 and 3 of its head change. Assumes nothing.
+use mathlib.Core.Path.{_≡_, refl, sym, _∙_}
+use mathlib.Core.List.{List, [], _∷_}
+use Prim.Native.Nat.{ℕ, zero, suc, _%_, _<_}
+use native.Mathlib.Omega.{arith}
+use lib.Dec.{eqb}
+use borrow.Author.Tests.{eqb-true, eq-eqb}
+use Rattle.words.specs.Pick.{bool}
+use Rattle.model.specs.Base.{put}
+use Rattle.model.specs.State.{till, Lifecycle, Table, State}
+use Rattle.model.specs.Change.{withTable, withLife}
+use Rattle.model.specs.Sums.{sum-equal}
+use Rattle.invariant.specs.Orders.{recast}
+use Rattle.layout.specs.declared.Shape.{Shape}
+use Rattle.layout.specs.Layout.{Mem, cell, head, load, Write, Write.at, upds, in-head, length-writes, load-writes}
+use Rattle.layout.specs.ShapeOf.{roots-kept}
+use Rattle.representation.specs.Represents.{wordIn, frameOf, slotWord, slotFrom, slotIn, LifeIs, TableIs, Represents}
+use Rattle.storage.specs.Order.{chain-frame}
+use Rattle.storage.specs.Slots.{tagged-rows}
+use Rattle.storage.specs.Whole.{Placed, put-like, rows-kept, mark-kept}
+use Rattle.storage.specs.Reps.{Held}
+use Rattle.teardown.specs.Ops.{lifeW}
+
+module _ (m : Mem) (b w c : ℕ) where
+  -- the memory then: every other address computes to its word in m
+  abbrev lived : Mem
+  lived = upds m (at (head b 2) w ∷ at (head b 3) c ∷ [])
+
+  word-kept : (a k f : ℕ) → slotWord lived a k f ≡ slotWord m a k f
+  word-kept a k f = go (frameOf m a k)
+    where
+      go : (fr : ℕ) → wordIn lived fr (k % 64) f ≡ wordIn m fr (k % 64) f
+      go zero = refl
+      go (suc fr) = refl
+
+  slot-kept : (a k : ℕ) → slotIn lived a k ≡ slotIn m a k
+  slot-kept a k = go (frameOf m a k)
+    where
+      go : (fr : ℕ) → slotFrom lived fr (k % 64) ≡ slotFrom m fr (k % 64)
+      go zero = refl
+      go (suc fr) = let j : ℕ = k % 64 in tagged-rows m lived (λ r. refl) (m (cell fr j 0)) (m (cell fr j 1)) (m (cell fr j 2)) (m (cell fr j 3)) (m (cell fr j 4))
+
+  -- a table, with the lifecycle that its head shows
+  table-lived : (a : ℕ) (t : Table) (x : Lifecycle) → TableIs m a t → LifeIs (lived (head a 2)) (lived (head a 3)) x → TableIs lived a (withLife t x)
+  table-lived a t x i l = record {
+    limit = i .limit;
+    mask = i .mask;
+    life = l;
+    epoch = i .epoch;
+    size = i .size;
+    frame = i .frame;
+    high = i .high;
+    busy = i .busy;
+    slots = λ k. slot-kept a k ∙ i .slots k;
+    free = chain-frame (λ k. slotWord m a k 2) (λ k. slotWord m a k 3) _ _ (m (head a 6)) 0 (t .free) (i .free) (λ k h. (word-kept a k 2, word-kept a k 3));
+    freeCount = i .freeCount;
+    empty = i .empty;
+    detached = i .detached;
+  }
+
+module _ (sh : Shape) (m : Mem) (s : State) (r : Represents sh m s) (b w c : ℕ) (x : Lifecycle) (is : LifeIs w c x) where
+  abbrev u : Table
+  u = withLife (s .tables b) x
+
+  -- THE STATE WITH THE LIFECYCLE
+  with-life : Represents sh (lived m b w c) (withTable s b u)
+  with-life = record {
+    tableCount = r .tableCount;
+    frameCount = r .frameCount;
+    objectCount = r .objectCount;
+    capacity = r .capacity;
+    pageCount = r .pageCount ∙ sum-equal (s .tableCount) (λ a. s .tables a .limit) (λ a. put (s .tables) b u a .limit) (λ a l. sym (put-like (λ t. t .limit) (s .tables) b u refl a));
+    first = λ a l. r .first a l ∙ sum-equal a (λ i. s .tables i .limit) (λ i. put (s .tables) b u i .limit) (λ i h. sym (put-like (λ t. t .limit) (s .tables) b u refl i));
+    tables = λ a l. bool (eqb a b)
+        (λ e. let q : a ≡ b = eqb-true a b e in rw (e, q) (table-lived m b w c b (s .tables b) x (rw q at (r .tables a l)) (rw (eq-eqb b b refl) is)))
+        (λ e. rw e (table-lived m b w c a (s .tables a) (s .tables a .life) (r .tables a l) (rw e (r .tables a l .life))));
+    frames = let q = r .frames in record {
+      held = λ a p f l h e. q .held a p f l (rw (put-like (λ t. t .size) (s .tables) b u refl a) at h) (sym (put-like (λ t. t .pages p .frame) (s .tables) b u refl a) ∙ e);
+      free = q .free;
+      sixteens = q .sixteens;
+      hundreds = q .hundreds;
+      thousands = q .thousands;
+      count = q .count;
+    };
+    objects = λ o l. let q = r .objects o l in record {
+      koid = q .koid;
+      kind = q .kind;
+      class = q .class;
+      supported = q .supported;
+      exportable = q .exportable;
+      stage = q .stage;
+      count = q .count;
+      limit = q .limit;
+    };
+    book = let q = r .book in record {
+      next = q .next;
+      used = q .used;
+      rows = rows-kept m (lived m b w c) (λ i. refl) (λ i f. refl) (λ i j f. refl) 0 (s .book .rows) (q .rows);
+      places = q .places;
+      marks = λ a k l h. mark-kept m (lived m b w c) s a k (λ i. refl) (λ i f. refl) (λ i j f. refl) (word-kept m b w c a k 0) (word-kept m b w c a k 2) (word-kept m b w c a k 3)
+          (q .marks a k l (rw (put-like (λ t. t .slots k) (s .tables) b u refl a) at h));
+    };
+  }
+
+module _ (ws : List ℕ) (sh : Shape) (s : State) (h : Held ws sh s) (b : ℕ) (lb : b < s .tableCount) (w c : ℕ) (x : Lifecycle) (is : LifeIs w c x) where
+  placed : Placed (withTable s b (withLife (s .tables b) x))
+  placed = let u : Table = withLife (s .tables b) x in let p = h .placed in record {
+    sound = λ a l. bool (eqb a b)
+        (λ e. let o = p .sound b lb in rw e (recast till (s .tables b) (s .tables b .free) o (s .tables b .mask) x (s .tables b .epoch) (s .tables b .free) (o .epoch)))
+        (λ e. rw e (p .sound a l));
+    frames = λ a q f l i e. p .frames a q f l (rw (put-like (λ t. t .size) (s .tables) b u refl a) at i) (sym (put-like (λ t. t .pages q .frame) (s .tables) b u refl a) ∙ e);
+  }
+
+  -- LIFE: words that represent a state come to represent the state with the table's lifecycle
+  pub life-held : Held (lifeW ws sh b w c) sh (withTable s b (withLife (s .tables b) x))
+  unfolding lifeW
+  life-held =
+      let xs : List Write = at (head b 2) w ∷ at (head b 3) c ∷ [] in
+      let k : b < sh .tables = omega (arith, h .reps .memory .tableCount) in
+      let q = h .reps .shaped in
+      let e = load-writes ws sh (q .room) xs (in-head sh b 2 k (omega arith), (in-head sh b 3 k (omega arith), tt)) in
+      record {
+        reps = record {
+          shaped = record {
+            limits = q .limits;
+            room = omega (arith, length-writes ws sh xs, q .room);
+            roots = rw e (roots-kept sh (load ws sh) (lived (load ws sh) b w c) (λ f. refl) (q .roots));
+          };
+          memory = rw e (with-life sh (load ws sh) s (h .reps .memory) b w c x is);
+        };
+        placed = placed;
+      }

@@ -1,0 +1,12 @@
+pub mod Ops
+pub mod Code
+pub mod Checks
+pub mod Preparing
+pub mod TransferCode
+pub mod Claim
+pub mod Decided
+pub mod Consumption
+pub mod Faults
+pub mod Raised
+pub mod Entries
+pub mod Prepared
