@@ -1,7 +1,6 @@
 -- A list over words, one request after the other: if each request does what the model's step does, the list does what the model's run does.
 -- Assumes nothing.
 use mathlib.Core.Path.{_≡_, refl, sym, ap, subst, _∙_}
-use mathlib.Core.Bool.{Bool, true, false, _&&_}
 use mathlib.Core.List.{List, [], _∷_, _++_, append-assoc}
 use mathlib.Core.Option.{Option, none, some}
 use Prim.Native.Nat.{ℕ, zero, suc, _+_, _-_, _*_, _≤_, _<_}
@@ -10,9 +9,8 @@ use lib.ListN.{length, take, drop, length-append}
 use lib.Seq.{length-take-le, take-at, drop-append-add, drop-append-le}
 use lib.Dec.{ltb}
 use borrow.Author.Tests.{ltb-true, ltb-false}
-use Rattle.words.specs.Pick.{bool, both as both-true}
+use Rattle.words.specs.Pick.{bool}
 use Rattle.format.specs.Format.{answerWords}
-use Rattle.model.specs.Base.{every}
 use Rattle.model.specs.State.{till, State}
 use Rattle.model.specs.Request.{Request, Answer}
 use Rattle.model.specs.Step.{step, run}
@@ -26,6 +24,7 @@ use Rattle.request.specs.Place.{requestAt, requestEnd, nextAt}
 use Rattle.request.specs.Answers.{cleared, answer-is}
 use Rattle.request.specs.Laws.{Formed, Turn, list-at, list-done}
 use Rattle.answer.specs.Does.{Both, both, Does}
+use Rattle.contract.specs.Meets.{Passes}
 
 -- a request at a place of a list, over the words of a state, whose 72 answer words begin at a base
 abbrev pub One : Type 0
@@ -43,13 +42,14 @@ abbrev pub Short : Answer → Type 0
 Short a = length (usedWords a) ≤ answerWords
 
 -- EACH REQUEST does what the model's step does
-abbrev pub Steps : One → (Request → Bool) → Type 0
-Steps one served = (ws os : List ℕ) (sh : Shape) (s : State) (list : List ℕ) (at base : ℕ) → Rep ws sh s → Formed list at (nextAt list at) → served (requestAt list at) ≡ true
+abbrev pub Steps : One → Type 0
+Steps one = (ws os : List ℕ) (sh : Shape) (s : State) (list : List ℕ) (at base : ℕ) → Rep ws sh s → Formed list at (nextAt list at)
     → Does ws os sh base s (requestAt list at) (one ws os sh list at base) × Short (step till s (requestAt list at) .1)
 
 -- what a list leaves
-pub record Ran (os : List ℕ) (sh : Shape) (base : ℕ) (s : State) (rs : List Request) (x : Both) : Type 0 where
+pub record Ran (ws os : List ℕ) (sh : Shape) (base : ℕ) (s : State) (rs : List Request) (x : Both) : Type 0 where
   pub state : Rep (x .state) sh (run till s rs .0)
+  pub each : Passes sh ws s rs (x .state)
   pub answers : x .answers ≡ take base os ++ (allWords (run till s rs .1) ++ drop (base + answerWords * length rs) os)
 
 take-drop : (n : ℕ) (xs : List ℕ) → n ≤ length xs → xs ≡ take n xs ++ drop n xs
@@ -97,40 +97,41 @@ joined-length base k os us w h l e =
     let d : length os ≡ length (take (base + k) os) + length (drop (base + k) os) = ap length (take-drop (base + k) os h) ∙ length-append (take (base + k) os) (drop (base + k) os) in
     ap length e ∙ omega (arith, length-append (take base os) (w ++ drop (base + k) os), length-append w (drop (base + k) os), lf, l, d, length-take-le (base + k) os h)
 
-module _ (one : One) (served : Request → Bool) (steps : Steps one served) where
+module _ (one : One) (steps : Steps one) where
   -- THE LIST does what the model's run does
   pub list-ran : (n : ℕ) (ws os : List ℕ) (sh : Shape) (s : State) (list : List ℕ) (at base : ℕ) (rs : List Request) → Rep ws sh s → readList (drop at list) ≡ some rs → length rs ≡ n
-      → every served rs ≡ true → base + answerWords * n ≤ length os → Ran os sh base s rs (listR one n ws os sh list at base)
+      → base + answerWords * n ≤ length os → Ran ws os sh base s rs (listR one n ws os sh list at base)
   unfolding listR wordsOf
-  list-ran zero ws os sh s list at base [] r e l v h = record {
+  list-ran zero ws os sh s list at base [] r e l h = record {
     state = r;
+    each = refl;
     answers = let q : base + answerWords * 0 ≡ base = omega arith in rw q (take-drop base os (omega arith));
   }
-  list-ran zero ws os sh s list at base (x ∷ rs) r e l v h = absurd (omega arith)
-  list-ran (suc n) ws os sh s list at base rs r e l v h = bool (ltb at (length list))
+  list-ran zero ws os sh s list at base (x ∷ rs) r e l h = absurd (omega arith)
+  list-ran (suc n) ws os sh s list at base rs r e l h = bool (ltb at (length list))
       (λ b. let t : Turn list at rs = list-at list at rs e (ltb-true at (length list) b) in
       go t (λ ws′ os′ s′ rest. list-ran n ws′ os′ sh s′ list (nextAt list at) (base + answerWords) rest))
       (λ b. let z : rs ≡ [] = list-done list at rs e (ltb-false at (length list) b) in absurd (omega (arith, ap length z)))
     where
       go : (t : Turn list at rs)
-          → ((ws′ os′ : List ℕ) (s′ : State) (rest : List Request) → Rep ws′ sh s′ → readList (drop (nextAt list at) list) ≡ some rest → length rest ≡ n → every served rest ≡ true
-          → base + answerWords + answerWords * n ≤ length os′ → Ran os′ sh (base + answerWords) s′ rest (listR one n ws′ os′ sh list (nextAt list at) (base + answerWords)))
-          → Ran os sh base s rs (listR one (suc n) ws os sh list at base)
+          → ((ws′ os′ : List ℕ) (s′ : State) (rest : List Request) → Rep ws′ sh s′ → readList (drop (nextAt list at) list) ≡ some rest → length rest ≡ n
+          → base + answerWords + answerWords * n ≤ length os′ → Ran ws′ os′ sh (base + answerWords) s′ rest (listR one n ws′ os′ sh list (nextAt list at) (base + answerWords)))
+          → Ran ws os sh base s rs (listR one (suc n) ws os sh list at base)
       go t rec =
           let req : Request = requestAt list at in
           let x : Both = one ws (cleared os base answerWords) sh list at base in
-          let first : every served (req ∷ t .rest) ≡ true = sym (ap (every served) (t .first)) ∙ v in
-          let sv = both-true (served req) (every served (t .rest)) first in
-          let d = steps ws (cleared os base answerWords) sh s list at base r (t .formed) (sv .0) in
+          let d = steps ws (cleared os base answerWords) sh s list at base r (t .formed) in
           let us : x .answers ≡ take base os ++ (wordsOf (step till s req .1) ++ drop (base + answerWords) os) =
           d .0 .answers ∙ answer-is os base (usedWords (step till s req .1)) (omega arith) (d .1) in
           let wl : length (wordsOf (step till s req .1)) ≡ answerWords = words-length (step till s req .1) in
           let long : length (x .answers) ≡ length os = joined-length base answerWords os (x .answers) (wordsOf (step till s req .1)) (omega arith) wl us in
           let lr : length (t .rest) ≡ n = omega (arith, l, ap length (t .first)) in
-          let ran : Ran (x .answers) sh (base + answerWords) (step till s req .0) (t .rest) (listR one n (x .state) (x .answers) sh list (nextAt list at) (base + answerWords)) =
-          rec (x .state) (x .answers) (step till s req .0) (t .rest) (record { reps = d .0 .state; wellFormed = kept till till-sane s (r .wellFormed) req }) (t .left) lr (sv .1) (omega (arith, long)) in
+          let after : Rep (x .state) sh (step till s req .0) = record { reps = d .0 .state; wellFormed = kept till till-sane s (r .wellFormed) req } in
+          let ran : Ran (x .state) (x .answers) sh (base + answerWords) (step till s req .0) (t .rest) (listR one n (x .state) (x .answers) sh list (nextAt list at) (base + answerWords)) =
+          rec (x .state) (x .answers) (step till s req .0) (t .rest) after (t .left) lr (omega (arith, long)) in
           rw (t .first) (record {
             state = ran .state;
+            each = (x .state, after, d .0 .kept, d .0 .spent, ran .each);
             answers =
                 let q : answerWords + answerWords * length (t .rest) ≡ answerWords * suc (length (t .rest)) = omega arith in
                 let j = joined base answerWords os (x .answers) (wordsOf (step till s req .1)) (allWords (run till (step till s req .0) (t .rest) .1))

@@ -8,22 +8,22 @@ use native.Mathlib.Omega.{arith}
 use lib.ListN.{length, take, drop, length-append}
 use lib.Dec.{eqb, ltb}
 use borrow.Author.Tests.{ltb-false, not-true}
-use Rattle.words.specs.Pick.{clash, bool}
+use Rattle.words.specs.Pick.{bool}
 use Rattle.authority.specs.Rights.{contains, duplicateRight}
 use Rattle.format.specs.Format.{answerWords}
-use Rattle.model.specs.Base.{atMost, pick}
+use Rattle.model.specs.Base.{atMost, isSome, pick}
 use Rattle.model.specs.State.{till, Handle, Slot, Table, State, isActive, isOccupied, knownFlags, maxBatch}
 use Rattle.model.specs.Storage.{pagesFor, Walk, walk, lengthOf, grow}
 use Rattle.model.specs.Objects.{isNowActive, isNowRetired}
-use Rattle.model.specs.Book.{find, freeRow, idLeft}
+use Rattle.model.specs.Book.{find, freeRow, idLeft, anyOpen, copiesOf}
+use Rattle.model.specs.Transfer.{itemsFault, copiesFault, entryFor}
 use Rattle.model.specs.Decision.{Decision, Decision.refusal, Decision.refusalAfterId, Decision.accept, asParcel, handlesOf, distinct}
 use Rattle.model.specs.Lookup.{lookup, snapshotAt, valueAt}
 use Rattle.model.specs.Request.{Request, Answer, Snapshot, Answer.batch, Answer.scanned, Request.newObject, Request.duplicate, Request.releaseParcel, Request.retireObject, Request.reserve, Request.trim, Request.abort, Request.publish, Request.getInfo, Request.resolve, Request.replace, Request.close, Request.scanHandles, Request.prepareTransfer, Request.prepareConsumption, Request.rollback, Request.commit, Request.directCommit, Request.directRollback, Request.removeStoppingOwner, Request.teardownStart, Request.teardownStep, Request.teardownFinish, Request.takeEmptyPage}
 use Rattle.model.specs.Words.{usedWords, entryWords, infoWords}
-use Rattle.model.specs.Step.{decide, step, carry, newObjectOf, duplicateOf, releaseParcelOf, retireObjectOf, reserveOf, trimOf, abortOf, publishOf, getInfoOf, resolveOf, replaceOf, closeOf, scanHandlesOf, takeEmptyPageOf, takeAt, snapshotPage}
-use Rattle.model.specs.Decided.{Decided, Any, accepts, checked, with-some, with-view, with-handle, with-reservation, either-way, first-or}
-use Rattle.runner.specs.Run.{Short}
-use Rattle.runner.specs.Served.{served}
+use Rattle.model.specs.Step.{decide, step, carry, newObjectOf, duplicateOf, releaseParcelOf, retireObjectOf, reserveOf, trimOf, abortOf, publishOf, getInfoOf, resolveOf, replaceOf, closeOf, scanHandlesOf, prepareTransferOf, prepareConsumptionOf, rollbackOf, commitOf, directCommitOf, directRollbackOf, removeStoppingOwnerOf, removeAt, nextOccupied, teardownStartOf, teardownStepOf, tearAt, teardownFinishOf, takeEmptyPageOf, takeAt, snapshotPage}
+use Rattle.model.specs.Decided.{Decided, Any, accepts, checked, with-some, with-view, with-handle, with-reservation, with-claim, while-tearing, after-id, found-or, either-way, first-or}
+use Rattle.contract.specs.Run.{Short}
 
 take-most {ℓ} : {A : Type ℓ} (n : ℕ) (xs : List A) → length (take n xs) ≤ n
 take-most zero xs = omega arith
@@ -63,9 +63,9 @@ scan-short s b c =
     omega (arith, entries-length (map (snapshotAt s t) (w .found)), map-length (snapshotAt s t) (w .found), walk-most (t .slots) start (min 256 (lengthOf till t - start)) 8)
 
 module _ (s : State) where
-  pub decide-short : (r : Request) → served r ≡ true → Decided Any Any (λ u a. Short a) (decide till s r)
-  unfolding decide newObjectOf duplicateOf releaseParcelOf retireObjectOf reserveOf trimOf abortOf publishOf getInfoOf resolveOf replaceOf closeOf scanHandlesOf takeEmptyPageOf usedWords
-  decide-short (newObject o r f) sv =
+  pub decide-short : (r : Request) → Decided Any Any (λ u a. Short a) (decide till s r)
+  unfolding decide newObjectOf duplicateOf releaseParcelOf retireObjectOf reserveOf trimOf abortOf publishOf getInfoOf resolveOf replaceOf closeOf scanHandlesOf prepareTransferOf prepareConsumptionOf rollbackOf commitOf directCommitOf directRollbackOf removeStoppingOwnerOf teardownStartOf teardownStepOf teardownFinishOf takeEmptyPageOf usedWords
+  decide-short (newObject o r f) =
       checked (ltb o (s .objectCount)) 18 tt λ e.
       checked (freeRow s) 1 tt λ e.
       checked (contains (s .objects o .supported) r) 6 tt λ e.
@@ -76,7 +76,7 @@ module _ (s : State) where
       checked (ltb (s .objects o .count) (s .objects o .limit)) 11 tt λ e.
       checked (idLeft s) 12 tt λ e.
       accepts (omega arith)
-  decide-short (duplicate b v r) sv =
+  decide-short (duplicate b v r) =
       checked (ltb b (s .tableCount)) 18 tt λ e.
       checked (isActive (s .tables b .life)) 16 tt λ e.
       checked (freeRow s) 1 tt λ e.
@@ -87,13 +87,13 @@ module _ (s : State) where
       checked (not (eqb (s .objects (h .object) .count) (s .objects (h .object) .limit))) 11 tt λ e.
       checked (idLeft s) 12 tt λ e.
       accepts (omega arith)
-  decide-short (releaseParcel i) sv =
+  decide-short (releaseParcel i) =
       with-some (asParcel (find i (s .book .rows))) 18 tt λ hs e.
       accepts (omega arith)
-  decide-short (retireObject o) sv =
+  decide-short (retireObject o) =
       checked (ltb o (s .objectCount)) 18 tt λ e.
       accepts (omega arith)
-  decide-short (reserve b n) sv =
+  decide-short (reserve b n) =
       checked (ltb b (s .tableCount)) 18 tt λ e.
       checked (isActive (s .tables b .life)) 16 tt λ e.
       checked (ltb 0 n) 17 tt λ e.
@@ -103,57 +103,105 @@ module _ (s : State) where
       checked (freeRow s) 1 tt λ e.
       checked (idLeft s) 12 tt λ e.
       accepts (batch-short s b n ps few)
-  decide-short (trim i n) sv =
+  decide-short (trim i n) =
       with-reservation (find i (s .book .rows)) tt λ b ks e.
       checked (ltb 0 n) 18 tt λ e.
       checked (atMost n (length ks)) 18 tt λ e.
       accepts (omega arith)
-  decide-short (abort i) sv =
+  decide-short (abort i) =
       with-reservation (find i (s .book .rows)) tt λ b ks e.
       accepts (omega arith)
-  decide-short (publish i is) sv =
+  decide-short (publish i is) =
       with-reservation (find i (s .book .rows)) tt λ b ks e.
       with-some (handlesOf is (s .book .rows)) 18 tt λ hs e.
       checked (distinct is) 18 tt λ e.
       checked (eqb (length hs) (length ks)) 18 tt λ e.
       accepts (omega arith)
-  decide-short (getInfo b v) sv =
+  decide-short (getInfo b v) =
       with-handle s b v tt tt tt tt λ l a k h e.
       accepts (omega arith)
-  decide-short (resolve b v r kind) sv =
+  decide-short (resolve b v r kind) =
       with-handle s b v tt tt tt tt λ l a k h e.
       checked (contains (h .rights) r) 5 tt λ e.
       checked (eqb (s .objects (h .object) .kind) kind) 4 tt λ e.
       accepts (omega arith)
-  decide-short (replace b v r) sv =
+  decide-short (replace b v r) =
       with-handle s b v tt tt tt tt λ l a k h e.
       checked (contains (h .rights) r) 5 tt λ e.
       accepts (omega arith)
-  decide-short (close b v) sv =
+  decide-short (close b v) =
       with-handle s b v tt tt tt tt λ l a k h e.
       accepts (omega arith)
-  decide-short (scanHandles b c) sv =
+  decide-short (scanHandles b c) =
       checked (ltb b (s .tableCount)) 18 tt λ e.
       checked (isActive (s .tables b .life)) 16 tt λ e.
       accepts (scan-short s b c)
-  decide-short (prepareConsumption b v r kind koid) sv = clash refl (sym sv)
-  decide-short (rollback i) sv = clash refl (sym sv)
-  decide-short (commit i) sv = clash refl (sym sv)
-  decide-short (directCommit i j) sv = clash refl (sym sv)
-  decide-short (directRollback i j) sv = clash refl (sym sv)
-  decide-short (teardownStart b) sv = clash refl (sym sv)
-  decide-short (prepareTransfer b route o k qs) sv = clash refl (sym sv)
-  decide-short (removeStoppingOwner b c) sv = clash refl (sym sv)
-  decide-short (teardownStep b) sv = clash refl (sym sv)
-  decide-short (teardownFinish b) sv = clash refl (sym sv)
-  decide-short (takeEmptyPage b) sv =
+  decide-short (prepareTransfer b route o k qs) =
+      let t : Table = s .tables b in
+      let hs : List Handle = copiesOf (map (entryFor t) qs) in
+      checked (ltb b (s .tableCount)) 18 tt λ e.
+      checked (isActive (t .life)) 16 tt λ e.
+      checked (ltb 0 (length qs)) 17 tt λ e.
+      checked (atMost (length qs) maxBatch) 13 tt λ e.
+      checked (freeRow s) 1 tt λ e.
+      checked (idLeft s) 12 tt λ e.
+      after-id (itemsFault s t route o k [] qs) (λ n e. tt) λ e.
+      after-id (copiesFault (s .objects) hs) (λ n e. tt) λ e.
+      accepts (omega arith)
+  decide-short (prepareConsumption b v r kind koid) =
+      checked (ltb b (s .tableCount)) 18 tt λ e.
+      checked (isActive (s .tables b .life)) 16 tt λ e.
+      checked (freeRow s) 1 tt λ e.
+      with-view (lookup (s .tables b) v) tt tt λ k h e.
+      checked (contains (h .rights) r) 5 tt λ e.
+      checked (eqb (s .objects (h .object) .kind) kind) 4 tt λ e.
+      checked (eqb (s .objects (h .object) .koid) koid) 2 tt λ e.
+      checked (idLeft s) 12 tt λ e.
+      accepts (omega arith)
+  decide-short (rollback i) =
+      with-claim (find i (s .book .rows)) tt λ b es e.
+      accepts (omega arith)
+  decide-short (commit i) =
+      with-claim (find i (s .book .rows)) tt λ b es e.
+      accepts (omega arith)
+  decide-short (directCommit i j) =
+      with-claim (find i (s .book .rows)) tt λ b es e.
+      with-reservation (find j (s .book .rows)) tt λ c ks e.
+      checked (eqb (length es) (length ks)) 18 tt λ e.
+      accepts (omega arith)
+  decide-short (directRollback i j) =
+      with-claim (find i (s .book .rows)) tt λ b es e.
+      with-reservation (find j (s .book .rows)) tt λ c ks e.
+      checked (eqb (length es) (length ks)) 18 tt λ e.
+      accepts (omega arith)
+  decide-short (removeStoppingOwner b c) =
+      let t : Table = s .tables b in
+      checked (ltb b (s .tableCount)) 18 tt λ e.
+      either-way (isActive (t .life)) (λ a. found-or (removeAt till s b t) (nextOccupied till t c) (accepts (omega arith)) λ k e. accepts (omega arith)) (accepts (omega arith))
+  decide-short (teardownStart b) =
+      checked (ltb b (s .tableCount)) 18 tt λ e.
+      checked (isActive (s .tables b .life)) 16 tt λ e.
+      checked (not (anyOpen b (s .book .rows))) 14 tt λ e.
+      accepts (omega arith)
+  decide-short (teardownStep b) =
+      let t : Table = s .tables b in
+      checked (ltb b (s .tableCount)) 18 tt λ e.
+      while-tearing till (t .life) tt λ c e.
+      found-or (tearAt till s b t) (nextOccupied till t c) (accepts (omega arith)) λ k e. accepts (omega arith)
+  decide-short (teardownFinish b) =
+      let t : Table = s .tables b in
+      checked (ltb b (s .tableCount)) 18 tt λ e.
+      while-tearing till (t .life) tt λ c e.
+      checked (not (isSome (nextOccupied till t 0))) 18 tt λ e.
+      accepts (omega arith)
+  decide-short (takeEmptyPage b) =
       let t : Table = s .tables b in
       checked (ltb b (s .tableCount)) 18 tt λ e.
       either-way (isActive (t .life)) (λ a. first-or (takeAt till s b t) (t .empty) (accepts (omega arith)) λ p ps e. accepts (omega arith)) (accepts (omega arith))
 
-  pub step-short : (r : Request) → served r ≡ true → Short (step till s r .1)
+  pub step-short : (r : Request) → Short (step till s r .1)
   unfolding step usedWords
-  step-short r sv = go (decide till s r) (decide-short r sv)
+  step-short r = go (decide till s r) (decide-short r)
     where
       go : (d : Decision) → Decided Any Any (λ u a. Short a) d → Short (carry till s d .1)
       go (refusal n) p = omega arith

@@ -1,6 +1,3 @@
-pub mod Meets
-pub mod Run
+pub mod Known
 pub mod Serve
-pub mod Served
-pub mod Short
 pub mod Steps

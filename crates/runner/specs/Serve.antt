@@ -15,6 +15,10 @@ use Rattle.lookup.specs.Read.{getInfoR, resolveR}
 use Rattle.close.specs.Replace.{replaceR}
 use Rattle.close.specs.Close.{closeR}
 use Rattle.lookup.specs.Scan.{scanR}
+use Rattle.transfer.specs.Ops.{consumptionR}
+use Rattle.transfer.specs.Preparing.{transferAt}
+use Rattle.claim.specs.Ops.{rollbackR, commitR, directCommitR, directRollbackR}
+use Rattle.teardown.specs.Ops.{stoppingR, teardownStartR, teardownStepR, teardownFinishR}
 use Rattle.detach.specs.Ops.{takePageR}
 
 -- a field's word
@@ -36,8 +40,18 @@ serveR op ws os sh list at base =
     (pick (eqb op 11) (replaceR ws os sh base (fieldOf list at 1) (fieldOf list at 4) (fieldOf list at 5))
     (pick (eqb op 12) (closeR ws os sh base (fieldOf list at 1) (fieldOf list at 4))
     (pick (eqb op 13) (scanR ws os sh base (fieldOf list at 1) (fieldOf list at 11))
+    (pick (eqb op 14) (transferAt ws os sh base list at)
+    (pick (eqb op 15) (consumptionR ws os sh base (fieldOf list at 1) (fieldOf list at 4) (fieldOf list at 5) (fieldOf list at 9) (fieldOf list at 10))
+    (pick (eqb op 16) (rollbackR ws os sh base (fieldOf list at 7))
+    (pick (eqb op 17) (commitR ws os sh base (fieldOf list at 7))
+    (pick (eqb op 18) (directCommitR ws os sh base (fieldOf list at 7) (fieldOf list at 8))
+    (pick (eqb op 19) (directRollbackR ws os sh base (fieldOf list at 7) (fieldOf list at 8))
+    (pick (eqb op 20) (stoppingR ws os sh base (fieldOf list at 1) (fieldOf list at 11))
+    (pick (eqb op 21) (teardownStartR ws os sh base (fieldOf list at 1))
+    (pick (eqb op 22) (teardownStepR ws os sh base (fieldOf list at 1))
+    (pick (eqb op 23) (teardownFinishR ws os sh base (fieldOf list at 1))
     (pick (eqb op 24) (takePageR ws os sh base (fieldOf list at 1))
-    (both ws os))))))))))))))
+    (both ws os))))))))))))))))))))))))
 
 abbrev pub oneR : List ℕ → List ℕ → Shape → List ℕ → ℕ → ℕ → Both
 oneR ws os sh list at base = serveR (opAt list at) ws os sh list at base
@@ -45,3 +59,8 @@ oneR ws os sh list at base = serveR (opAt list at) ws os sh list at base
 -- by a known op
 pub at-op : (op k : ℕ) (ws os : List ℕ) (sh : Shape) (list : List ℕ) (at base : ℕ) (x : Both) → op ≡ k → x ≡ serveR k ws os sh list at base → x ≡ serveR op ws os sh list at base
 at-op op k ws os sh list at base x e p = cc
+
+-- a consumption's five fields, read one by one
+pub consumption-read : (ws os : List ℕ) (sh : Shape) (base b v r k o b′ v′ r′ k′ o′ : ℕ) (x : Both) → b ≡ b′ → v ≡ v′ → r ≡ r′ → k ≡ k′ → o ≡ o′ → x ≡ consumptionR ws os sh base b v r k o
+    → x ≡ consumptionR ws os sh base b′ v′ r′ k′ o′
+consumption-read ws os sh base b v r k o b′ v′ r′ k′ o′ x p q s t u e = rw (← p, ← q, ← s, ← t, ← u) e

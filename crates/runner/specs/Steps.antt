@@ -1,9 +1,8 @@
--- Each request that the runner serves does what the model's step does. Assumes nothing.
+-- Each request does what the model's step does. Assumes nothing.
 use mathlib.Core.Path.{_≡_, refl, sym, ap, _∙_}
-use mathlib.Core.Bool.{Bool, true, false}
 use mathlib.Core.List.{List}
 use Prim.Native.Nat.{ℕ, _≤_}
-use Rattle.words.specs.Pick.{clash}
+use lib.ListN.{length}
 use Rattle.model.specs.State.{till, State}
 use Rattle.layout.specs.declared.Shape.{Shape}
 use Rattle.representation.specs.Represents.{Rep}
@@ -21,51 +20,62 @@ use Rattle.parcel.specs.Opened.{retireObject-does, newObject-does, duplicate-do
 use Rattle.parcel.specs.Released.{releaseParcel-does}
 use Rattle.parcel.specs.Publishing.{idsAt}
 use Rattle.parcel.specs.Published.{publish-does}
+use Rattle.transfer.specs.Prepared.{transferAt-does}
+use Rattle.transfer.specs.Consumption.{prepareConsumption-does}
+use Rattle.claim.specs.Rollback.{rollback-does}
+use Rattle.claim.specs.Commit.{commit-does}
+use Rattle.claim.specs.Direct.{directCommit-does, directRollback-does}
+use Rattle.teardown.specs.Teardown.{removeStoppingOwner-does, teardownStart-does, teardownStep-does, teardownFinish-does}
 use Rattle.layout.specs.Layout.{load}
 use Rattle.wellformed.specs.Small.{Small}
 use Rattle.wellformed.specs.View.{viewOf}
 use Rattle.wellformed.specs.Whole.{wellB, sound, complete}
-use Rattle.runner.specs.Meets.{Called, runW, Meets, run-meets}
-use Rattle.runner.specs.Run.{Steps}
+use Rattle.contract.specs.Meets.{Called, Meets}
+use Rattle.contract.specs.Run.{Steps}
+use Rattle.contract.specs.Short.{step-short}
+use Rattle.contract.specs.Call.{runW, run-meets}
 use Rattle.runner.specs.Serve.{fieldOf, serveR, oneR}
-use Rattle.runner.specs.Served.{served, known}
-use Rattle.runner.specs.Short.{step-short}
+use Rattle.runner.specs.Known.{known}
 
 module _ (ws os : List ℕ) (sh : Shape) (s : State) (list : List ℕ) (at base : ℕ) (r : Rep ws sh s) where
-  f : ℕ → ℕ
-  f k = fieldOf list at k
-
   abbrev Done : ℕ → Type 0
-  Done op = served (requestOf op list at) ≡ true → Does ws os sh base s (requestOf op list at) (serveR op ws os sh list at base)
+  Done op = Does ws os sh base s (requestOf op list at) (serveR op ws os sh list at base)
 
   serves : (op : ℕ) → 1 ≤ op → op ≤ 24 → Done op
   unfolding serveR requestOf idsAt
   serves = known Done
-      (λ v. newObject-does ws sh s r os base (fieldOf list at 2) (fieldOf list at 5) (fieldOf list at 6))
-      (λ v. duplicate-does ws sh s r os base (fieldOf list at 1) (fieldOf list at 4) (fieldOf list at 5))
-      (λ v. releaseParcel-does ws sh s r os base (fieldOf list at 7))
-      (λ v. retireObject-does ws sh s r os base (fieldOf list at 2))
-      (λ v. reserve-does ws sh s r os base (fieldOf list at 1) (fieldOf list at 3))
-      (λ v. trim-does ws sh s r os base (fieldOf list at 7) (fieldOf list at 3))
-      (λ v. abort-does ws sh s r os base (fieldOf list at 7))
-      (λ v. publish-does ws sh s r os base (fieldOf list at 7) (idsAt list (endAt list at) (countAt list at)))
-      (λ v. getInfo-does ws sh s r (fieldOf list at 1) (fieldOf list at 4) os base)
-      (λ v. resolve-does ws sh s r (fieldOf list at 1) (fieldOf list at 4) os base (fieldOf list at 5) (fieldOf list at 9))
-      (λ v. replace-does ws sh s r (fieldOf list at 1) (fieldOf list at 4) os base (fieldOf list at 5))
-      (λ v. close-does ws sh s r (fieldOf list at 1) (fieldOf list at 4) os base)
-      (λ v. scan-does ws sh s r (fieldOf list at 1) (fieldOf list at 11) os base)
-      (λ v. clash v refl) (λ v. clash v refl) (λ v. clash v refl) (λ v. clash v refl) (λ v. clash v refl)
-      (λ v. clash v refl) (λ v. clash v refl) (λ v. clash v refl) (λ v. clash v refl) (λ v. clash v refl)
-      (λ v. takePage-does ws os sh base s r (fieldOf list at 1))
+      (newObject-does ws sh s r os base (fieldOf list at 2) (fieldOf list at 5) (fieldOf list at 6))
+      (duplicate-does ws sh s r os base (fieldOf list at 1) (fieldOf list at 4) (fieldOf list at 5))
+      (releaseParcel-does ws sh s r os base (fieldOf list at 7))
+      (retireObject-does ws sh s r os base (fieldOf list at 2))
+      (reserve-does ws sh s r os base (fieldOf list at 1) (fieldOf list at 3))
+      (trim-does ws sh s r os base (fieldOf list at 7) (fieldOf list at 3))
+      (abort-does ws sh s r os base (fieldOf list at 7))
+      (publish-does ws sh s r os base (fieldOf list at 7) (idsAt list (endAt list at) (countAt list at)))
+      (getInfo-does ws sh s r (fieldOf list at 1) (fieldOf list at 4) os base)
+      (resolve-does ws sh s r (fieldOf list at 1) (fieldOf list at 4) os base (fieldOf list at 5) (fieldOf list at 9))
+      (replace-does ws sh s r (fieldOf list at 1) (fieldOf list at 4) os base (fieldOf list at 5))
+      (close-does ws sh s r (fieldOf list at 1) (fieldOf list at 4) os base)
+      (scan-does ws sh s r (fieldOf list at 1) (fieldOf list at 11) os base)
+      (transferAt-does ws sh s r os base list at)
+      (prepareConsumption-does ws sh s r os base (fieldOf list at 1) (fieldOf list at 4) (fieldOf list at 5) (fieldOf list at 9) (fieldOf list at 10))
+      (rollback-does ws sh s r os base (fieldOf list at 7))
+      (commit-does ws sh s r os base (fieldOf list at 7))
+      (directCommit-does ws sh s r os base (fieldOf list at 7) (fieldOf list at 8))
+      (directRollback-does ws sh s r os base (fieldOf list at 7) (fieldOf list at 8))
+      (removeStoppingOwner-does ws sh s r os base (fieldOf list at 1) (fieldOf list at 11))
+      (teardownStart-does ws sh s r os base (fieldOf list at 1))
+      (teardownStep-does ws sh s r os base (fieldOf list at 1))
+      (teardownFinish-does ws sh s r os base (fieldOf list at 1))
+      (takePage-does ws os sh base s r (fieldOf list at 1))
 
 -- EACH REQUEST
-pub steps : Steps oneR served
-steps ws os sh s list at base r w v =
+pub steps : Steps oneR
+steps ws os sh s list at base r w =
     let e = request-is list at (opAt list at) refl in
-    let v′ = sym (ap served e) ∙ v in
-    (rw e (serves ws os sh s list at base r (opAt list at) (w .known .0) (w .known .1) v′), step-short s (requestAt list at) v)
+    (rw e (serves ws os sh s list at base r (opAt list at) (w .known .0) (w .known .1)), step-short s (requestAt list at))
 
 -- both clauses of the call's contract
-pub run-both : (ws list os : List ℕ) (x : Called) → Small ws → x ≡ runW oneR wellB ws list os → (x ≡ runW oneR wellB ws list os) × Meets ws list os x
-run-both ws list os x small e =
-    (e, rw e (run-meets oneR steps wellB (λ vs sh h m w. (viewOf sh (load vs sh), sound vs sh h m w)) (λ vs sh s r. complete vs sh s r) ws list os small))
+pub run-both : (ws list os : List ℕ) (x : Called) → Small ws → length (x .state) ≡ length ws → x ≡ runW oneR wellB ws list os → (x ≡ runW oneR wellB ws list os) × Meets ws list os x
+run-both ws list os x small long e =
+    (e, rw e (run-meets oneR steps wellB (λ vs sh h m w. (viewOf sh (load vs sh), sound vs sh h m w)) (λ vs sh s r. complete vs sh s r) ws list os small (rw e at long)))

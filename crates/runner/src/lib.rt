@@ -16,45 +16,24 @@ ghost use Rattle.lookup.specs.Read.{getInfoR, resolveR};
 ghost use Rattle.close.specs.Replace.{replaceR};
 ghost use Rattle.close.specs.Close.{closeR};
 ghost use Rattle.lookup.specs.Scan.{scanR};
+ghost use Rattle.transfer.specs.Ops.{consumptionR};
+ghost use Rattle.transfer.specs.Preparing.{transferAt};
+ghost use Rattle.claim.specs.Ops.{rollbackR, commitR, directCommitR, directRollbackR};
+ghost use Rattle.teardown.specs.Ops.{stoppingR, teardownStartR, teardownStepR, teardownFinishR};
 ghost use Rattle.detach.specs.Ops.{takePageR};
-ghost use Rattle.runner.specs.Run.{listR};
-ghost use Rattle.runner.specs.Meets.{called, done, requestsW, checkedW, runW, Meets};
+ghost use Rattle.layout.specs.Layout.{total};
+ghost use Rattle.model.specs.Words.{readList};
+ghost use Rattle.contract.specs.Meets.{called, Meets};
+ghost use Rattle.contract.specs.Run.{listR};
+ghost use Rattle.contract.specs.Call.{done, requestsW, checkedW, withinW, runW};
 ghost use Rattle.runner.specs.Serve.{fieldOf, serveR, oneR};
-ghost use Rattle.runner.specs.Served.{servedOp, servedFrom, readServed};
 use authority::Rights;
 use codec::HandleValue;
+use codec::Koid;
 use codec::ReservationId;
 use layout::Shape;
 use layout::ShapeRead;
 use request::Listed;
-
-// Whether the runner serves an op.
-fn op_served(op: u64) -> bool
-    ensures { λ r. ⌜ r ≡ servedOp op ⌝ }
-{
-    if op < 14 {
-        true
-    } else {
-        op == format::op::OP_TAKE_EMPTY_PAGE
-    }
-}
-
-// Whether the n requests of a list are served.
-fn all_served(rq: &[u64], n: u64) -> bool
-    ensures { λ r. ⌜ r ≡ servedFrom n (now (rq .entry)) 0 ⌝ }
-{
-    let mut at: usize = 0;
-    let mut left = n;
-    while 0 < left {
-        if op_served(request::field(rq, at, format::field::FIELD_OP)) {
-            at = request::next_request(rq, at);
-            left -= 1;
-        } else {
-            return false;
-        }
-    }
-    true
-}
 
 fn serve_new_object(s: &mut [u64], sh: Shape, rq: &[u64], at: usize, out: &mut [u64], base: usize)
     ensures { λ _. ⌜ both (now (s .exit)) (now (out .exit)) ≡ newObjectR (now (s .entry)) (now (out .entry)) sh base (fieldOf (now (rq .entry)) at 2) (fieldOf (now (rq .entry)) at 5) (fieldOf (now (rq .entry)) at 6) ⌝ }
@@ -186,6 +165,149 @@ fn serve_scan_handles(s: &mut [u64], sh: Shape, rq: &[u64], at: usize, out: &mut
     lookup::scan_handles(s, sh, table, cursor, out, base);
 }
 
+fn serve_prepare_consumption(
+    s: &mut [u64],
+    sh: Shape,
+    rq: &[u64],
+    at: usize,
+    out: &mut [u64],
+    base: usize,
+)
+    ensures { λ _. ⌜ both (now (s .exit)) (now (out .exit)) ≡ consumptionR (now (s .entry)) (now (out .entry)) sh base (fieldOf (now (rq .entry)) at 1) (fieldOf (now (rq .entry)) at 4) (fieldOf (now (rq .entry)) at 5) (fieldOf (now (rq .entry)) at 9) (fieldOf (now (rq .entry)) at 10) ⌝ }
+{
+    let table = request::field(rq, at, format::field::FIELD_TABLE);
+    let value = request::field(rq, at, format::field::FIELD_VALUE);
+    let rights = request::field(rq, at, format::field::FIELD_RIGHTS);
+    let kind = request::field(rq, at, format::field::FIELD_KIND);
+    let koid = request::field(rq, at, format::field::FIELD_KOID);
+    transfer::prepare_consumption(
+        s,
+        sh,
+        table,
+        HandleValue(value),
+        Rights(rights),
+        kind,
+        Koid(koid),
+        out,
+        base,
+    );
+}
+
+fn serve_rollback(s: &mut [u64], sh: Shape, rq: &[u64], at: usize, out: &mut [u64], base: usize)
+    ensures { λ _. ⌜ both (now (s .exit)) (now (out .exit)) ≡ rollbackR (now (s .entry)) (now (out .entry)) sh base (fieldOf (now (rq .entry)) at 7) ⌝ }
+{
+    let id = request::field(rq, at, format::field::FIELD_ID);
+    claim::rollback(s, sh, ReservationId(id), out, base);
+}
+
+fn serve_commit(s: &mut [u64], sh: Shape, rq: &[u64], at: usize, out: &mut [u64], base: usize)
+    ensures { λ _. ⌜ both (now (s .exit)) (now (out .exit)) ≡ commitR (now (s .entry)) (now (out .entry)) sh base (fieldOf (now (rq .entry)) at 7) ⌝ }
+{
+    let id = request::field(rq, at, format::field::FIELD_ID);
+    claim::commit(s, sh, ReservationId(id), out, base);
+}
+
+fn serve_direct_commit(
+    s: &mut [u64],
+    sh: Shape,
+    rq: &[u64],
+    at: usize,
+    out: &mut [u64],
+    base: usize,
+)
+    ensures { λ _. ⌜ both (now (s .exit)) (now (out .exit)) ≡ directCommitR (now (s .entry)) (now (out .entry)) sh base (fieldOf (now (rq .entry)) at 7) (fieldOf (now (rq .entry)) at 8) ⌝ }
+{
+    let id = request::field(rq, at, format::field::FIELD_ID);
+    let destination = request::field(rq, at, format::field::FIELD_DESTINATION);
+    claim::direct_commit(
+        s,
+        sh,
+        ReservationId(id),
+        ReservationId(destination),
+        out,
+        base,
+    );
+}
+
+fn serve_direct_rollback(
+    s: &mut [u64],
+    sh: Shape,
+    rq: &[u64],
+    at: usize,
+    out: &mut [u64],
+    base: usize,
+)
+    ensures { λ _. ⌜ both (now (s .exit)) (now (out .exit)) ≡ directRollbackR (now (s .entry)) (now (out .entry)) sh base (fieldOf (now (rq .entry)) at 7) (fieldOf (now (rq .entry)) at 8) ⌝ }
+{
+    let id = request::field(rq, at, format::field::FIELD_ID);
+    let destination = request::field(rq, at, format::field::FIELD_DESTINATION);
+    claim::direct_rollback(
+        s,
+        sh,
+        ReservationId(id),
+        ReservationId(destination),
+        out,
+        base,
+    );
+}
+
+fn serve_remove_stopping_owner(
+    s: &mut [u64],
+    sh: Shape,
+    rq: &[u64],
+    at: usize,
+    out: &mut [u64],
+    base: usize,
+)
+    ensures { λ _. ⌜ both (now (s .exit)) (now (out .exit)) ≡ stoppingR (now (s .entry)) (now (out .entry)) sh base (fieldOf (now (rq .entry)) at 1) (fieldOf (now (rq .entry)) at 11) ⌝ }
+{
+    let table = request::field(rq, at, format::field::FIELD_TABLE);
+    let cursor = request::field(rq, at, format::field::FIELD_CURSOR);
+    teardown::remove_stopping_owner(s, sh, table, cursor, out, base);
+}
+
+fn serve_teardown_start(
+    s: &mut [u64],
+    sh: Shape,
+    rq: &[u64],
+    at: usize,
+    out: &mut [u64],
+    base: usize,
+)
+    ensures { λ _. ⌜ both (now (s .exit)) (now (out .exit)) ≡ teardownStartR (now (s .entry)) (now (out .entry)) sh base (fieldOf (now (rq .entry)) at 1) ⌝ }
+{
+    let table = request::field(rq, at, format::field::FIELD_TABLE);
+    teardown::begin_teardown(s, sh, table, out, base);
+}
+
+fn serve_teardown_step(
+    s: &mut [u64],
+    sh: Shape,
+    rq: &[u64],
+    at: usize,
+    out: &mut [u64],
+    base: usize,
+)
+    ensures { λ _. ⌜ both (now (s .exit)) (now (out .exit)) ≡ teardownStepR (now (s .entry)) (now (out .entry)) sh base (fieldOf (now (rq .entry)) at 1) ⌝ }
+{
+    let table = request::field(rq, at, format::field::FIELD_TABLE);
+    teardown::remove_next(s, sh, table, out, base);
+}
+
+fn serve_teardown_finish(
+    s: &mut [u64],
+    sh: Shape,
+    rq: &[u64],
+    at: usize,
+    out: &mut [u64],
+    base: usize,
+)
+    ensures { λ _. ⌜ both (now (s .exit)) (now (out .exit)) ≡ teardownFinishR (now (s .entry)) (now (out .entry)) sh base (fieldOf (now (rq .entry)) at 1) ⌝ }
+{
+    let table = request::field(rq, at, format::field::FIELD_TABLE);
+    teardown::finish_teardown(s, sh, table, out, base);
+}
+
 fn serve_take_empty_page(
     s: &mut [u64],
     sh: Shape,
@@ -205,20 +327,37 @@ fn serve(s: &mut [u64], sh: Shape, rq: &[u64], at: usize, op: u64, out: &mut [u6
     ensures { λ _. ⌜ both (now (s .exit)) (now (out .exit)) ≡ serveR op (now (s .entry)) (now (out .entry)) sh (now (rq .entry)) at base ⌝ }
 {
     match op {
-        1 => serve_new_object(s, sh, rq, at, out, base),
-        2 => serve_duplicate(s, sh, rq, at, out, base),
-        3 => serve_release_parcel(s, sh, rq, at, out, base),
-        4 => serve_retire_object(s, sh, rq, at, out, base),
-        5 => serve_reserve(s, sh, rq, at, out, base),
-        6 => serve_trim(s, sh, rq, at, out, base),
-        7 => serve_abort(s, sh, rq, at, out, base),
-        8 => serve_publish(s, sh, rq, at, out, base),
-        9 => serve_get_info(s, sh, rq, at, out, base),
-        10 => serve_resolve(s, sh, rq, at, out, base),
-        11 => serve_replace(s, sh, rq, at, out, base),
-        12 => serve_close(s, sh, rq, at, out, base),
-        13 => serve_scan_handles(s, sh, rq, at, out, base),
-        24 => serve_take_empty_page(s, sh, rq, at, out, base),
+        format::op::OP_NEW_OBJECT => serve_new_object(s, sh, rq, at, out, base),
+        format::op::OP_DUPLICATE => serve_duplicate(s, sh, rq, at, out, base),
+        format::op::OP_RELEASE_PARCEL => serve_release_parcel(s, sh, rq, at, out, base),
+        format::op::OP_RETIRE_OBJECT => serve_retire_object(s, sh, rq, at, out, base),
+        format::op::OP_RESERVE => serve_reserve(s, sh, rq, at, out, base),
+        format::op::OP_TRIM => serve_trim(s, sh, rq, at, out, base),
+        format::op::OP_ABORT => serve_abort(s, sh, rq, at, out, base),
+        format::op::OP_PUBLISH => serve_publish(s, sh, rq, at, out, base),
+        format::op::OP_GET_INFO => serve_get_info(s, sh, rq, at, out, base),
+        format::op::OP_RESOLVE => serve_resolve(s, sh, rq, at, out, base),
+        format::op::OP_REPLACE => serve_replace(s, sh, rq, at, out, base),
+        format::op::OP_CLOSE => serve_close(s, sh, rq, at, out, base),
+        format::op::OP_SCAN_HANDLES => serve_scan_handles(s, sh, rq, at, out, base),
+        format::op::OP_PREPARE_TRANSFER => transfer::prepare_transfer(s, sh, rq, at, out, base),
+        format::op::OP_PREPARE_CONSUMPTION => serve_prepare_consumption(s, sh, rq, at, out, base),
+        format::op::OP_ROLLBACK => serve_rollback(s, sh, rq, at, out, base),
+        format::op::OP_COMMIT => serve_commit(s, sh, rq, at, out, base),
+        format::op::OP_DIRECT_COMMIT => serve_direct_commit(s, sh, rq, at, out, base),
+        format::op::OP_DIRECT_ROLLBACK => serve_direct_rollback(s, sh, rq, at, out, base),
+        format::op::OP_REMOVE_STOPPING_OWNER => serve_remove_stopping_owner(
+            s,
+            sh,
+            rq,
+            at,
+            out,
+            base,
+        ),
+        format::op::OP_TEARDOWN_START => serve_teardown_start(s, sh, rq, at, out, base),
+        format::op::OP_TEARDOWN_STEP => serve_teardown_step(s, sh, rq, at, out, base),
+        format::op::OP_TEARDOWN_FINISH => serve_teardown_finish(s, sh, rq, at, out, base),
+        format::op::OP_TAKE_EMPTY_PAGE => serve_take_empty_page(s, sh, rq, at, out, base),
         _ => {}
     }
 }
@@ -261,16 +400,11 @@ fn answer_all(s: &mut [u64], sh: Shape, rq: &[u64], n: u64, out: &mut [u64]) -> 
 
 // "list 19".
 fn run_list(s: &mut [u64], sh: Shape, rq: &[u64], out: &mut [u64]) -> u64
-    ensures { λ r. ⌜ called r (now (s .exit)) (now (out .exit)) ≡ requestsW oneR wellB (now (s .entry)) (now (out .entry)) sh (now (rq .entry)) (readServed (now (rq .entry))) ⌝ }
+    ensures { λ r. ⌜ called r (now (s .exit)) (now (out .exit)) ≡ requestsW oneR wellB (now (s .entry)) (now (out .entry)) sh (now (rq .entry)) (readList (now (rq .entry))) ⌝ }
 {
     match request::list_ok(rq) {
         Listed::Malformed => format::refusal::MALFORMED,
-        Listed::Requests(n) => {
-            if all_served(rq, n) {
-                return answer_all(s, sh, rq, n, out);
-            }
-            format::refusal::MALFORMED
-        }
+        Listed::Requests(n) => answer_all(s, sh, rq, n, out),
     }
 }
 
@@ -284,6 +418,15 @@ fn run_checked(s: &mut [u64], sh: Shape, rq: &[u64], out: &mut [u64]) -> u64
     format::refusal::MISUSE
 }
 
+// The state's words alone: those past its end are not lent on.
+fn run_within(s: &mut [u64], sh: Shape, rq: &[u64], out: &mut [u64]) -> u64
+    requires { ⌜ total sh ≤ length (now s) ⌝ }
+    ensures { λ r. ⌜ called r (now (s .exit)) (now (out .exit)) ≡ withinW oneR wellB (now (s .entry)) (now (rq .entry)) (now (out .entry)) sh ⌝ }
+{
+    let end = layout::total_of(sh) as usize;
+    run_checked(&mut s[0..end], sh, rq, out)
+}
+
 // A list of requests on a state. The result is 18, 19 or 20 and no lent word has changed, or 0 and every request has run.
 #[no_mangle]
 pub extern "C" fn gurtxozal_run(state: &mut [u64], list: &[u64], answers: &mut [u64]) -> u64
@@ -293,6 +436,6 @@ pub extern "C" fn gurtxozal_run(state: &mut [u64], list: &[u64], answers: &mut [
     wellformed::are_words(state);
     match layout::shape_of(state) {
         ShapeRead::Bad => format::refusal::MISUSE,
-        ShapeRead::Shape(sh) => run_checked(state, sh, list, answers),
+        ShapeRead::Shape(sh) => run_within(state, sh, list, answers),
     }
 }

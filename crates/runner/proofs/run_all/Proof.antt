@@ -4,7 +4,7 @@ use mathlib.Core.Path.{_≡_, refl}
 use Prim.Native.Nat.{_+_, _*_, _≤_}
 use lib.ListN.{length}
 use Rattle.format.specs.Format.{answerWords}
-use Rattle.runner.specs.Run.{listR, list-turn, list-end}
+use Rattle.contract.specs.Run.{listR, list-turn, list-end}
 use Rattle.runner.specs.Serve.{oneR}
 use Rattle.runner.proofs.run_all.Statement.{statement}
 use Rattle.runner.proofs.run_all.Tie as tie

@@ -2,7 +2,7 @@ use borrow.Author.Tests.{ltb-false}
 use mathlib.Core.Path.{_≡_, refl, sym, _∙_}
 use Rattle.wellformed.specs.Whole.{wellB}
 use Rattle.runner.specs.Serve.{oneR}
-use Rattle.runner.specs.Meets.{answers-short, answers-long, list-malformed, list-unserved, list-served, check-bad, check-good, run-bad, run-found}
+use Rattle.contract.specs.Call.{answers-short, answers-long, check-bad, check-good}
 use borrow.Author.Needs.{needs}
 use Rattle.runner.proofs.run_checked.Statement.{statement}
 use Rattle.runner.proofs.run_checked.Tie as tie

@@ -4,22 +4,6 @@ use borrow.Author.Tests.{ne-eqb}
 use Rattle.runner.specs.Serve.{serveR, at-op}
 use Rattle.runner.proofs.serve.Statement.{statement}
 use Rattle.runner.proofs.serve.Tie as tie
-use Rattle.runner.proofs.serve.Reads as reads
-use Rattle.runner.proofs.serve.Lts as lts
-use Rattle.runner.proofs.serve_new_object.Reads as serve-new-object-reads
-use Rattle.runner.proofs.serve_duplicate.Reads as serve-duplicate-reads
-use Rattle.runner.proofs.serve_release_parcel.Reads as serve-release-parcel-reads
-use Rattle.runner.proofs.serve_retire_object.Reads as serve-retire-object-reads
-use Rattle.runner.proofs.serve_reserve.Reads as serve-reserve-reads
-use Rattle.runner.proofs.serve_trim.Reads as serve-trim-reads
-use Rattle.runner.proofs.serve_abort.Reads as serve-abort-reads
-use Rattle.runner.proofs.serve_publish.Reads as serve-publish-reads
-use Rattle.runner.proofs.serve_get_info.Reads as serve-get-info-reads
-use Rattle.runner.proofs.serve_resolve.Reads as serve-resolve-reads
-use Rattle.runner.proofs.serve_replace.Reads as serve-replace-reads
-use Rattle.runner.proofs.serve_close.Reads as serve-close-reads
-use Rattle.runner.proofs.serve_scan_handles.Reads as serve-scan-handles-reads
-use Rattle.runner.proofs.serve_take_empty_page.Reads as serve-take-empty-page-reads
 
 serve-new-object-requires : tie.Need-serve-new-object-requires
 serve-new-object-requires c κs = tt
@@ -59,6 +43,36 @@ serve-close-requires c κs = tt
 
 serve-scan-handles-requires : tie.Need-serve-scan-handles-requires
 serve-scan-handles-requires c κs = tt
+
+prepare-transfer-requires : tie.Need-prepare-transfer-requires
+prepare-transfer-requires c κs = tt
+
+serve-prepare-consumption-requires : tie.Need-serve-prepare-consumption-requires
+serve-prepare-consumption-requires c κs = tt
+
+serve-rollback-requires : tie.Need-serve-rollback-requires
+serve-rollback-requires c κs = tt
+
+serve-commit-requires : tie.Need-serve-commit-requires
+serve-commit-requires c κs = tt
+
+serve-direct-commit-requires : tie.Need-serve-direct-commit-requires
+serve-direct-commit-requires c κs = tt
+
+serve-direct-rollback-requires : tie.Need-serve-direct-rollback-requires
+serve-direct-rollback-requires c κs = tt
+
+serve-remove-stopping-owner-requires : tie.Need-serve-remove-stopping-owner-requires
+serve-remove-stopping-owner-requires c κs = tt
+
+serve-teardown-start-requires : tie.Need-serve-teardown-start-requires
+serve-teardown-start-requires c κs = tt
+
+serve-teardown-step-requires : tie.Need-serve-teardown-step-requires
+serve-teardown-step-requires c κs = tt
+
+serve-teardown-finish-requires : tie.Need-serve-teardown-finish-requires
+serve-teardown-finish-requires c κs = tt
 
 serve-take-empty-page-requires : tie.Need-serve-take-empty-page-requires
 serve-take-empty-page-requires c κs = tt
@@ -201,11 +215,111 @@ same-length-28 c = search needs
 
 returns-14 : tie.Need-returns-14
 unfolding serveR
-returns-14 c = at-op _ 24 _ _ _ _ _ _ _ (c .before .before .before .before .before .before .before .match .keys14) (c .before .before .before .before .serve-take-empty-page .ensures)
+returns-14 c = at-op _ 14 _ _ _ _ _ _ _ (c .before .before .before .before .before .before .before .match .keys14) (c .before .before .before .before .prepare-transfer .ensures)
+
+same-length-29 : tie.Need-same-length-29
+same-length-29 c = search needs
+
+same-length-30 : tie.Need-same-length-30
+same-length-30 c = search needs
 
 returns-15 : tie.Need-returns-15
 unfolding serveR
-returns-15 c = simp (ne-eqb _ _ (c .match .rest .0 .0 .0 .0 .0 .0 .0 .0 .0 .0 .0 .0 .0 .1), ne-eqb _ _ (c .match .rest .0 .0 .0 .0 .0 .0 .0 .0 .0 .0 .0 .0 .1), ne-eqb _ _ (c .match .rest .0 .0 .0 .0 .0 .0 .0 .0 .0 .0 .0 .1), ne-eqb _ _ (c .match .rest .0 .0 .0 .0 .0 .0 .0 .0 .0 .0 .1), ne-eqb _ _ (c .match .rest .0 .0 .0 .0 .0 .0 .0 .0 .0 .1), ne-eqb _ _ (c .match .rest .0 .0 .0 .0 .0 .0 .0 .0 .1), ne-eqb _ _ (c .match .rest .0 .0 .0 .0 .0 .0 .0 .1), ne-eqb _ _ (c .match .rest .0 .0 .0 .0 .0 .0 .1), ne-eqb _ _ (c .match .rest .0 .0 .0 .0 .0 .1), ne-eqb _ _ (c .match .rest .0 .0 .0 .0 .1), ne-eqb _ _ (c .match .rest .0 .0 .0 .1), ne-eqb _ _ (c .match .rest .0 .0 .1), ne-eqb _ _ (c .match .rest .0 .1), ne-eqb _ _ (c .match .rest .1))
+returns-15 c = at-op _ 15 _ _ _ _ _ _ _ (c .before .before .before .before .before .before .before .match .keys15) (c .before .before .before .before .serve-prepare-consumption .ensures)
+
+same-length-31 : tie.Need-same-length-31
+same-length-31 c = search needs
+
+same-length-32 : tie.Need-same-length-32
+same-length-32 c = search needs
+
+returns-16 : tie.Need-returns-16
+unfolding serveR
+returns-16 c = at-op _ 16 _ _ _ _ _ _ _ (c .before .before .before .before .before .before .before .match .keys16) (c .before .before .before .before .serve-rollback .ensures)
+
+same-length-33 : tie.Need-same-length-33
+same-length-33 c = search needs
+
+same-length-34 : tie.Need-same-length-34
+same-length-34 c = search needs
+
+returns-17 : tie.Need-returns-17
+unfolding serveR
+returns-17 c = at-op _ 17 _ _ _ _ _ _ _ (c .before .before .before .before .before .before .before .match .keys17) (c .before .before .before .before .serve-commit .ensures)
+
+same-length-35 : tie.Need-same-length-35
+same-length-35 c = search needs
+
+same-length-36 : tie.Need-same-length-36
+same-length-36 c = search needs
+
+returns-18 : tie.Need-returns-18
+unfolding serveR
+returns-18 c = at-op _ 18 _ _ _ _ _ _ _ (c .before .before .before .before .before .before .before .match .keys18) (c .before .before .before .before .serve-direct-commit .ensures)
+
+same-length-37 : tie.Need-same-length-37
+same-length-37 c = search needs
+
+same-length-38 : tie.Need-same-length-38
+same-length-38 c = search needs
+
+returns-19 : tie.Need-returns-19
+unfolding serveR
+returns-19 c = at-op _ 19 _ _ _ _ _ _ _ (c .before .before .before .before .before .before .before .match .keys19) (c .before .before .before .before .serve-direct-rollback .ensures)
+
+same-length-39 : tie.Need-same-length-39
+same-length-39 c = search needs
+
+same-length-40 : tie.Need-same-length-40
+same-length-40 c = search needs
+
+returns-20 : tie.Need-returns-20
+unfolding serveR
+returns-20 c = at-op _ 20 _ _ _ _ _ _ _ (c .before .before .before .before .before .before .before .match .keys20) (c .before .before .before .before .serve-remove-stopping-owner .ensures)
+
+same-length-41 : tie.Need-same-length-41
+same-length-41 c = search needs
+
+same-length-42 : tie.Need-same-length-42
+same-length-42 c = search needs
+
+returns-21 : tie.Need-returns-21
+unfolding serveR
+returns-21 c = at-op _ 21 _ _ _ _ _ _ _ (c .before .before .before .before .before .before .before .match .keys21) (c .before .before .before .before .serve-teardown-start .ensures)
+
+same-length-43 : tie.Need-same-length-43
+same-length-43 c = search needs
+
+same-length-44 : tie.Need-same-length-44
+same-length-44 c = search needs
+
+returns-22 : tie.Need-returns-22
+unfolding serveR
+returns-22 c = at-op _ 22 _ _ _ _ _ _ _ (c .before .before .before .before .before .before .before .match .keys22) (c .before .before .before .before .serve-teardown-step .ensures)
+
+same-length-45 : tie.Need-same-length-45
+same-length-45 c = search needs
+
+same-length-46 : tie.Need-same-length-46
+same-length-46 c = search needs
+
+returns-23 : tie.Need-returns-23
+unfolding serveR
+returns-23 c = at-op _ 23 _ _ _ _ _ _ _ (c .before .before .before .before .before .before .before .match .keys23) (c .before .before .before .before .serve-teardown-finish .ensures)
+
+same-length-47 : tie.Need-same-length-47
+same-length-47 c = search needs
+
+same-length-48 : tie.Need-same-length-48
+same-length-48 c = search needs
+
+returns-24 : tie.Need-returns-24
+unfolding serveR
+returns-24 c = at-op _ 24 _ _ _ _ _ _ _ (c .before .before .before .before .before .before .before .match .keys24) (c .before .before .before .before .serve-take-empty-page .ensures)
+
+returns-25 : tie.Need-returns-25
+unfolding serveR
+returns-25 c = simp (ne-eqb _ _ (c .match .rest .0 .0 .0 .0 .0 .0 .0 .0 .0 .0 .0 .0 .0 .0 .0 .0 .0 .0 .0 .0 .0 .0 .0 .1), ne-eqb _ _ (c .match .rest .0 .0 .0 .0 .0 .0 .0 .0 .0 .0 .0 .0 .0 .0 .0 .0 .0 .0 .0 .0 .0 .0 .1), ne-eqb _ _ (c .match .rest .0 .0 .0 .0 .0 .0 .0 .0 .0 .0 .0 .0 .0 .0 .0 .0 .0 .0 .0 .0 .0 .1), ne-eqb _ _ (c .match .rest .0 .0 .0 .0 .0 .0 .0 .0 .0 .0 .0 .0 .0 .0 .0 .0 .0 .0 .0 .0 .1), ne-eqb _ _ (c .match .rest .0 .0 .0 .0 .0 .0 .0 .0 .0 .0 .0 .0 .0 .0 .0 .0 .0 .0 .0 .1), ne-eqb _ _ (c .match .rest .0 .0 .0 .0 .0 .0 .0 .0 .0 .0 .0 .0 .0 .0 .0 .0 .0 .0 .1), ne-eqb _ _ (c .match .rest .0 .0 .0 .0 .0 .0 .0 .0 .0 .0 .0 .0 .0 .0 .0 .0 .0 .1), ne-eqb _ _ (c .match .rest .0 .0 .0 .0 .0 .0 .0 .0 .0 .0 .0 .0 .0 .0 .0 .0 .1), ne-eqb _ _ (c .match .rest .0 .0 .0 .0 .0 .0 .0 .0 .0 .0 .0 .0 .0 .0 .0 .1), ne-eqb _ _ (c .match .rest .0 .0 .0 .0 .0 .0 .0 .0 .0 .0 .0 .0 .0 .0 .1), ne-eqb _ _ (c .match .rest .0 .0 .0 .0 .0 .0 .0 .0 .0 .0 .0 .0 .0 .1), ne-eqb _ _ (c .match .rest .0 .0 .0 .0 .0 .0 .0 .0 .0 .0 .0 .0 .1), ne-eqb _ _ (c .match .rest .0 .0 .0 .0 .0 .0 .0 .0 .0 .0 .0 .1), ne-eqb _ _ (c .match .rest .0 .0 .0 .0 .0 .0 .0 .0 .0 .0 .1), ne-eqb _ _ (c .match .rest .0 .0 .0 .0 .0 .0 .0 .0 .0 .1), ne-eqb _ _ (c .match .rest .0 .0 .0 .0 .0 .0 .0 .0 .1), ne-eqb _ _ (c .match .rest .0 .0 .0 .0 .0 .0 .0 .1), ne-eqb _ _ (c .match .rest .0 .0 .0 .0 .0 .0 .1), ne-eqb _ _ (c .match .rest .0 .0 .0 .0 .0 .1), ne-eqb _ _ (c .match .rest .0 .0 .0 .0 .1), ne-eqb _ _ (c .match .rest .0 .0 .0 .1), ne-eqb _ _ (c .match .rest .0 .0 .1), ne-eqb _ _ (c .match .rest .0 .1), ne-eqb _ _ (c .match .rest .1))
 
 pub serve-spec : {M : Type 1} → statement M
 serve-spec =
@@ -224,6 +338,16 @@ serve-spec =
     serve-replace-requires
     serve-close-requires
     serve-scan-handles-requires
+    prepare-transfer-requires
+    serve-prepare-consumption-requires
+    serve-rollback-requires
+    serve-commit-requires
+    serve-direct-commit-requires
+    serve-direct-rollback-requires
+    serve-remove-stopping-owner-requires
+    serve-teardown-start-requires
+    serve-teardown-step-requires
+    serve-teardown-finish-requires
     serve-take-empty-page-requires
     same-length
     same-length-2
@@ -267,4 +391,34 @@ serve-spec =
     same-length-27
     same-length-28
     returns-14
-    returns-15)
+    same-length-29
+    same-length-30
+    returns-15
+    same-length-31
+    same-length-32
+    returns-16
+    same-length-33
+    same-length-34
+    returns-17
+    same-length-35
+    same-length-36
+    returns-18
+    same-length-37
+    same-length-38
+    returns-19
+    same-length-39
+    same-length-40
+    returns-20
+    same-length-41
+    same-length-42
+    returns-21
+    same-length-43
+    same-length-44
+    returns-22
+    same-length-45
+    same-length-46
+    returns-23
+    same-length-47
+    same-length-48
+    returns-24
+    returns-25)

@@ -1,0 +1,5 @@
+pub mod Meets
+pub mod Run
+pub mod Front
+pub mod Call
+pub mod Short

@@ -1,0 +1,31 @@
+use borrow.Author.Needs.{needs}
+use Rattle.runner.proofs.serve_teardown_start.Statement.{statement}
+use Rattle.runner.proofs.serve_teardown_start.Tie as tie
+use Rattle.runner.proofs.serve_teardown_start.Reads as reads
+use Rattle.runner.proofs.serve_teardown_start.Lts as lts
+use Rattle.request.proofs.field.Reads as field-reads
+use Rattle.teardown.proofs.begin_teardown.Reads as begin-teardown-reads
+
+-- src/lib.rt:279:9
+field-requires : tie.Need-field-requires
+field-requires c κs = tt
+
+-- src/lib.rt:280:5
+begin-teardown-requires : tie.Need-begin-teardown-requires
+begin-teardown-requires c κs = tt
+
+-- src/lib.rt:269:1
+same-length : tie.Need-same-length
+same-length c = search needs
+
+-- src/lib.rt:269:1
+same-length-2 : tie.Need-same-length-2
+same-length-2 c = search needs
+
+-- src/lib.rt:269:1
+returns : tie.Need-returns
+returns c = cc
+
+pub serve-teardown-start-spec : {M : Type 1} → statement M
+serve-teardown-start-spec =
+    tie.close (tie.spec field-requires begin-teardown-requires same-length same-length-2 returns)
