@@ -1,7 +1,8 @@
 #!/usr/bin/env python3
 """Compares docs/formats.md with the constants of crates/format and with the definitions that the model reads requests by: fields with their bits and kinds,
-op numbers and names, must and may maps, the items' maps, the numbers of refusals, and the order of the model's table of requests."""
+op numbers and names, must and may maps, the items' maps, the numbers of refusals, and the order of the model's table of requests. Then with the C headers."""
 import re
+import subprocess
 import sys
 from pathlib import Path
 
@@ -114,7 +115,15 @@ for item in ("transfer", "parcel"):
         same(f"the header's {part} of a {item} item", in_c(f"{part}_{item.upper()}_ITEM"), constant(source["lib"], f"{item.upper()}_ITEM_{part}"))
 same("the header's words of an answer", in_c("ANSWER_WORDS"), 72)
 
+# the functions for a kernel, which are made from the page
+made = subprocess.run([sys.executable, root / "c/make_calls.py", "--print"], capture_output=True, text=True)
+same("c/make_calls.py's status", made.returncode, 0)
+same("c/gurtxozal_calls.h, made by c/make_calls.py,", (root / "c/gurtxozal_calls.h").read_text() == made.stdout, True)
+for name in names[1:]:
+    name = name.replace(" ", "_")
+    same(f"the functions for {name}", [made.stdout.count(f" gurtxozal_{part}_{name}(") for part in ("put", "read")], [1, 1])
+
 for fault in faults:
     print(fault)
-print(f"{compared} comparisons of docs/formats.md with the code, the definitions and the C header")
-sys.exit(1 if faults or compared < 270 else 0)
+print(f"{compared} comparisons of docs/formats.md with the code, the definitions and the C headers")
+sys.exit(1 if faults or compared < 290 else 0)
