@@ -1,9 +1,13 @@
 #!/usr/bin/env python3
 """Slips in the definitions, tried on a copy of the crates: each must be refused by a crate that proves something of them.
 
-A must-fail edit belongs to one crate, so it cannot show that a theorem above refuses a slip in a definition below. Here each slip is tried twice: with all that
-stands in `model`, and again with the tables of cases taken out of `model`, so that only the theorems are left to refuse it. The script says which crate did,
-and where. Its last line is 'N passed, M failed'.
+A must-fail edit belongs to one crate, so it cannot show that a theorem above refuses a slip in a definition below. Here each slip of `model` is tried twice: with all
+that stands, and again with the tables of cases taken out, so that only the theorems are left to refuse it. A slip of `representation` names the crate whose theorem is then
+false, and the fact that fails; it must be refused there and by no crate below it. A statement that is weakened together with its proof must be refused by `promises`, which
+applies it. The script says which crate refused a slip, and where.
+Its last line is 'N passed, M failed'.
+
+  slips.py [WORDS]     the slips, or those whose names have the words
 """
 import re
 import subprocess
@@ -12,11 +16,64 @@ import tempfile
 from concurrent.futures import ThreadPoolExecutor
 from pathlib import Path
 
-from scratch import copied, root
+from scratch import copied
 
+# What the words must say, too little or wrong. name: (file below crates/, old, new, the crate that must refuse it, the fact that fails)
+WORDS = {
+    "an epoch that the words need not have": (
+        "representation/specs/Represents.antt",
+        "pub epoch : m (head b 4) ≡ t .epoch",
+        "pub epoch : m (head b 4) ≡ m (head b 4)",
+        "representation",
+        "`rep-unique`: one table's words represent its state with any epoch",
+    ),
+    "a free count one too high": (
+        "representation/specs/Represents.antt",
+        "pub freeCount : m (head b 7) ≡ length (t .free)",
+        "pub freeCount : m (head b 7) ≡ suc (length (t .free))",
+        "create",
+        "`Meets`: a created table has no free slot and its count is 0",
+    ),
+    "a busy count that the words need not have": (
+        "representation/specs/Represents.antt",
+        "pub busy : (p : ℕ) → p < t .size → isAttached t p ≡ true → m (entry (entryAt m b p) 2) ≡ busyOf till (t .slots) p",
+        "pub busy : (p : ℕ) → p < t .size → isAttached t p ≡ true → m (entry (entryAt m b p) 2) ≡ m (entry (entryAt m b p) 2)",
+        "structure",
+        "completeness of the check: words with any busy count represent a state, and the check refuses them",
+    ),
+}
+
+# A statement that says less, its proof with it. name: (the changes: file below crates/, old, new; the crate that must refuse it, the fact that fails)
+STATEMENTS = {
+    "a two-run theorem of lists of one request": (
+        [
+            ("noninterference/specs/Theorem.antt", "use Prim.Native.Nat.{ℕ}\n", "use Prim.Native.Nat.{ℕ, _<_}\nuse lib.ListN.{length}\n"),
+            ("noninterference/specs/Theorem.antt", "→ (rs : List Request) → every (permitted t b values) rs ≡ true", "→ (rs : List Request) → length rs < 2 → every (permitted t b values) rs ≡ true"),
+            ("noninterference/specs/Theorem.antt", "moves t opened-t rs p n =", "moves t opened-t rs few p n ="),
+        ],
+        "promises",
+        "demand 3 is of any list",
+    ),
+    "a two-run theorem that says nothing of the end state after a rollback": (
+        [
+            ("noninterference/specs/Theorem.antt", "pub afterRollback : p .0 ≡ lowerState t (step z (h .0) (rollback t) .0)", "pub afterRollback : p .0 ≡ p .0"),
+            ("noninterference/specs/Theorem.antt", "afterRollback = rollback-is z kept t b (g .es) values (h .0) (l .1);", "afterRollback = refl;"),
+        ],
+        "promises",
+        "demand 3: after a rollback both ends represent one state, ids lowered",
+    ),
+    "a contract that says nothing of the result": (
+        [
+            ("contract/specs/Meets.antt", "x .result ≡ call till (some s) list os .result", "x .result ≡ x .result"),
+            ("contract/specs/Call.antt", "result = λ sh s r. let x = opened ws list os sh s r in rw x (inside ws list os sh s r .result);", "result = λ sh s r. refl;"),
+        ],
+        "promises",
+        "demand 1: the result is 0, 18, 19 or 20",
+    ),
+}
+
+# Document 01 wrongly read, to be refused by the theorems up to that of the two runs. name: (file below crates/, old, new)
 TOP = "noninterference"
-
-# name: (file below crates/, old, new)
 SLIPS = {
     "a rollback that only frees the row": (
         "model/specs/Step.antt",
@@ -51,49 +108,63 @@ SLIPS = {
 }
 
 
+TABLES = ("Cases", "Effects", "WordCases", "Examples", "Exclusions")
+
+
 def attempt(name, bare):
-    file, old, new = SLIPS[name]
+    """What refused a slip, and whether that is what must refuse it."""
+    if name in STATEMENTS:
+        changes, top, _ = STATEMENTS[name]
+    else:
+        *change, top, _ = WORDS.get(name) or (*SLIPS[name], TOP, "")
+        changes = [change]
     with tempfile.TemporaryDirectory() as folder:
-        scratch = copied(Path(folder))
-        path = scratch / "crates" / file
-        text = path.read_text()
-        if text.count(old) != 1:
-            return f"the text to change stands {text.count(old)} times in {file}", None
-        path.write_text(text.replace(old, new))
+        scratch = copied(Path(folder), top, changes[0][0].split("/")[0])
+        for file, old, new in changes:
+            path = scratch / "crates" / file
+            text = path.read_text()
+            if text.count(old) != 1:
+                return f"the text to change stands {text.count(old)} times in {file}", False
+            path.write_text(text.replace(old, new))
         if bare:
             # the tables of computed cases go, in `model` and above: what is left are theorems
             for lib in scratch.glob("crates/*/specs/Lib.antt"):
-                kept = [l for l in lib.read_text().split("\n") if not re.fullmatch(r"pub mod (Cases|Effects|WordCases|Examples|Exclusions)", l)]
+                kept = [l for l in lib.read_text().split("\n") if not re.fullmatch(r"pub mod (%s)" % "|".join(TABLES), l)]
                 lib.write_text("\n".join(kept))
-            for gone in ("Cases", "Effects", "WordCases", "Examples", "Exclusions"):
+            for gone in TABLES:
                 for f in scratch.glob(f"crates/*/specs/{gone}.antt"):
                     f.unlink()
-        done = subprocess.run(["rt", "check", TOP], cwd=scratch, capture_output=True, text=True)
+        done = subprocess.run(["rt", "check", top], cwd=scratch, capture_output=True, text=True)
         log = done.stdout + done.stderr
     if done.returncode == 0:
-        return "accepted", None
-    first = re.search(r"crates/(\w+)/specs/(\w+)\.antt:(\d+):\d+: error: `([^`]+)`: (.*)", log)
+        return "accepted", False
+    first = re.search(r"crates/(\w+)/((?:specs|proofs)/\S+)\.antt:(\d+):\d+: error: `([^`]+)`: (.*)", log)
     if not first:
-        return "failed without an error in a proof: " + log[-400:], None
+        return "failed without an error in a proof: " + log[-400:], False
     crate, module, line, decl, why = first.groups()
-    if re.search(r"not in scope|cannot be parsed|expected .* found", why):
-        return f"the slip does not fit: {why[:160]}", None
-    return f"{crate}, {module}.antt:{line}, `{decl}`", crate
+    if re.search(r"not in scope|cannot be parsed|can be named from here|expected .* found|has no field", why):
+        return f"the slip does not fit: {why[:160]}", False
+    if name not in SLIPS and crate != top:
+        return f"refused by {crate}, below {top}: {module}.antt:{line}, `{decl}`: {why[:160]}", False
+    return f"refused by {crate}, {module}.antt:{line}, `{decl}`", True
 
 
 def main():
-    jobs = [(name, bare) for name in SLIPS for bare in (False, True)]
+    asked = " ".join(sys.argv[1:])
+    jobs = [(name, bare) for name in SLIPS for bare in (False, True) if asked in name] + [(name, False) for name in (*WORDS, *STATEMENTS) if asked in name]
+    if not jobs:
+        sys.exit(f"no slip has the words '{asked}'")
     with ThreadPoolExecutor(2) as pool:
         results = list(pool.map(lambda j: attempt(*j), jobs))
     passed = failed = 0
-    for (name, bare), (text, crate) in zip(jobs, results):
-        how = "with the theorems alone" if bare else "with all"
-        if crate is None:
-            failed += 1
-            print(f"FAILED: {name}, {how}: {text}")
-        else:
+    for (name, bare), (text, good) in zip(jobs, results):
+        how = (WORDS.get(name) or STATEMENTS[name])[-1] if name not in SLIPS else "with the theorems alone" if bare else "with all"
+        if good:
             passed += 1
-            print(f"ok: {name}, {how}: refused by {text}")
+            print(f"ok: {name} ({how}): {text}")
+        else:
+            failed += 1
+            print(f"FAILED: {name} ({how}): {text}")
     print(f"{passed} passed, {failed} failed")
     sys.exit(1 if failed else 0)
 
