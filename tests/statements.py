@@ -26,10 +26,10 @@ from scratch import copied, dependencies, root
 PROMISES = [
     ("noninterference", "Theorem", ["Agree", "held-and-plain"]),
     ("create", "Meets", ["Asked", "Meets"]),
-    ("contract", "Meets", ["Passes", "Meets"]),
+    ("contract", "Meets", ["Meets"]),
     ("promises", "Demand1", ["Ends", "demand-1", "CreationEnds", "demand-1-creation"]),
-    ("promises", "Demand2", ["Steps", "demand-2", "demand-2-calls", "Cut", "demand-2-cut", "Makes", "demand-2-creation"]),
-    ("promises", "Demand3", ["RolledBack", "Committed", "Same", "demand-3"]),
+    ("promises", "Demand2", ["Steps", "demand-2", "demand-2-lists", "demand-2-calls", "Cut", "demand-2-cut", "Makes", "demand-2-creation"]),
+    ("promises", "Demand3", ["TwoRuns", "Same", "demand-3"]),
     ("promises", "Transfers", ["SameOrders", "ClosingsLeave", "transfer-keeps-orders", "consumption-keeps-orders", "rollback-keeps-orders", "commit-is-closing", "transfer-is-closing", "consumption-is-closing"]),
     ("promises", "Batches", ["MostPages", "new-pages", "pages-of-64", "pages-of-32", "pages-of-16"]),
     ("wellformed", "Whole", ["check-sound", "check-complete"]),

@@ -1,0 +1,259 @@
+-- That the promises say something: each is put to use on the shop's words, every field of its conclusion. Assumes nothing.
+use mathlib.Core.Path.{_≡_, refl, sym, ap, subst, _∙_}
+use mathlib.Core.Bool.{Bool, true, false}
+use mathlib.Core.List.{List, [], _∷_, _++_}
+use mathlib.Core.Option.{Option, none, some}
+use Prim.Native.Nat.{ℕ, zero, suc, _+_, _*_, _≤_, _<_}
+use native.Mathlib.Omega.{arith}
+use native.Mathlib.Nat.{zero-add, suc-add}
+use lib.ListN.{length, getD, take, drop, replicate}
+use lib.Seq.{take-nil, getD-take}
+use lib.Dec.{eqb}
+use borrow.Author.Tests.{ne-eqb, eqb-true}
+use Rattle.words.specs.Pick.{clash}
+use Rattle.format.specs.Format.{answerWords}
+use Rattle.model.specs.Base.{member, pick}
+use Rattle.model.specs.State.{till, State, Slot.reserved, maxTables}
+use Rattle.model.specs.Create.{permitted}
+use Rattle.model.specs.Request.{Route.buffered, Request, Request.reserve, Request.rollback, Request.commit}
+use Rattle.model.specs.Step.{run}
+use Rattle.model.specs.Refusals.{spends}
+use Rattle.model.specs.Words.{readList, usedWords, padded, wordsOf, allWords}
+use Rattle.layout.specs.declared.Shape.{Shape}
+use Rattle.layout.specs.Layout.{head, load, load-root}
+use Rattle.representation.specs.Represents.{slotIn, TableIs, Rep}
+use Rattle.representation.specs.Unique.{rep-unique}
+use Rattle.answer.specs.Does.{idSpent}
+use Rattle.create.specs.Parameters.{parametersOf, tablesIn}
+use Rattle.create.specs.Meets.{Meets as Creates}
+use Rattle.noninterference.specs.Runs.{lowered, lowerTable, lowerState}
+use Rattle.noninterference.specs.World.{by-computing}
+use Rattle.contract.specs.Meets.{Called, Meets}
+use Rattle.promises.specs.Lower.{Ending, Ending.rolledBack, Ending.committed, endH, endP, lowerAnswers, rollbackWords, commitWords, closingWords, reads-rollback, reads-commit}
+use Rattle.promises.specs.Terms.{Call, Calls, left, listOf, answersOf, Passed, Together, Each}
+use Rattle.promises.specs.Calls.{read-once}
+use Rattle.promises.specs.Held.{list-then}
+use Rattle.promises.specs.Demand1.{demand-1, demand-1-creation}
+use Rattle.promises.specs.Demand2.{demand-2, demand-2-lists, demand-2-calls, demand-2-cut, demand-2-creation}
+use Rattle.promises.specs.Demand3.{TwoRuns, Same, demand-3}
+use Rattle.promises.specs.Shop.{ran, readBy, parameters, sh, new, shape-new, asked, openingWords, opening, reads-opening, shop, Begun, rep-new, rep-shop, v63, v62, v61, prepareWords, items, transfer, reads-prepare, listWords, plainWords, wrong, list, reads-list, refusedWords, reads-refused, heldAnswers, plainAnswers, held-answers}
+
+-- word 5 of a state's words is the next id
+next-word : (ws : List ℕ) (s : State) → Rep ws sh s → getD ws 5 0 ≡ s .book .next
+next-word ws s r = sym (load-root ws sh 5 (omega arith)) ∙ r .reps .memory .book .next
+
+-- the last of a list of numbers
+only : (n k : ℕ) → pick (eqb n k) true false ≡ true → n ≡ k
+only n k e = go (eqb n k) refl e
+  where
+    go : (b : Bool) → eqb n k ≡ b → pick b true false ≡ true → n ≡ k
+    go true q p = eqb-true n k q
+    go false q p = clash p refl
+
+-- ---- demand 1
+
+-- a result that is none of 0, 18 and 19 is 20
+four-results : (ws l os : List ℕ) (x : Called) → Meets ws l os x → (x .result ≡ 0 → ⊥) → (x .result ≡ 18 → ⊥) → (x .result ≡ 19 → ⊥) → x .result ≡ 20
+four-results ws l os x m a b c =
+    let r : member (x .result) (0 ∷ 18 ∷ 19 ∷ 20 ∷ []) ≡ true = demand-1 ws l os x m .result in
+    only (x .result) 20 (rw (ne-eqb (x .result) 0 a, ne-eqb (x .result) 18 b, ne-eqb (x .result) 19 c) at r)
+
+-- a call that gives another result than 0
+unchanged : (ws l os : List ℕ) (x : Called) → Meets ws l os x → (n : ℕ) → x .result ≡ suc n → (x .result ≡ suc n) × (x .state ≡ ws) × (x .answers ≡ os)
+unchanged ws l os x m n e = let k = demand-1 ws l os x m .kept (λ z. omega (arith, e, z)) in (e, k .0, k .1)
+
+-- no words at all: 18, and nothing changes
+no-state : (l os : List ℕ) (x : Called) → Meets [] l os x → (x .result ≡ 18) × (x .state ≡ []) × (x .answers ≡ os)
+no-state l os x m = unchanged [] l os x m 17 (demand-1 [] l os x m .misuse .1 (λ k u r. omega (arith, r .reps .shaped .room)))
+
+-- whatever state and request: a number from 0 to 18
+one-number : (ws l os : List ℕ) (x : Called) → Meets ws l os x → (k : Shape) (s : State) → Rep ws k s → (r : Request) → readList l ≡ some (r ∷ []) → 72 ≤ length os
+    → (getD (take 72 (x .answers)) 0 0 ≤ 18) × ((getD (take 72 (x .answers)) 0 0 ≡ 0 → ⊥) → drop 1 (take 72 (x .answers)) ≡ replicate 71 0)
+one-number ws l os x m k s i r e h = let y = demand-1 ws l os x m .refused k s i (r ∷ []) e (omega arith) .2 in (y .number, y .zeros)
+
+-- the shop's new words
+module _ (memory : List ℕ) (room : 2023 ≤ length memory) (made : ℕ) (ws : List ℕ) (c : Creates memory parameters made ws) (os : List ℕ) (x : Called) where
+  rep : Rep ws sh new
+  rep = rep-new memory room made ws c
+
+  -- a record that ends after its map
+  cut-off : Meets ws (11 ∷ []) os x → (x .result ≡ 19) × (x .state ≡ ws) × (x .answers ≡ os)
+  unfolding readBy
+  cut-off m = unchanged ws (11 ∷ []) os x m 18 (demand-1 ws (11 ∷ []) os x m .malformed sh new rep .1 refl)
+
+  -- seven requests and 503 words
+  too-few : Meets ws openingWords os x → length os ≡ 503 → (x .result ≡ 20) × (x .state ≡ ws) × (x .answers ≡ os)
+  too-few m h = unchanged ws openingWords os x m 19 (demand-1 ws openingWords os x m .short sh new rep .1 (opening, reads-opening, omega arith))
+
+  -- and 504: not 20 for it, nor 19, nor 18
+  enough : Meets ws openingWords os x → length os ≡ 504 → (x .result ≡ 18 → ⊥) × (x .result ≡ 19 → ⊥) × (x .result ≡ 20 → ⊥)
+  enough m h =
+      let d = demand-1 ws openingWords os x m in
+      (λ e. d .misuse .0 e sh new rep, λ e. none-not (readList openingWords) opening (d .malformed sh new rep .0 e) reads-opening, λ e. not-fewer (d .short sh new rep .0 e))
+    where
+      none-not : (y : Option (List Request)) (rs : List Request) → y ≡ none → y ≡ some rs → ⊥
+      none-not y rs p q = let z : _≡_ {A = ℕ} 0 1 = cc in omega arith
+
+      not-fewer : (rs : List Request) × (readList openingWords ≡ some rs) × (length os < answerWords * length rs) → ⊥
+      not-fewer (rs, p, q) = let e : opening ≡ rs = read-once (readList openingWords) opening rs reads-opening p in omega (arith, ap (λ (l : List Request). length l) e)
+
+  -- two refusals, 17 and 2: of the state's words only the next id's has changed, from 1 to 2
+  two-refusals : Meets ws refusedWords os x → 144 ≤ length os → (getD (x .answers) 0 0 ≡ 17) × (getD (x .answers) 72 0 ≡ 2) × (x .state ≡ idSpent ws) × (getD (x .state) 5 0 ≡ 2)
+  unfolding ran
+  two-refusals m h = go (demand-1 ws refusedWords os x m .refused sh new rep (reserve 0 0 ∷ wrong ∷ []) reads-refused (omega arith))
+    where
+      given : x .answers ≡ allWords (run till new (reserve 0 0 ∷ wrong ∷ []) .1) ++ drop 144 os
+      given = demand-2 ws refusedWords os x m sh new rep (reserve 0 0 ∷ wrong ∷ []) reads-refused (omega arith) .answers
+
+      first : getD (take 72 (x .answers)) 0 0 ≡ 17
+      first = ap (λ (l : List ℕ). getD (take 72 l) 0 0) given
+
+      second : getD (take 72 (drop 72 (x .answers))) 0 0 ≡ 2
+      second = ap (λ (l : List ℕ). getD (take 72 (drop 72 l)) 0 0) given
+
+      go : Each sh ws new (reserve 0 0 ∷ wrong ∷ []) (x .answers) (x .state)
+          → (getD (x .answers) 0 0 ≡ 17) × (getD (x .answers) 72 0 ≡ 2) × (x .state ≡ idSpent ws) × (getD (x .state) 5 0 ≡ 2)
+      go (us, i, k, (vs, j, l, e)) =
+          let same : us ≡ ws = k .kept (λ z. omega (arith, first, z)) (ap (λ (n : ℕ). spends (reserve 0 0) n) first) in
+          let spent : vs ≡ idSpent us = l .spent (ap (λ (n : ℕ). spends wrong n) second) in (
+            ap (λ (l : List ℕ). getD l 0 0) given,
+            ap (λ (l : List ℕ). getD l 72 0) given,
+            e ∙ spent ∙ ap idSpent same,
+            ap (λ (l : List ℕ). getD l 5 0) e ∙ next-word vs (run till new (reserve 0 0 ∷ wrong ∷ []) .0) j,
+          )
+
+  -- ---- demand 2
+
+  -- the opening's seven answers and the words behind them, the next id, and the words past the state's end
+  opened-shop : Meets ws openingWords os x → 504 ≤ length os
+      → (x .result ≡ 0)
+      × (take 504 (x .answers) ≡ padded 72 (0 ∷ 1 ∷ []) ++ (padded 72 (0 ∷ 2 ∷ []) ++ (padded 72 (0 ∷ 3 ∷ 2 ∷ v63 ∷ v62 ∷ []) ++ (padded 72 [] ++ (padded 72 (0 ∷ 4 ∷ []) ++ (padded 72 (0 ∷ 5 ∷ 1 ∷ v61 ∷ []) ++ padded 72 []))))))
+      × (drop 504 (x .answers) ≡ drop 504 os) × (getD (x .state) 5 0 ≡ 6) × (drop 2023 (x .state) ≡ drop 2023 ws)
+  unfolding ran
+  opened-shop m h =
+      let d = demand-2 ws openingWords os x m sh new rep opening reads-opening (omega arith) in
+      (d .result, ap (take 504) (d .answers) ∙ by-computing _ _ refl, ap (drop 504) (d .answers), next-word (x .state) shop (d .state), d .beyond)
+
+  -- two cuts of the opening into calls
+  two-cuts : (cs ds : List Call) → Calls ws cs → Calls ws ds → listOf cs ≡ openingWords → listOf ds ≡ openingWords → (answersOf cs ≡ answersOf ds) × (getD (left ws cs) 5 0 ≡ getD (left ws ds) 5 0)
+  two-cuts cs ds k l e q =
+      let d = demand-2-cut sh ws ws new cs ds rep rep k l (e ∙ sym q) in
+      (d .answers, next-word (left ws cs) (d .end) (d .first) ∙ sym (next-word (left ws ds) (d .end) (d .second)))
+
+-- creation: next id 1, and a word past the state's end stays
+new-shop : (memory : List ℕ) → 2023 ≤ length memory → (r : ℕ) (us : List ℕ) → Creates memory parameters r us → (r ≡ 0) × (getD us 5 0 ≡ 1) × (getD us 2023 0 ≡ getD memory 2023 0) × (r ≡ 18 → ⊥)
+unfolding ran
+new-shop memory room r us c =
+    let d = demand-2-creation memory parameters r us c (asked memory room) in
+    (d .result, next-word us new (rep-new memory room r us c), d .beyond 2023 (rw shape-new (omega arith)), λ e. demand-1-creation memory parameters r us c .refused .0 e (asked memory room))
+
+-- no table: 18, and no word changes; and no other number but 0
+no-table : (memory : List ℕ) (r : ℕ) (us : List ℕ) → Creates memory (0 ∷ []) r us → (r ≡ 18) × (us ≡ memory)
+unfolding permitted parametersOf tablesIn maxTables
+no-table memory r us c =
+    let d = demand-1-creation memory (0 ∷ []) r us c in
+    let e : r ≡ 18 = d .refused .1 (λ a. clash (a .within) refl) in
+    (e, d .kept (λ z. omega (arith, e, z)))
+
+two-results : (memory ps : List ℕ) (r : ℕ) (us : List ℕ) → Creates memory ps r us → (r ≡ 0 → ⊥) → r ≡ 18
+two-results memory ps r us c a =
+    let q : member r (0 ∷ 18 ∷ []) ≡ true = demand-1-creation memory ps r us c .result in
+    only r 18 (rw (ne-eqb r 0 a) at q)
+
+-- ---- demand 3
+
+-- two shops begun, in other memories and by other cuts; H moves two handles out, runs the list and ends the transfer, P runs the list, in calls cut anywhere
+module _ (ws us : List ℕ) (wb : Begun ws) (ub : Begun us) (hs ps : List Call) (kh : Calls ws hs) (kp : Calls us ps) where
+  -- what run H leaves, by the steps
+  module _ (e : Ending) (r : Request) (er : readList (endH e 6) ≡ some (r ∷ [])) (lh : listOf hs ≡ prepareWords ++ (listWords ++ endH e 6)) (lp : listOf ps ≡ plainWords ++ endP e 0 (v61 ∷ v63 ∷ [])) where
+    left-by : Together ws sh shop hs (transfer ∷ list ++ (r ∷ []))
+    left-by = demand-2-calls sh ws shop hs (transfer ∷ list ++ (r ∷ [])) (rep-shop ws wb) kh
+        (ap readList lh ∙ demand-2-lists prepareWords (listWords ++ endH e 6) (transfer ∷ []) (list ++ (r ∷ [])) reads-prepare (demand-2-lists listWords (endH e 6) list (r ∷ []) reads-list er))
+
+    given : take 504 (answersOf hs) ≡ padded 72 (0 ∷ 6 ∷ []) ++ heldAnswers
+    given = list-then till shop (transfer ∷ list) (r ∷ []) (answersOf hs) (left-by .answers) .0 ∙ held-answers
+
+    runs : TwoRuns
+    unfolding ran
+    runs = record {
+      sh = sh;
+      ws = ws;
+      us = us;
+      s = shop;
+      u = shop;
+      startH = rep-shop ws wb;
+      startP = rep-shop us ub;
+      equal = refl;
+      table = 0;
+      route = buffered;
+      bannedObject = none;
+      bannedKind = none;
+      items = items;
+      moves = refl;
+      transfer = prepareWords;
+      transfers = reads-prepare;
+      list = listWords;
+      requests = list;
+      reads = reads-list;
+      ending = e;
+      t = 6;
+      hs = hs;
+      callsH = kh;
+      listH = lh;
+      accepted = sym (getD-take 504 (answersOf hs) 0 0 (omega arith)) ∙ ap (λ (l : List ℕ). getD l 0 0) given;
+      id = sym (getD-take 504 (answersOf hs) 1 0 (omega arith)) ∙ ap (λ (l : List ℕ). getD l 1 0) given;
+      ps = ps;
+      callsP = kp;
+      listP = lp;
+      permits = refl;
+      wants = refl;
+    }
+
+    same : Same runs
+    same = demand-3 runs
+
+    -- every call passes and the end is accepted; P's answers have the ids 6, 7 and 9, where H's have 7, 8 and 10
+    answers-agree : Passed hs × Passed ps × (drop 504 (answersOf hs) ≡ padded 72 []) × (take 432 (drop 72 (answersOf hs)) ≡ heldAnswers) × (take 432 (answersOf ps) ≡ plainAnswers)
+    unfolding runs lowered wordsOf usedWords
+    answers-agree =
+        let list-H : take 432 (drop 72 (answersOf hs)) ≡ heldAnswers = take-drop-swap 72 432 (answersOf hs) ∙ ap (drop 72) given in
+        (same .passed .0, same .passed .1, same .ended, list-H, same .answers ∙ ap (lowerAnswers 6 list) list-H)
+      where
+        take-drop-swap : (n m : ℕ) (l : List ℕ) → take m (drop n l) ≡ drop n (take (n + m) l)
+        take-drop-swap zero m l = ap (λ (k : ℕ). take k l) (sym (zero-add m))
+        take-drop-swap (suc n) m [] = take-nil m ∙ ap (drop (suc n)) (sym (take-nil (suc n + m)))
+        take-drop-swap (suc n) m (y ∷ l) = take-drop-swap n m l ∙ ap (λ (k : ℕ). drop (suc n) (take k (y ∷ l))) (sym (suc-add n m))
+
+    -- the state that H's words represent is the steps'
+    same-state : same .stateH ≡ run till shop (transfer ∷ list ++ (r ∷ [])) .0
+    unfolding runs
+    same-state = rep-unique (left ws hs) sh sh (same .stateH) (run till shop (transfer ∷ list ++ (r ∷ [])) .0) (same .held) (left-by .state) .1
+
+  -- rolled back: the next id is 11 in H and 10 in P, and slot 62 of table 1 is reserved by 10 in H and by 9 in P
+  roll-back : listOf hs ≡ prepareWords ++ (listWords ++ rollbackWords 6) → listOf ps ≡ plainWords ++ []
+      → (getD (left ws hs) 5 0 ≡ 11) × (getD (left us ps) 5 0 ≡ 10) × (slotIn (load (left ws hs) sh) 1 62 ≡ reserved 1 10) × (slotIn (load (left us ps) sh) 1 62 ≡ reserved 1 9)
+  unfolding runs ran
+  roll-back lh lp =
+      let d : Same (runs rolledBack (rollback 6) (reads-rollback 6) lh lp) = same rolledBack (rollback 6) (reads-rollback 6) lh lp in
+      let s : State = run till shop (transfer ∷ list ++ (rollback 6 ∷ [])) .0 in
+      let e : d .stateH ≡ s = same-state rolledBack (rollback 6) (reads-rollback 6) lh lp in
+      let h : Rep (left ws hs) sh s = subst (Rep (left ws hs) sh) e (d .held) in
+      let p : Rep (left us ps) sh (lowerState 6 s) = subst (Rep (left us ps) sh) (d .whole refl ∙ ap (lowerState 6) e) (d .plain) in
+      (next-word (left ws hs) s h, next-word (left us ps) (lowerState 6 s) p, h .reps .memory .tables 1 (omega arith) .slots 62, p .reps .memory .tables 1 (omega arith) .slots 62)
+
+  -- committed, and closed in P: both closings are accepted; table 0's free order begins with slot 63 in both, the last one closed; slot 62 of table 1 is reserved by 10 in H
+  -- and by 9 in P
+  commit-and-close : listOf hs ≡ prepareWords ++ (listWords ++ commitWords 6) → listOf ps ≡ plainWords ++ closingWords 0 (v61 ∷ v63 ∷ [])
+      → (getD (drop 432 (answersOf ps)) 0 18 ≡ 0) × (getD (drop 432 (answersOf ps)) 72 18 ≡ 0)
+      × (load (left ws hs) sh (head 0 6) ≡ 64) × (load (left us ps) sh (head 0 6) ≡ 64)
+      × (slotIn (load (left ws hs) sh) 1 62 ≡ reserved 1 10) × (slotIn (load (left us ps) sh) 1 62 ≡ reserved 1 9)
+  unfolding runs ran
+  commit-and-close lh lp =
+      let d : Same (runs committed (commit 6) (reads-commit 6) lh lp) = same committed (commit 6) (reads-commit 6) lh lp in
+      let s : State = run till shop (transfer ∷ list ++ (commit 6 ∷ [])) .0 in
+      let e : d .stateH ≡ s = same-state committed (commit 6) (reads-commit 6) lh lp in
+      let h = subst (Rep (left ws hs) sh) e (d .held) .reps .memory in
+      let p = d .plain .reps .memory in
+      let t : (c : ℕ) → c < 2 → TableIs (load (left us ps) sh) c (lowerTable 6 (s .tables c)) =
+      λ c lt. subst (TableIs (load (left us ps) sh) c) (d .tables c ∙ ap (λ (x : State). lowerTable 6 (x .tables c)) e) (p .tables c (omega (arith, p .tableCount))) in
+      (d .closed refl 0 (omega arith), d .closed refl 1 (omega arith), h .tables 0 (omega arith) .free .0, t 0 (omega arith) .free .0, h .tables 1 (omega arith) .slots 62, t 1 (omega arith) .slots 62)

@@ -1,0 +1,16 @@
+pub mod Terms
+pub mod Ids
+pub mod Answers
+pub mod Lower
+pub mod Calls
+pub mod Refused
+pub mod Held
+pub mod Demand1
+pub mod Demand2
+pub mod Demand3
+pub mod Shop
+pub mod Applied
+pub mod BatchesLemmas
+pub mod Batches
+pub mod TransfersLemmas
+pub mod Transfers
