@@ -95,6 +95,9 @@ done
 check "the recorded lists, computed from the definitions" tests/model_replay.py
 check "the recorded lists, replayed by a Rattle program on the port" tests/replay.py
 check "the examples print what they should" tests/example.sh
+check "what run.py shows: states read from their words, the two runs" tests/viewer.py
+check "the functions for a kernel, and the till's story on the port" tests/calls.sh
+check "docs/embedding.md is what the libraries are" tests/embedding.py
 
 echo "the whole test: $((SECONDS - start)) s"
 if [ "${#unrun[@]}" -eq 0 ]; then echo "nothing was left out"; else

@@ -1,6 +1,10 @@
-/* Any words: random, damaged and truncated states, lists and answer lengths through the C calls. Each call must end with 0, 18, 19 or 20,
- * and where it is not 0 no word may change. The words lent stand at the end of a mapping, before a page that can't be touched, and start
- * right after one where they fill whole pages: a read or write past them ends the program.
+/* Any words: random, damaged and truncated states, lists and answer lengths through the C calls. What is known of any call is checked:
+ *   - it ends with 0, 18, 19 or 20, and where it is not 0 no word has changed;
+ *   - after 0 the state is well formed, its sizes and the words past its end are as they were, and so are the words after the last answer;
+ *   - each answer's number is one that document 01's orders give to its request, and after a refusal the other 71 words are 0;
+ *   - requests that are refused, or only look, change no word of the state, save the next id, one higher for a refused transfer.
+ * The words lent stand at the end of a mapping, before a page that can't be touched: a read or write past them ends the program. A request
+ * that was never accepted or never refused, or a number that was not seen, is a failure too.
  *   any_words [SEED [CALLS]] */
 #define _DEFAULT_SOURCE
 #include <inttypes.h>
@@ -45,71 +49,244 @@ static struct lent lend(size_t most) {
     return words;
 }
 
-enum { TABLES = 2, PAGES = 3, FRAMES = 4, OBJECTS = 5, ROWS = 4, LIST = 400, ANSWERS = 72 * 40 };
+enum { TABLES = 2, PAGES = 3, FRAMES = 5, OBJECTS = 6, ROWS = 10, LIST = 1200, ANSWERS = 72 * 40, OPS = 25 };
+/* where the state's regions stand (docs/formats.md); so few frames take one word in each of the three counts */
+enum {
+    NEXT_ID = 5,
+    IN_USE = 6,
+    HEADS = 16,
+    ENTRIES = HEADS + 16 * TABLES,
+    SLOTS = ENTRIES + 5 * TABLES * PAGES + FRAMES + 3,
+    INDEX = SLOTS + 384 * FRAMES + 8 * OBJECTS,
+    BOOK = INDEX + 2 * ROWS,
+    GOOD = BOOK + 390 * ROWS,
+    RESERVATION = 1,
+    CLAIM = 2,
+    PARCEL = 3
+};
 static struct lent state, list, answers;
-static uint64_t counts[21];
-static uint64_t good_state[12000];
-static size_t good_words;
-/* values and ids that answers gave */
-static uint64_t values[64], ids[16];
+static uint64_t results[21], numbers[19], accepted[OPS], refused[OPS], long_transfers, calls_that_kept;
+static uint64_t good_state[GOOD];
 
-/* One word of a request, sometimes a good one. */
-static uint64_t word_for(int field) {
+static const uint64_t must[OPS] = {
+    0, GURTXOZAL_MUST_NEW_OBJECT, GURTXOZAL_MUST_DUPLICATE, GURTXOZAL_MUST_RELEASE_PARCEL, GURTXOZAL_MUST_RETIRE_OBJECT, GURTXOZAL_MUST_RESERVE, GURTXOZAL_MUST_TRIM, GURTXOZAL_MUST_ABORT, GURTXOZAL_MUST_PUBLISH,
+    GURTXOZAL_MUST_GET_INFO, GURTXOZAL_MUST_RESOLVE, GURTXOZAL_MUST_REPLACE, GURTXOZAL_MUST_CLOSE, GURTXOZAL_MUST_SCAN_HANDLES, GURTXOZAL_MUST_PREPARE_TRANSFER, GURTXOZAL_MUST_PREPARE_CONSUMPTION, GURTXOZAL_MUST_ROLLBACK,
+    GURTXOZAL_MUST_COMMIT, GURTXOZAL_MUST_DIRECT_COMMIT, GURTXOZAL_MUST_DIRECT_ROLLBACK, GURTXOZAL_MUST_REMOVE_STOPPING_OWNER, GURTXOZAL_MUST_TEARDOWN_START, GURTXOZAL_MUST_TEARDOWN_STEP, GURTXOZAL_MUST_TEARDOWN_FINISH,
+    GURTXOZAL_MUST_TAKE_EMPTY_PAGE};
+
+/* The numbers that each request can answer, by document 01's "Orders", as bits. */
+#define N(number) (UINT32_C(1) << (number))
+#define ONLY_MISUSE (N(0) | N(18))
+static const uint32_t possible[OPS] = {
+    0,
+    ONLY_MISUSE | N(1) | N(6) | N(7) | N(9) | N(10) | N(11) | N(12),
+    ONLY_MISUSE | N(1) | N(2) | N(3) | N(5) | N(9) | N(11) | N(12) | N(16),
+    ONLY_MISUSE,
+    ONLY_MISUSE,
+    ONLY_MISUSE | N(1) | N(12) | N(13) | N(15) | N(16) | N(17),
+    ONLY_MISUSE,
+    ONLY_MISUSE,
+    ONLY_MISUSE,
+    ONLY_MISUSE | N(2) | N(3) | N(16),
+    ONLY_MISUSE | N(2) | N(3) | N(4) | N(5) | N(16),
+    ONLY_MISUSE | N(2) | N(3) | N(5) | N(16),
+    ONLY_MISUSE | N(2) | N(3) | N(16),
+    ONLY_MISUSE | N(16),
+    ONLY_MISUSE | N(1) | N(2) | N(3) | N(4) | N(5) | N(8) | N(9) | N(11) | N(12) | N(13) | N(16) | N(17),
+    ONLY_MISUSE | N(1) | N(2) | N(3) | N(4) | N(5) | N(12) | N(16),
+    ONLY_MISUSE,
+    ONLY_MISUSE,
+    ONLY_MISUSE,
+    ONLY_MISUSE,
+    ONLY_MISUSE,
+    ONLY_MISUSE | N(14) | N(16),
+    ONLY_MISUSE,
+    ONLY_MISUSE,
+    ONLY_MISUSE,
+};
+
+/* The values of a table's slots with this tag, or of all that are not vacant (0). */
+static size_t slots_of(uint64_t table, uint64_t tag, uint64_t *found) {
+    const uint64_t *head = good_state + HEADS + 16 * table;
+    size_t n = 0;
+    for (uint64_t page = 0; page < head[5]; page++) {
+        uint64_t frame = good_state[ENTRIES + 5 * (PAGES * table + page)];
+        for (uint64_t slot = 0; frame != 0 && slot < 64; slot++) {
+            const uint64_t *words = good_state + SLOTS + 384 * (frame - 1) + 6 * slot;
+            if (tag == 0 ? words[0] != 0 : words[0] == tag) {
+                found[n++] = GURTXOZAL_PREFIX | ((words[1] << 24 | (page * 64 + slot + 1)) ^ head[1]);
+            }
+        }
+    }
+    return n;
+}
+/* A value of a table: mostly of an occupied slot, else of any marked one, a neighbour's, or any word. */
+static uint64_t value_in(uint64_t table) {
+    uint64_t found[64 * PAGES];
+    size_t n = slots_of(table < TABLES ? table : 0, below(4) ? 3 : below(2) * 2, found);
+    if (n == 0 || below(20) == 0) {
+        return below(2) ? next() : GURTXOZAL_PREFIX | next() >> 8;
+    }
+    uint64_t value = found[below(n)];
+    return below(12) ? value : below(2) ? value + (below(2) ? 1 : UINT64_C(1) << 24) : value ^ UINT64_C(1) << below(64);
+}
+
+static const uint64_t *row(uint64_t rank) {
+    return good_state + BOOK + 390 * good_state[INDEX + 2 * rank];
+}
+/* A row of a kind and, if possible, of a count; its id, mostly. */
+static uint64_t id_of(uint64_t kind, uint64_t count) {
+    uint64_t in_use = good_state[IN_USE], best = 0;
+    if (below(12) == 0) {
+        return below(3) ? good_state[NEXT_ID] + below(3) : next();
+    }
+    for (uint64_t i = 0, from = below(in_use); i < in_use; i++) {
+        const uint64_t *words = row((from + i) % in_use);
+        if (words[1] == kind && (count == 0 || words[3] == count)) {
+            return words[0];
+        }
+        best = words[1] == kind || best == 0 ? words[0] : best;
+    }
+    return best;
+}
+static uint64_t count_of(uint64_t id) {
+    for (uint64_t rank = 0; rank < good_state[IN_USE]; rank++) {
+        if (row(rank)[0] == id) {
+            return row(rank)[3];
+        }
+    }
+    return 0;
+}
+
+static uint64_t any_rights(void) {
+    return below(5) ? (below(2) ? 3 : below(4)) : below(2) ? UINT64_MAX : next();
+}
+
+/* A request's words: mostly such as its op takes, naming what there is. */
+static uint64_t word_for(int field, uint64_t op, uint64_t table, uint64_t id) {
     switch (field) {
-    case GURTXOZAL_FIELD_OP: return below(10) ? (below(14) ? 1 + below(13) : 24) : below(30);
-    case GURTXOZAL_FIELD_TABLE: return below(20) ? below(TABLES) : next();
-    case GURTXOZAL_FIELD_OBJECT: return below(20) ? below(OBJECTS) : next();
-    case GURTXOZAL_FIELD_COUNT: return below(20) ? below(12) : below(2) ? below(70) : next();
-    case GURTXOZAL_FIELD_VALUE: return below(8) ? values[below(64)] : next();
-    case GURTXOZAL_FIELD_ID: return below(8) ? ids[below(16)] : next();
-    case GURTXOZAL_FIELD_RIGHTS: return below(3) ? below(4) : next();
-    case GURTXOZAL_FIELD_CURSOR: return below(200);
+    case GURTXOZAL_FIELD_TABLE: return table;
+    case GURTXOZAL_FIELD_OBJECT: return below(30) ? below(OBJECTS) : next();
+    case GURTXOZAL_FIELD_COUNT: return below(8) ? 1 + below(4) : below(3) ? below(70) : below(2) ? next() : UINT64_MAX;
+    case GURTXOZAL_FIELD_VALUE: return value_in(table);
+    case GURTXOZAL_FIELD_RIGHTS: return op == GURTXOZAL_OP_RESOLVE || op == GURTXOZAL_OP_PREPARE_CONSUMPTION ? below(4) : any_rights();
+    case GURTXOZAL_FIELD_FLAGS: return below(6) ? below(4) : below(2) ? below(20) : next();
+    case GURTXOZAL_FIELD_ID: return id;
+    case GURTXOZAL_FIELD_DESTINATION: return id_of(RESERVATION, count_of(id));
+    case GURTXOZAL_FIELD_KIND:
+    case GURTXOZAL_FIELD_OFFERED_KIND:
+    case GURTXOZAL_FIELD_EXPECTED_KIND:
+    case GURTXOZAL_FIELD_FORBIDDEN_KIND: return below(60) ? 1 + below(2) : below(2) ? UINT32_MAX : next();
+    case GURTXOZAL_FIELD_KOID:
+    case GURTXOZAL_FIELD_FORBIDDEN_OBJECT: return below(60) ? 100 + below(OBJECTS) : below(2) ? next() : 0;
+    case GURTXOZAL_FIELD_CURSOR: return below(8) ? below(200) : next();
+    case GURTXOZAL_FIELD_ROUTE: return below(60) ? below(3) : below(5);
+    case GURTXOZAL_FIELD_OFFERED_RIGHTS: return below(2) ? 3 : any_rights();
     default: return below(4);
     }
 }
 
-static const uint64_t must[25] = {0, 101, 51, 129, 5, 11, 137, 129, 137, 19, 563, 51, 19, 2051, 4107, 1587, 129, 129, 385, 385, 2051, 3, 3, 3, 3};
-
-static size_t put_record(uint64_t *at, size_t room, uint64_t map, uint64_t first) {
+static size_t put_record(uint64_t *at, size_t room, uint64_t map, uint64_t op, uint64_t table, uint64_t id) {
     size_t used = 0;
     if (used < room) {
         at[used++] = map;
     }
     for (int field = 0; field < 64; field++) {
         if (map >> field & 1 && used < room) {
-            at[used++] = field == 0 ? first : word_for(field);
+            at[used++] = field == 0 ? op : word_for(field, op, table, id);
         }
     }
     return used;
 }
 
-/* A list: records that fit their op, mostly; then some words changed or cut off, sometimes. */
-static size_t make_list(uint64_t *at, size_t room) {
-    size_t used = 0;
-    for (uint64_t n = below(6); n > 0; n--) {
-        uint64_t op = word_for(GURTXOZAL_FIELD_OP), map = op < 25 && below(40) ? must[op] : next() & 0x3FFFF;
+/* A transfer's items: values of different occupied slots, mostly, and any of the fields that an item may carry. */
+static size_t put_transfer_items(uint64_t *at, size_t room, uint64_t count, uint64_t table) {
+    uint64_t found[64 * PAGES];
+    size_t used = 0, n = slots_of(table < TABLES ? table : 0, 3, found), from = below(n);
+    bool plain = below(2), copies = below(3) == 0;
+    for (uint64_t i = 0; i < count; i++) {
+        uint64_t map = GURTXOZAL_MUST_TRANSFER_ITEM, operation = copies ? below(2) : 0;
+        if (!plain) {
+            map |= next() & next() & GURTXOZAL_MAY_TRANSFER_ITEM;
+            map = below(300) ? map : map ^ UINT64_C(1) << below(20);
+            operation = below(300) ? operation : below(4);
+        }
         size_t start = used;
-        used += put_record(at + used, room - used, map, op);
-        if (op == GURTXOZAL_OP_PUBLISH || op == GURTXOZAL_OP_PREPARE_TRANSFER) {
-            uint64_t items = below(4);
-            if (start + 2 < room) {
-                at[start + 2] = items;
-            }
-            for (; items > 0; items--) {
-                used += put_record(at + used, room - used, op == GURTXOZAL_OP_PUBLISH ? 129 : 49, 0);
-            }
+        used += put_record(at + used, room - used, map, operation, table, 0);
+        if (start + 2 < room && n > i && (plain || below(10))) {
+            at[start + 2] = found[(from + i) % n];
+        }
+        if (start + 3 < room && plain) {
+            at[start + 3] = 0;
         }
     }
-    if (used > 0 && below(6) == 0) {
-        at[below(used)] = below(2) ? next() : below(70);
+    return used;
+}
+/* A publish's items: parcels that fill the reservation, as far as there are. */
+static size_t put_parcel_items(uint64_t *at, size_t room, uint64_t count, uint64_t *items) {
+    size_t used = 0;
+    *items = 0;
+    for (uint64_t rank = 0, left = count; rank < good_state[IN_USE]; rank++) {
+        const uint64_t *words = row(rank);
+        if (words[1] == PARCEL && words[3] <= left) {
+            left -= words[3];
+            *items += 1;
+            used += put_record(at + used, room - used, GURTXOZAL_MUST_PARCEL_ITEM, 0, 0, below(40) ? words[0] : id_of(PARCEL, 0));
+        }
     }
-    return used > 0 && below(10) == 0 ? used - 1 - below(used) % 3 % used : used;
+    return used;
 }
 
-/* A state: the last good one, as it is, damaged in some words, cut off or lengthened; or words from nowhere. */
-static size_t make_state(uint64_t *at, size_t most, bool *whole) {
-    uint64_t kind = below(16);
-    *whole = false;
+/* A request, whole, or with a map of its own. */
+static size_t put_request(uint64_t *at, size_t room) {
+    /* what ends a table or an object is asked for seldom, what fills them often */
+    static const unsigned char often[OPS] = {0, 20, 70, 12, 1, 50, 15, 20, 80, 15, 15, 20, 20, 15, 90, 40, 20, 30, 45, 30, 3, 4, 20, 10, 10};
+    uint64_t all = 0, op = 1;
+    for (int i = 1; i < OPS; i++) {
+        all += often[i];
+    }
+    for (uint64_t roll = below(all); roll >= often[op]; op++) {
+        roll -= often[op];
+    }
+    op = below(200) ? op : below(30);
+    uint64_t table = below(40) ? below(TABLES) : next(), map = op < OPS && below(60) ? must[op] : next() & 0x3FFFF;
+    uint64_t kind = op == GURTXOZAL_OP_RELEASE_PARCEL ? PARCEL : op >= GURTXOZAL_OP_ROLLBACK && op <= GURTXOZAL_OP_DIRECT_ROLLBACK ? CLAIM : RESERVATION;
+    uint64_t id = id_of(kind, 0), items = 0;
+    if (op == GURTXOZAL_OP_PREPARE_TRANSFER) {
+        map |= below(4) ? 0 : next() & GURTXOZAL_MAY_PREPARE_TRANSFER;
+    }
+    size_t used = put_record(at, room, map, op, table, id), count_at = op == GURTXOZAL_OP_PUBLISH ? 2 : 3;
+    if ((op == GURTXOZAL_OP_PUBLISH || op == GURTXOZAL_OP_PREPARE_TRANSFER) && map == must[op]) {
+        if (op == GURTXOZAL_OP_PUBLISH) {
+            used += put_parcel_items(at + used, room - used, count_of(id), &items);
+        } else {
+            items = below(12) ? 1 + below(5) : (const uint64_t[]){0, 64, 65, 63, 40}[below(5)];
+            used += put_transfer_items(at + used, room - used, items, table);
+        }
+        /* counts that the items do not meet: the list ends inside a record, or goes on inside the items */
+        if (count_at < room) {
+            at[count_at] = below(80) ? items : (const uint64_t[]){0, 64, 65, UINT64_MAX, UINT64_MAX / 2, UINT64_C(1) << 32}[below(6)];
+        }
+    }
+    return used;
+}
+
+/* A list: some requests; then words changed or cut off, sometimes. */
+static size_t make_list(uint64_t *at, size_t room) {
+    size_t used = 0;
+    for (uint64_t n = below(3) ? 1 : below(5); n > 0; n--) {
+        used += put_request(at + used, room - used);
+    }
+    if (used > 0 && below(15) == 0) {
+        at[below(used)] = below(2) ? next() : below(70);
+    }
+    return used > 0 && below(20) == 0 ? used - 1 - below(used) % 3 % used : used;
+}
+
+/* A state: the last good one, as it is, near its last id, damaged in some words, cut off or lengthened; or words from nowhere. */
+static size_t make_state(uint64_t *at, size_t most, bool *well, bool *kept) {
+    uint64_t kind = below(32);
+    *well = *kept = false;
     if (kind == 0) {
         size_t n = below(most + 1);
         for (size_t i = 0; i < n; i++) {
@@ -117,44 +294,69 @@ static size_t make_state(uint64_t *at, size_t most, bool *whole) {
         }
         return n;
     }
-    memcpy(at, good_state, good_words * sizeof *at);
+    memcpy(at, good_state, sizeof good_state);
     if (kind == 1) {
-        return below(good_words + 1);
+        return below(GOOD + 1);
     }
-    if (kind == 2) {
-        for (size_t i = good_words; i < most; i++) {
+    if (kind < 4) {
+        for (size_t i = GOOD; i < most; i++) {
             at[i] = next();
         }
-        *whole = true;
+        *well = *kept = true;
         return most;
     }
-    if (kind < 8) {
+    if (kind == 4) {
+        at[NEXT_ID] = UINT64_MAX - below(3);
+        *well = true;
+        return GOOD;
+    }
+    if (kind < 13) {
         for (uint64_t n = 1 + below(3); n > 0; n--) {
             /* heads and entries are few among so many words: half of the damage goes there */
-            size_t place = below(2) ? below(120) : below(good_words);
+            size_t place = below(2) ? below(SLOTS) : below(GOOD);
             uint64_t old = at[place];
             uint64_t choice = below(5);
             at[place] = choice == 0 ? old + 1 : choice == 1 ? old - 1 : choice == 2 ? below(70) : choice == 3 ? next() : old ^ (UINT64_C(1) << below(64));
         }
-        return good_words;
+        return GOOD;
     }
-    *whole = true;
-    return good_words;
+    *well = *kept = true;
+    return GOOD;
 }
 
+static void ask(const uint64_t *words, size_t n, uint64_t *answer) {
+    if (gurtxozal_run(good_state, GOOD, words, n, answer, 72) != 0 || answer[0] != 0) {
+        printf("a plain request is refused with %" PRIu64 "\n", answer[0]);
+        exit(1);
+    }
+}
+/* A new state; in two of three, a table with many handles of one object. */
 static void create(void) {
-    uint64_t parameters[4 + 2 * TABLES + 6 * OBJECTS] = {TABLES, FRAMES, OBJECTS, ROWS};
+    uint64_t parameters[4 + 2 * TABLES + 6 * OBJECTS] = {TABLES, FRAMES, OBJECTS, ROWS}, answer[72], handle = 0, handles = below(3) * 70;
     for (int i = 0; i < TABLES; i++) {
         parameters[4 + 2 * i] = PAGES;
         parameters[5 + 2 * i] = next();
     }
     for (int i = 0; i < OBJECTS; i++) {
-        const uint64_t object[6] = {100 + (uint64_t)i, 1 + below(3), below(3), below(4) ? UINT64_MAX : 3, 1, 50};
+        /* in one of two the many handles' object is near its limit: a transfer's copies are refused half-way */
+        const uint64_t limits[OBJECTS] = {handles + (below(2) ? 100 : below(6)), 1000, 3, 50, 50, 0};
+        const uint64_t object[6] = {100 + (uint64_t)i, 1 + below(2), i == 0 ? 0 : below(3), i != 2 ? UINT64_MAX : 3, i != 4, limits[i]};
         memcpy(parameters + 4 + 2 * TABLES + 6 * i, object, sizeof object);
     }
-    if (gurtxozal_create(good_state, good_words, parameters, sizeof parameters / sizeof *parameters) != 0) {
+    if (gurtxozal_create(good_state, GOOD, parameters, sizeof parameters / sizeof *parameters) != 0) {
         printf("creation was refused\n");
         exit(1);
+    }
+    for (uint64_t i = 0; i < handles; i++) {
+        const uint64_t parcel[] = {must[GURTXOZAL_OP_NEW_OBJECT], GURTXOZAL_OP_NEW_OBJECT, 0, UINT64_MAX, 0};
+        const uint64_t another[] = {must[GURTXOZAL_OP_DUPLICATE], GURTXOZAL_OP_DUPLICATE, 0, handle, below(8) ? UINT64_MAX : next() | 2};
+        ask(i == 0 ? parcel : another, 5, answer);
+        const uint64_t slot[] = {must[GURTXOZAL_OP_RESERVE], GURTXOZAL_OP_RESERVE, 0, 1};
+        uint64_t loose = answer[GURTXOZAL_ANSWER_ID];
+        ask(slot, 4, answer);
+        const uint64_t publish[] = {must[GURTXOZAL_OP_PUBLISH], GURTXOZAL_OP_PUBLISH, 1, answer[GURTXOZAL_ANSWER_ID], GURTXOZAL_MUST_PARCEL_ITEM, 0, loose};
+        handle = i == 0 ? answer[GURTXOZAL_ANSWER_BATCH_VALUES] : handle;
+        ask(publish, 7, answer);
     }
 }
 
@@ -179,31 +381,97 @@ static bool random_creation(void) {
     return true;
 }
 
+static uint64_t here, wrong;
+static void fault(const char *what) {
+    printf("call %" PRIu64 ": %s\n", here, what);
+    wrong++;
+}
+static bool same(const uint64_t *left, const uint64_t *right, size_t from, size_t to) {
+    return from >= to || memcmp(left + from, right + from, (to - from) * sizeof *left) == 0;
+}
+
+/* How many words a record has, and the number of items that follow it. */
+static size_t record_words(const uint64_t *record, uint64_t *items) {
+    const uint64_t op = record[1];
+    *items = op == GURTXOZAL_OP_PUBLISH ? record[2] : op == GURTXOZAL_OP_PREPARE_TRANSFER ? record[3] : 0;
+    return 1 + (size_t)__builtin_popcountll(record[0]);
+}
+
+/* What is known of a call that gave 0: words n before (state.kept) and now, the list, k answer words. */
+static void check_run(const uint64_t *words, size_t n, const uint64_t *requests, size_t m, const uint64_t *out, size_t k) {
+    const uint64_t *old = state.kept;
+    size_t count = 0, end = GURTXOZAL_STATE_WORDS(old[1], old[8], old[2], old[3], old[4]);
+    uint64_t items, may_spend = 0;
+    bool quiet = true;
+    for (size_t at = 0; at < m; count++) {
+        uint64_t op = requests[at + 1], number = (count + 1) * 72 <= k ? out[72 * count] : UINT64_MAX;
+        at += record_words(requests + at, &items);
+        bool many = op == GURTXOZAL_OP_PREPARE_TRANSFER && items >= 60;
+        for (uint64_t ignored; items > 0; items--) {
+            at += record_words(requests + at, &ignored);
+        }
+        if (op == 0 || op >= OPS || number > 18 || !(possible[op] >> number & 1)) {
+            fault("an answer has a number that its request can't give");
+            return;
+        }
+        numbers[number]++;
+        *(number == 0 ? accepted + op : refused + op) += 1;
+        long_transfers += many && number == 0;
+        uint64_t others = 0;
+        for (size_t i = 1; i < 72; i++) {
+            others |= out[72 * count + i];
+        }
+        if (number != 0 && others != 0) {
+            fault("a refused request has other words than its number");
+        }
+        may_spend += number != 0 && op == GURTXOZAL_OP_PREPARE_TRANSFER;
+        quiet = quiet && (number != 0 || op == GURTXOZAL_OP_GET_INFO || op == GURTXOZAL_OP_RESOLVE || op == GURTXOZAL_OP_SCAN_HANDLES);
+    }
+    if (!same(out, answers.kept, 72 * count, k)) {
+        fault("a word after the last answer has changed");
+    }
+    if (!same(words, old, end, n)) {
+        fault("a word past the state's end has changed");
+    }
+    if (!same(words, old, 0, NEXT_ID) || words[8] != old[8]) {
+        fault("the state's sizes have changed");
+    }
+    if (words[NEXT_ID] < old[NEXT_ID]) {
+        fault("the next id has fallen");
+    }
+    if (quiet) {
+        calls_that_kept++;
+        if (!same(words, old, 0, NEXT_ID) || !same(words, old, NEXT_ID + 1, n) || words[NEXT_ID] - old[NEXT_ID] > may_spend) {
+            fault("refused requests and looks have changed the state");
+        }
+    }
+    if (gurtxozal_run((uint64_t *)words, n, NULL, 0, NULL, 0) != 0) {
+        fault("the state that the call left is not well formed");
+    }
+}
+
 int main(int argc, char **argv) {
     seed = argc > 1 ? strtoull(argv[1], NULL, 10) : 1;
-    uint64_t calls = argc > 2 ? strtoull(argv[2], NULL, 10) : 100000, wrong = 0, ran = 0, refused_whole = 0;
-    good_words = GURTXOZAL_STATE_WORDS(TABLES, TABLES * PAGES, FRAMES, OBJECTS, ROWS);
-    if (good_words > sizeof good_state / sizeof *good_state) {
+    uint64_t calls = argc > 2 ? strtoull(argv[2], NULL, 10) : 100000, ran = 0;
+    if (GOOD != GURTXOZAL_STATE_WORDS(TABLES, TABLES * PAGES, FRAMES, OBJECTS, ROWS)) {
         return 2;
     }
-    state = lend(good_words + 40);
+    state = lend(GOOD + 40);
     list = lend(LIST);
     answers = lend(ANSWERS);
-    for (uint64_t call = 0; call < calls && wrong < 5; call++) {
-        if (call % 2000 == 0) {
+    for (here = 0; here < calls && wrong < 5; here++) {
+        if (here % 500 == 0) {
             create();
-            memset(ids, 0, sizeof ids);
         }
-        if (call % 50 == 49 && !random_creation()) {
+        if (here % 50 == 49 && !random_creation()) {
             wrong++;
         }
-        static uint64_t made[12100];
-        bool whole;
-        size_t n = make_state(made, state.most, &whole), m, k;
+        static uint64_t made[GOOD + 40], requests[LIST];
+        bool well, kept;
+        size_t n = make_state(made, state.most, &well, &kept), m, k;
         uint64_t *words = state.end - n;
         memcpy(words, made, n * sizeof *made);
         memcpy(state.kept, made, n * sizeof *made);
-        static uint64_t requests[LIST];
         m = below(30) ? make_list(requests, LIST) : below(LIST);
         uint64_t *lent_list = list.end - m;
         memcpy(lent_list, requests, m * sizeof *requests);
@@ -214,44 +482,43 @@ int main(int argc, char **argv) {
         }
         uint64_t result = gurtxozal_run(words, n, lent_list, m, out, k);
         if (result != 0 && (result < 18 || result > 20)) {
-            printf("call %" PRIu64 ": the result is %" PRIu64 "\n", call, result);
-            wrong++;
+            fault("the result is none of 0, 18, 19, 20");
             continue;
         }
-        counts[result]++;
-        if (result != 0 && (memcmp(words, state.kept, n * sizeof *words) != 0 || memcmp(out, answers.kept, k * sizeof *out) != 0)) {
-            printf("call %" PRIu64 ": %" PRIu64 " changed a word\n", call, result);
-            wrong++;
+        results[result]++;
+        if (result != 0 && (!same(words, state.kept, 0, n) || !same(out, answers.kept, 0, k))) {
+            fault("a call that is refused has changed a word");
         }
-        if (memcmp(lent_list, requests, m * sizeof *requests) != 0) {
-            printf("call %" PRIu64 ": a word of the list has changed\n", call);
-            wrong++;
+        if (!same(lent_list, requests, 0, m)) {
+            fault("a word of the list has changed");
         }
-        if (whole && result == 18) {
-            printf("call %" PRIu64 ": a state that a call left is not well formed\n", call);
-            wrong++;
+        if (well && result == 18) {
+            fault("a well-formed state is refused");
         }
-        refused_whole += whole && result != 0;
-        if (result == 0 && whole) {
-            ran++;
-            memcpy(good_state, words, good_words * sizeof *words);
-            for (size_t i = 0; i + 72 <= k && i < 72 * 6; i += 72) {
-                if (out[i] == 0 && (out[i + 1] >> 56) == 0x48) {
-                    values[below(64)] = out[i + 1];
-                }
-                if (out[i] == 0 && (out[i + 3] >> 56) == 0x48) {
-                    values[below(64)] = out[i + 3];
-                }
-                if (out[i] == 0 && out[i + 1] > 0 && out[i + 1] < 100000) {
-                    ids[below(16)] = out[i + 1];
-                }
+        if (result == 0) {
+            check_run(words, n, lent_list, m, out, k);
+            ran += well;
+            if (kept) {
+                memcpy(good_state, words, sizeof good_state);
             }
         }
     }
-    printf("any words: %" PRIu64 " calls: 0 %" PRIu64 " (%" PRIu64 " from a whole state), 18 %" PRIu64 ", 19 %" PRIu64 ", 20 %" PRIu64 "; %" PRIu64 " wrong\n", calls, counts[0], ran, counts[18],
-           counts[19], counts[20], wrong);
-    if (counts[0] == 0 || ran == 0 || counts[18] == 0 || counts[19] == 0 || counts[20] == 0) {
-        printf("a result was not seen\n");
+    printf("any words: %" PRIu64 " calls: 0 %" PRIu64 " (%" PRIu64 " from a state left by a call; %" PRIu64 " had only refusals and looks, and changed nothing), 18 %" PRIu64 ", 19 %" PRIu64 ", 20 %" PRIu64 "; %" PRIu64 " wrong\n", here,
+           results[0], ran, calls_that_kept, results[18], results[19], results[20], wrong);
+    printf("accepted and refused, by op:");
+    bool lacking = results[18] == 0 || results[19] == 0 || results[20] == 0 || ran == 0 || calls_that_kept == 0 || long_transfers == 0;
+    for (int op = 1; op < OPS; op++) {
+        printf(" %d: %" PRIu64 "/%" PRIu64, op, accepted[op], refused[op]);
+        lacking = lacking || accepted[op] == 0 || refused[op] == 0;
+    }
+    printf("; accepted transfers of 60 and more: %" PRIu64 "\nnumbers:", long_transfers);
+    for (int number = 0; number < 19; number++) {
+        printf(" %d: %" PRIu64, number, numbers[number]);
+        lacking = lacking || numbers[number] == 0;
+    }
+    printf("\n");
+    if (lacking) {
+        printf("a result, a number, or a request accepted or refused was not seen\n");
         return 1;
     }
     return wrong != 0;

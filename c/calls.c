@@ -86,7 +86,7 @@ int main(void) {
     PUT(transfer_item, (1, 11, 12, NULL), 49, 1, 11, 12);
 
     expect(GURTXOZAL_ROUTE_BUFFERED == 0 && GURTXOZAL_ROUTE_RENDEZVOUS == 1 && GURTXOZAL_ROUTE_STAGED_STARTUP == 2, "other numbers", "routes");
-    expect(GURTXOZAL_OPERATION_MOVE == 0 && GURTXOZAL_OPERATION_COPY == 1, "other numbers", "operations");
+    expect(GURTXOZAL_MOVE == 0 && GURTXOZAL_COPY == 1, "other numbers", "operations");
     expect(GURTXOZAL_CLASS_LEAF == 0 && GURTXOZAL_CLASS_RENDEZVOUS_ONLY == 1 && GURTXOZAL_CLASS_NEVER == 2, "other numbers", "classes");
 
     /* what may be absent */

@@ -1,4 +1,5 @@
-/* P6, P7 and P9 to P12 of document 01, through the C calls. Prints a line for each case; the status is 0 only if all hold. */
+/* P6, P7 and P9 to P12 of document 01, transfers, teardown and the other requests, through the C calls. Prints a line for each case; the
+ * status is 0 only if all hold. */
 #include <inttypes.h>
 #include <stdbool.h>
 #include <stdio.h>
@@ -7,7 +8,7 @@
 
 #include "gurtxozal.h"
 
-enum { TABLES = 1, PAGES = 8, FRAMES = 8, OBJECTS = 2, ROWS = 8 };
+enum { TABLES = 2, PAGES = 8, PAGES_THERE = 2, FRAMES = 10, OBJECTS = 4, ROWS = 8 };
 
 static uint64_t *state;
 static size_t state_words;
@@ -19,6 +20,8 @@ static bool good;
 
 static const uint64_t RIGHTS = GURTXOZAL_RIGHT_DUPLICATE | GURTXOZAL_RIGHT_TRANSFER | 64;
 static const uint64_t KOID = 4711, KIND = 7;
+/* object 2 rides Rendezvous and StagedStartup only, and has at most nine handles; object 3 is never transferred */
+static const uint64_t FEW = 9, MASK = 5;
 
 static void expect(const char *what, uint64_t found, uint64_t wanted) {
     if (found != wanted) {
@@ -28,7 +31,8 @@ static void expect(const char *what, uint64_t found, uint64_t wanted) {
 }
 
 static void fresh(void) {
-    const uint64_t parameters[] = {TABLES, FRAMES, OBJECTS, ROWS, PAGES, 0, KOID, KIND, 0, RIGHTS | 4, 1, 1000, 4712, 8, 0, RIGHTS, 1, 1000};
+    const uint64_t parameters[] = {TABLES, FRAMES, OBJECTS, ROWS, PAGES, 0, PAGES_THERE, MASK, KOID, KIND, 0, RIGHTS | 4, 1, 1000, 4712, 8, 0,
+                                   RIGHTS, 1,      1000,    4713, 9,     1, RIGHTS, 1,    FEW,  4714, 10, 2, RIGHTS, 1, 1000};
     good = true;
     memset(state, 0x5A, state_words * sizeof *state);
     expect("creation", gurtxozal_create(state, state_words, parameters, sizeof parameters / sizeof *parameters), GURTXOZAL_DONE);
@@ -67,18 +71,31 @@ static uint64_t run(void) {
     uint64_t result = gurtxozal_run(state, state_words, list, used, answer, GURTXOZAL_ANSWER_WORDS);
     expect("the call", result, GURTXOZAL_DONE);
     expect("the word after the answer", answer[GURTXOZAL_ANSWER_WORDS], UINT64_C(0xA5A5A5A5A5A5A5A5));
+    uint64_t others = 0;
+    for (size_t i = 1; i < GURTXOZAL_ANSWER_WORDS; i++) {
+        others |= answer[i];
+    }
+    if (answer[GURTXOZAL_ANSWER_NUMBER] != GURTXOZAL_DONE) {
+        expect("the words after a refusal's number", others, 0);
+    }
     used = 0;
     return answer[GURTXOZAL_ANSWER_NUMBER];
 }
 
-/* The value of a slot and generation, mask 0. */
+/* The value of a slot and generation in table 0, mask 0, and in table 1. */
 static uint64_t value(uint64_t slot, uint64_t generation) {
     return GURTXOZAL_PREFIX | generation << 24 | (slot + 1);
 }
+static uint64_t value_there(uint64_t slot, uint64_t generation) {
+    return GURTXOZAL_PREFIX | ((generation << 24 | (slot + 1)) ^ MASK);
+}
 
-static uint64_t reserve(uint64_t count) {
-    RECORD(GURTXOZAL_MUST_RESERVE, FIELD(OP, GURTXOZAL_OP_RESERVE), FIELD(TABLE, 0), FIELD(COUNT, count));
+static uint64_t reserve_in(uint64_t table, uint64_t count) {
+    RECORD(GURTXOZAL_MUST_RESERVE, FIELD(OP, GURTXOZAL_OP_RESERVE), FIELD(TABLE, table), FIELD(COUNT, count));
     return run();
+}
+static uint64_t reserve(uint64_t count) {
+    return reserve_in(0, count);
 }
 static void abort_row(uint64_t id) {
     RECORD(GURTXOZAL_MUST_ABORT, FIELD(OP, GURTXOZAL_OP_ABORT), FIELD(ID, id));
@@ -221,7 +238,7 @@ static void p12(void) {
     expect("the value", answer[GURTXOZAL_ANSWER_BATCH_VALUES], value(63, 3));
 }
 
-/* The other requests that the runner serves, once each, and a refusal of each number that needs no long way. */
+/* The other requests, once each, and a refusal of each number that needs no long way. */
 static void others(void) {
     fresh();
     uint64_t first = publish_first();
@@ -262,6 +279,386 @@ static void others(void) {
     expect("no free row", reserve(1), GURTXOZAL_ALLOCATION);
 }
 
+/* No page and no id left. */
+static void ends(void) {
+    fresh();
+    expect("reserve 64", reserve_in(1, 64), GURTXOZAL_DONE);
+    expect("reserve 64", reserve_in(1, 64), GURTXOZAL_DONE);
+    expect("pages beyond the limit", reserve_in(1, 1), GURTXOZAL_TABLE_FULL);
+    state[5] = UINT64_MAX - 1; /* the next id (docs/formats.md) */
+    expect("reserve 1", reserve(1), GURTXOZAL_DONE);
+    expect("the last id", answer[GURTXOZAL_ANSWER_ID], UINT64_MAX - 1);
+    expect("no id left", reserve(1), GURTXOZAL_RESERVATION_ID_EXHAUSTED);
+}
+
+/* A parcel's handle, published in a slot of its own: its value. */
+static uint64_t place(uint64_t table, uint64_t parcel) {
+    expect("reserve", reserve_in(table, 1), GURTXOZAL_DONE);
+    uint64_t row = answer[GURTXOZAL_ANSWER_ID], handle = answer[GURTXOZAL_ANSWER_BATCH_VALUES];
+    RECORD(GURTXOZAL_MUST_PUBLISH, FIELD(OP, GURTXOZAL_OP_PUBLISH), FIELD(COUNT, 1), FIELD(ID, row));
+    RECORD(GURTXOZAL_MUST_PARCEL_ITEM, FIELD(OP, 0), FIELD(ID, parcel));
+    expect("publish", run(), GURTXOZAL_DONE);
+    return handle;
+}
+static uint64_t new_handle(uint64_t object) {
+    RECORD(GURTXOZAL_MUST_NEW_OBJECT, FIELD(OP, GURTXOZAL_OP_NEW_OBJECT), FIELD(OBJECT, object), FIELD(RIGHTS, RIGHTS), FIELD(FLAGS, 2));
+    expect("new object", run(), GURTXOZAL_DONE);
+    return place(0, answer[GURTXOZAL_ANSWER_ID]);
+}
+static uint64_t duplicate(uint64_t handle, uint64_t rights) {
+    RECORD(GURTXOZAL_MUST_DUPLICATE, FIELD(OP, GURTXOZAL_OP_DUPLICATE), FIELD(TABLE, 0), FIELD(VALUE, handle), FIELD(RIGHTS, rights));
+    return run();
+}
+static uint64_t release(uint64_t parcel) {
+    RECORD(GURTXOZAL_MUST_RELEASE_PARCEL, FIELD(OP, GURTXOZAL_OP_RELEASE_PARCEL), FIELD(ID, parcel));
+    return run();
+}
+static uint64_t info(uint64_t table, uint64_t handle) {
+    RECORD(GURTXOZAL_MUST_GET_INFO, FIELD(OP, GURTXOZAL_OP_GET_INFO), FIELD(TABLE, table), FIELD(VALUE, handle));
+    return run();
+}
+static void has(uint64_t table, uint64_t handle, uint64_t rights) {
+    expect("get_info", info(table, handle), GURTXOZAL_DONE);
+    expect("the koid", answer[GURTXOZAL_ANSWER_INFO_KOID], KOID);
+    expect("the kind", answer[GURTXOZAL_ANSWER_INFO_KIND], KIND);
+    expect("the rights", answer[GURTXOZAL_ANSWER_INFO_RIGHTS], rights);
+    expect("the flags", answer[GURTXOZAL_ANSWER_INFO_FLAGS], 1);
+}
+
+/* The head of a transfer from table 0, and a plain item. */
+static void transfer_of(uint64_t count, uint64_t route) {
+    RECORD(GURTXOZAL_MUST_PREPARE_TRANSFER, FIELD(OP, GURTXOZAL_OP_PREPARE_TRANSFER), FIELD(TABLE, 0), FIELD(COUNT, count), FIELD(ROUTE, route));
+}
+static void transfer_item(uint64_t operation, uint64_t handle, uint64_t rights) {
+    RECORD(GURTXOZAL_MUST_TRANSFER_ITEM, FIELD(OP, operation), FIELD(VALUE, handle), FIELD(RIGHTS, rights));
+}
+static uint64_t prepare(uint64_t operation, uint64_t handle, uint64_t rights) {
+    transfer_of(1, GURTXOZAL_ROUTE_BUFFERED);
+    transfer_item(operation, handle, rights);
+    return run();
+}
+static uint64_t consume(uint64_t handle, uint64_t rights, uint64_t kind, uint64_t koid) {
+    RECORD(GURTXOZAL_MUST_PREPARE_CONSUMPTION, FIELD(OP, GURTXOZAL_OP_PREPARE_CONSUMPTION), FIELD(TABLE, 0), FIELD(VALUE, handle), FIELD(RIGHTS, rights), FIELD(KIND, kind), FIELD(KOID, koid));
+    return run();
+}
+static uint64_t rollback(uint64_t id) {
+    RECORD(GURTXOZAL_MUST_ROLLBACK, FIELD(OP, GURTXOZAL_OP_ROLLBACK), FIELD(ID, id));
+    return run();
+}
+static uint64_t commit(uint64_t id) {
+    RECORD(GURTXOZAL_MUST_COMMIT, FIELD(OP, GURTXOZAL_OP_COMMIT), FIELD(ID, id));
+    return run();
+}
+static uint64_t direct_commit(uint64_t claim, uint64_t reservation) {
+    RECORD(GURTXOZAL_MUST_DIRECT_COMMIT, FIELD(OP, GURTXOZAL_OP_DIRECT_COMMIT), FIELD(ID, claim), FIELD(DESTINATION, reservation));
+    return run();
+}
+static uint64_t direct_rollback(uint64_t claim, uint64_t reservation) {
+    RECORD(GURTXOZAL_MUST_DIRECT_ROLLBACK, FIELD(OP, GURTXOZAL_OP_DIRECT_ROLLBACK), FIELD(ID, claim), FIELD(DESTINATION, reservation));
+    return run();
+}
+
+/* A move: Busy while it is held; rolled back, the handle has its own rights, not the receiver's. */
+static void held_and_rolled_back(void) {
+    fresh();
+    uint64_t first = publish_first();
+    expect("prepare transfer", prepare(GURTXOZAL_MOVE, first, 64), GURTXOZAL_DONE);
+    uint64_t claim = answer[GURTXOZAL_ANSWER_ID];
+    expect("its id", claim, 3);
+    expect("get_info while held", info(0, first), GURTXOZAL_BUSY);
+    expect("duplicate while held", duplicate(first, 64), GURTXOZAL_BUSY);
+    expect("close while held", close_value(first), GURTXOZAL_BUSY);
+    expect("consumption while held", consume(first, 0, KIND, KOID), GURTXOZAL_BUSY);
+    RECORD(GURTXOZAL_MUST_REPLACE, FIELD(OP, GURTXOZAL_OP_REPLACE), FIELD(TABLE, 0), FIELD(VALUE, first), FIELD(RIGHTS, 0));
+    expect("replace while held", run(), GURTXOZAL_BUSY);
+    RECORD(GURTXOZAL_MUST_RESOLVE, FIELD(OP, GURTXOZAL_OP_RESOLVE), FIELD(TABLE, 0), FIELD(VALUE, first), FIELD(RIGHTS, 0), FIELD(KIND, KIND));
+    expect("resolve while held", run(), GURTXOZAL_BUSY);
+    expect("a second transfer while held", prepare(GURTXOZAL_MOVE, first, 64), GURTXOZAL_BUSY);
+    scan(0, 0, 0, 0, 64);
+    expect("reserve 1", reserve(1), GURTXOZAL_DONE);
+    expect("the id after the refused transfer's", answer[GURTXOZAL_ANSWER_ID], 5);
+    abort_row(5);
+    expect("rollback of another id", rollback(5), GURTXOZAL_MISUSE);
+    expect("rollback", rollback(claim), GURTXOZAL_DONE);
+    has(0, first, RIGHTS);
+    expect("rollback again", rollback(claim), GURTXOZAL_MISUSE);
+    expect("commit after the rollback", commit(claim), GURTXOZAL_MISUSE);
+}
+
+/* Committed, the handle stands in a parcel of the claim's id with the receiver's rights, and is published in another table. */
+static void committed(void) {
+    fresh();
+    uint64_t first = publish_first();
+    expect("prepare transfer", prepare(GURTXOZAL_MOVE, first, 66), GURTXOZAL_DONE);
+    uint64_t claim = answer[GURTXOZAL_ANSWER_ID];
+    expect("release of a claim", release(claim), GURTXOZAL_MISUSE);
+    expect("commit", commit(claim), GURTXOZAL_DONE);
+    expect("the value moved away", info(0, first), GURTXOZAL_INVALID_HANDLE);
+    expect("commit again", commit(claim), GURTXOZAL_MISUSE);
+    uint64_t there = place(1, claim);
+    expect("its value there", there, value_there(63, 1));
+    has(1, there, 66);
+    expect("the vacated slot is first in the free order", (reserve(1), answer[GURTXOZAL_ANSWER_BATCH_VALUES]), value(63, 2));
+    /* two moves: both slots fall vacant, in the transfer's order */
+    fresh();
+    first = publish_first();
+    expect("duplicate", duplicate(first, 3), GURTXOZAL_DONE);
+    uint64_t second = place(0, answer[GURTXOZAL_ANSWER_ID]);
+    transfer_of(2, GURTXOZAL_ROUTE_BUFFERED);
+    transfer_item(GURTXOZAL_MOVE, first, 64);
+    transfer_item(GURTXOZAL_MOVE, second, 1);
+    expect("two moves", run(), GURTXOZAL_DONE);
+    claim = answer[GURTXOZAL_ANSWER_ID];
+    expect("commit", commit(claim), GURTXOZAL_DONE);
+    expect("the first value moved away", info(0, first), GURTXOZAL_INVALID_HANDLE);
+    expect("the second value moved away", info(0, second), GURTXOZAL_INVALID_HANDLE);
+    expect("reserve 2", reserve(2), GURTXOZAL_DONE);
+    expect("the slot vacated last is first", answer[GURTXOZAL_ANSWER_BATCH_VALUES], value(62, 2));
+    expect("the slot vacated first comes next", answer[GURTXOZAL_ANSWER_BATCH_VALUES + 1], value(63, 2));
+    uint64_t row = answer[GURTXOZAL_ANSWER_ID];
+    RECORD(GURTXOZAL_MUST_PUBLISH, FIELD(OP, GURTXOZAL_OP_PUBLISH), FIELD(COUNT, 1), FIELD(ID, row));
+    RECORD(GURTXOZAL_MUST_PARCEL_ITEM, FIELD(OP, 0), FIELD(ID, claim));
+    expect("publish the parcel of two", run(), GURTXOZAL_DONE);
+    has(0, value(62, 2), 64);
+    has(0, value(63, 2), 1);
+}
+
+/* A copy raises its object's count; its source stays in use, and a rollback releases it. A refused fifth copy leaves the counts, and spends one id. */
+static void copies(void) {
+    fresh();
+    uint64_t first = publish_first();
+    expect("prepare a copy", prepare(GURTXOZAL_COPY, first, 64), GURTXOZAL_DONE);
+    uint64_t claim = answer[GURTXOZAL_ANSWER_ID];
+    has(0, first, RIGHTS);
+    expect("commit", commit(claim), GURTXOZAL_DONE);
+    uint64_t copy = place(1, claim);
+    has(1, copy, 64);
+    has(0, first, RIGHTS);
+
+    uint64_t handles[5];
+    handles[0] = new_handle(2);
+    for (int i = 1; i < 5; i++) {
+        expect("duplicate", duplicate(handles[0], RIGHTS), GURTXOZAL_DONE);
+        handles[i] = place(0, answer[GURTXOZAL_ANSWER_ID]);
+    }
+    transfer_of(4, GURTXOZAL_ROUTE_RENDEZVOUS);
+    for (int i = 0; i < 4; i++) {
+        transfer_item(GURTXOZAL_COPY, handles[i], 64);
+    }
+    expect("four copies", run(), GURTXOZAL_DONE);
+    claim = answer[GURTXOZAL_ANSWER_ID];
+    expect("a duplicate at the limit", duplicate(handles[0], 64), GURTXOZAL_ACTIVE_HANDLE_LIMIT);
+    expect("rollback", rollback(claim), GURTXOZAL_DONE);
+    transfer_of(5, GURTXOZAL_ROUTE_STAGED_STARTUP);
+    for (int i = 0; i < 5; i++) {
+        transfer_item(GURTXOZAL_COPY, handles[i], 64);
+    }
+    expect("five copies", run(), GURTXOZAL_ACTIVE_HANDLE_LIMIT);
+    for (int i = 0; i < 4; i++) {
+        expect("duplicate", duplicate(handles[i], 64), GURTXOZAL_DONE);
+        expect("its id: one was spent", answer[GURTXOZAL_ANSWER_ID], claim + 2 + (uint64_t)i);
+    }
+    expect("a fifth duplicate", duplicate(handles[4], 64), GURTXOZAL_ACTIVE_HANDLE_LIMIT);
+}
+
+/* A transfer's refusals, by each of its fields. */
+static void refused_transfers(void) {
+    fresh();
+    uint64_t first = publish_first(), shy = new_handle(2), never = new_handle(3);
+    expect("what an item may carry", GURTXOZAL_MAY_TRANSFER_ITEM, GURTXOZAL_BIT(GURTXOZAL_FIELD_OFFERED_RIGHTS) | GURTXOZAL_BIT(GURTXOZAL_FIELD_OFFERED_KIND) | GURTXOZAL_BIT(GURTXOZAL_FIELD_EXPECTED_KIND));
+    expect("what a transfer may carry", GURTXOZAL_MAY_PREPARE_TRANSFER, GURTXOZAL_BIT(GURTXOZAL_FIELD_FORBIDDEN_OBJECT) | GURTXOZAL_BIT(GURTXOZAL_FIELD_FORBIDDEN_KIND));
+    expect("what a parcel's item may carry", GURTXOZAL_MAY_PARCEL_ITEM, 0);
+    transfer_of(0, 0);
+    expect("no item", run(), GURTXOZAL_EMPTY_RESERVATION);
+    transfer_of(GURTXOZAL_MAX_BATCH + 1, 0);
+    for (int i = 0; i < GURTXOZAL_MAX_BATCH + 1; i++) {
+        transfer_item(GURTXOZAL_MOVE, first, 0);
+    }
+    expect("65 items", run(), GURTXOZAL_RESERVATION_TOO_LARGE);
+    transfer_of(2, 0);
+    transfer_item(GURTXOZAL_MOVE, first, 0);
+    transfer_item(GURTXOZAL_COPY, first, 0);
+    expect("a value listed twice", run(), GURTXOZAL_INVALID_HANDLE);
+    expect("rights that the handle lacks", prepare(GURTXOZAL_MOVE, first, 4), GURTXOZAL_ACCESS_DENIED);
+    expect("Buffered bars object 2", prepare(GURTXOZAL_MOVE, shy, 64), GURTXOZAL_UNSUPPORTED_TRANSFER);
+    transfer_of(1, GURTXOZAL_ROUTE_STAGED_STARTUP);
+    transfer_item(GURTXOZAL_MOVE, never, 64);
+    expect("every route bars object 3", run(), GURTXOZAL_UNSUPPORTED_TRANSFER);
+    const struct {
+        const char *what;
+        uint64_t offered_rights, offered_kind, expected_kind, number;
+    } items[] = {
+        {"offered beyond the handle's rights", RIGHTS | 4, KIND, KIND, GURTXOZAL_ACCESS_DENIED},
+        {"asked beyond the offered rights", 2, KIND, KIND, GURTXOZAL_ACCESS_DENIED},
+        {"another kind offered", 64, KIND + 1, KIND, GURTXOZAL_WRONG_OBJECT_TYPE},
+        {"another kind expected", 64, KIND, KIND + 1, GURTXOZAL_WRONG_OBJECT_TYPE},
+    };
+    for (size_t i = 0; i < sizeof items / sizeof *items; i++) {
+        transfer_of(1, GURTXOZAL_ROUTE_BUFFERED);
+        RECORD(GURTXOZAL_MUST_TRANSFER_ITEM | GURTXOZAL_MAY_TRANSFER_ITEM, FIELD(OP, GURTXOZAL_MOVE), FIELD(VALUE, first), FIELD(RIGHTS, 64), FIELD(OFFERED_RIGHTS, items[i].offered_rights), FIELD(OFFERED_KIND, items[i].offered_kind),
+               FIELD(EXPECTED_KIND, items[i].expected_kind));
+        expect(items[i].what, run(), items[i].number);
+    }
+    const struct {
+        const char *what;
+        uint64_t object, kind, number;
+    } heads[] = {
+        {"a forbidden object", KOID, KIND + 1, GURTXOZAL_ACCESS_DENIED},
+        {"a forbidden kind", KOID + 1, KIND, GURTXOZAL_UNSUPPORTED_TRANSFER},
+        {"another object and another kind forbidden", KOID + 1, KIND + 1, GURTXOZAL_DONE},
+    };
+    for (size_t i = 0; i < sizeof heads / sizeof *heads; i++) {
+        RECORD(GURTXOZAL_MUST_PREPARE_TRANSFER | GURTXOZAL_MAY_PREPARE_TRANSFER, FIELD(OP, GURTXOZAL_OP_PREPARE_TRANSFER), FIELD(TABLE, 0), FIELD(COUNT, 1), FIELD(ROUTE, GURTXOZAL_ROUTE_BUFFERED), FIELD(FORBIDDEN_OBJECT, heads[i].object),
+               FIELD(FORBIDDEN_KIND, heads[i].kind));
+        RECORD(GURTXOZAL_MUST_TRANSFER_ITEM | GURTXOZAL_MAY_TRANSFER_ITEM, FIELD(OP, GURTXOZAL_MOVE), FIELD(VALUE, first), FIELD(RIGHTS, 64), FIELD(OFFERED_RIGHTS, 66), FIELD(OFFERED_KIND, KIND), FIELD(EXPECTED_KIND, KIND));
+        expect(heads[i].what, run(), heads[i].number);
+    }
+    expect("rollback", rollback(answer[GURTXOZAL_ANSWER_ID]), GURTXOZAL_DONE);
+    has(0, first, RIGHTS);
+    /* two moves and a copy between them: each handle goes back to its own slot */
+    expect("a duplicate", duplicate(first, 3), GURTXOZAL_DONE);
+    uint64_t second = place(0, answer[GURTXOZAL_ANSWER_ID]);
+    transfer_of(3, GURTXOZAL_ROUTE_RENDEZVOUS);
+    transfer_item(GURTXOZAL_MOVE, first, 64);
+    transfer_item(GURTXOZAL_COPY, shy, 64);
+    transfer_item(GURTXOZAL_MOVE, second, 0);
+    expect("two moves and a copy", run(), GURTXOZAL_DONE);
+    expect("rollback", rollback(answer[GURTXOZAL_ANSWER_ID]), GURTXOZAL_DONE);
+    has(0, first, RIGHTS);
+    has(0, second, 3);
+}
+
+/* A consumption: refusals spend no id; the handle keeps its rights. */
+static void consumption(void) {
+    fresh();
+    uint64_t first = publish_first();
+    expect("rights that the handle lacks", consume(first, 4, KIND, KOID), GURTXOZAL_ACCESS_DENIED);
+    expect("another kind", consume(first, 64, KIND + 1, KOID), GURTXOZAL_WRONG_OBJECT_TYPE);
+    expect("another koid", consume(first, 64, KIND, KOID + 1), GURTXOZAL_INVALID_HANDLE);
+    expect("prepare consumption", consume(first, 64, KIND, KOID), GURTXOZAL_DONE);
+    uint64_t claim = answer[GURTXOZAL_ANSWER_ID];
+    expect("its id: none was spent", claim, 3);
+    expect("get_info while held", info(0, first), GURTXOZAL_BUSY);
+    expect("rollback", rollback(claim), GURTXOZAL_DONE);
+    has(0, first, RIGHTS);
+    expect("prepare consumption", consume(first, 64, KIND, KOID), GURTXOZAL_DONE);
+    claim = answer[GURTXOZAL_ANSWER_ID];
+    expect("commit", commit(claim), GURTXOZAL_DONE);
+    has(1, place(1, claim), RIGHTS);
+}
+
+/* Direct commit and rollback, from table 0 to a table. */
+static void direct(uint64_t table) {
+    fresh();
+    uint64_t first = publish_first();
+    expect("prepare transfer", prepare(GURTXOZAL_MOVE, first, 66), GURTXOZAL_DONE);
+    uint64_t claim = answer[GURTXOZAL_ANSWER_ID];
+    expect("reserve 2", reserve_in(table, 2), GURTXOZAL_DONE);
+    uint64_t row = answer[GURTXOZAL_ANSWER_ID], there = answer[GURTXOZAL_ANSWER_BATCH_VALUES];
+    expect("lengths differ", direct_commit(claim, row), GURTXOZAL_MISUSE);
+    expect("lengths differ", direct_rollback(claim, row), GURTXOZAL_MISUSE);
+    RECORD(GURTXOZAL_MUST_TRIM, FIELD(OP, GURTXOZAL_OP_TRIM), FIELD(COUNT, 1), FIELD(ID, row));
+    expect("trim", run(), GURTXOZAL_DONE);
+    expect("the rows named the other way round", direct_rollback(row, claim), GURTXOZAL_MISUSE);
+    expect("direct rollback", direct_rollback(claim, row), GURTXOZAL_DONE);
+    has(0, first, RIGHTS);
+    expect("the reserved slot is vacant", info(table, there), GURTXOZAL_INVALID_HANDLE);
+    expect("both rows are gone", direct_rollback(claim, row), GURTXOZAL_MISUSE);
+    expect("prepare transfer", prepare(GURTXOZAL_MOVE, first, 66), GURTXOZAL_DONE);
+    claim = answer[GURTXOZAL_ANSWER_ID];
+    expect("reserve 1", reserve_in(table, 1), GURTXOZAL_DONE);
+    row = answer[GURTXOZAL_ANSWER_ID], there = answer[GURTXOZAL_ANSWER_BATCH_VALUES];
+    expect("the slot given back, its generation one higher", there, table == 0 ? value(62, 2) : value_there(63, 2));
+    expect("direct commit", direct_commit(claim, row), GURTXOZAL_DONE);
+    has(table, there, 66);
+    expect("the value moved away", info(0, first), GURTXOZAL_INVALID_HANDLE);
+    expect("both rows are gone", direct_commit(claim, row), GURTXOZAL_MISUSE);
+    expect("the vacated slot is first in the free order", (reserve(1), answer[GURTXOZAL_ANSWER_BATCH_VALUES]), value(63, 2));
+}
+
+static void stopping(uint64_t cursor, uint64_t removed, uint64_t left, uint64_t handle) {
+    RECORD(GURTXOZAL_MUST_REMOVE_STOPPING_OWNER, FIELD(OP, GURTXOZAL_OP_REMOVE_STOPPING_OWNER), FIELD(TABLE, 0), FIELD(CURSOR, cursor));
+    expect("remove_stopping_owner", run(), GURTXOZAL_DONE);
+    expect("whether a handle was removed", answer[GURTXOZAL_ANSWER_REMOVED], removed);
+    expect("the cursor as left", answer[GURTXOZAL_ANSWER_REMOVED_CURSOR], left);
+    expect("the value", answer[GURTXOZAL_ANSWER_REMOVED_VALUE], handle);
+    expect("the koid", answer[GURTXOZAL_ANSWER_REMOVED_KOID], removed ? KOID : 0);
+    expect("the kind", answer[GURTXOZAL_ANSWER_REMOVED_KIND], removed ? KIND : 0);
+    expect("the rights", answer[GURTXOZAL_ANSWER_REMOVED_RIGHTS], !removed ? 0 : handle == value(63, 1) ? RIGHTS : 3);
+    expect("the flags", answer[GURTXOZAL_ANSWER_REMOVED_FLAGS], removed);
+}
+static uint64_t teardown(uint64_t op, uint64_t must) {
+    RECORD(must, FIELD(OP, op), FIELD(TABLE, 0));
+    return run();
+}
+#define TEARDOWN(part) teardown(GURTXOZAL_OP_TEARDOWN_##part, GURTXOZAL_MUST_TEARDOWN_##part)
+static void step(uint64_t removed, uint64_t rights) {
+    expect("teardown step", TEARDOWN(STEP), GURTXOZAL_DONE);
+    expect("whether a handle was removed", answer[GURTXOZAL_ANSWER_STEP_REMOVED], removed);
+    expect("the koid", answer[GURTXOZAL_ANSWER_STEP_KOID], removed ? KOID : 0);
+    expect("the kind", answer[GURTXOZAL_ANSWER_STEP_KIND], removed ? KIND : 0);
+    expect("the rights", answer[GURTXOZAL_ANSWER_STEP_RIGHTS], rights);
+    expect("the flags", answer[GURTXOZAL_ANSWER_STEP_FLAGS], removed);
+}
+/* Handles in slots 63, 62 and 61 of table 0. */
+static uint64_t three_handles(void) {
+    fresh();
+    uint64_t first = publish_first();
+    for (int i = 0; i < 2; i++) {
+        expect("duplicate", duplicate(first, 3), GURTXOZAL_DONE);
+        place(0, answer[GURTXOZAL_ANSWER_ID]);
+    }
+    return first;
+}
+
+/* The walk for a stopping owner, and its cursor; the last handle removed retires its object. */
+static void stopping_owner(void) {
+    three_handles();
+    stopping(62, 1, 63, value(62, 1));
+    stopping(63, 1, 64, value(63, 1));
+    stopping(64, 0, 0, 0);
+    stopping(UINT64_MAX, 0, 0, 0);
+    stopping(0, 1, 62, value(61, 1));
+    stopping(0, 0, 0, 0);
+    RECORD(GURTXOZAL_MUST_NEW_OBJECT, FIELD(OP, GURTXOZAL_OP_NEW_OBJECT), FIELD(OBJECT, 0), FIELD(RIGHTS, 0), FIELD(FLAGS, 0));
+    expect("the object is retired", run(), GURTXOZAL_OBJECT_RETIRED);
+    expect("the slot vacated last is first", (reserve(1), answer[GURTXOZAL_ANSWER_BATCH_VALUES]), value(61, 2));
+}
+
+static void torn_down(void) {
+    uint64_t first = three_handles();
+    expect("a step before the start", TEARDOWN(STEP), GURTXOZAL_MISUSE);
+    expect("a finish before the start", TEARDOWN(FINISH), GURTXOZAL_MISUSE);
+    expect("prepare transfer", prepare(GURTXOZAL_MOVE, first, 64), GURTXOZAL_DONE);
+    uint64_t claim = answer[GURTXOZAL_ANSWER_ID];
+    expect("start with an open claim", TEARDOWN(START), GURTXOZAL_OUTSTANDING_RESERVATION);
+    expect("rollback", rollback(claim), GURTXOZAL_DONE);
+    expect("reserve 1", reserve(1), GURTXOZAL_DONE);
+    uint64_t row = answer[GURTXOZAL_ANSWER_ID];
+    expect("start with an open reservation", TEARDOWN(START), GURTXOZAL_OUTSTANDING_RESERVATION);
+    abort_row(row);
+    expect("start", TEARDOWN(START), GURTXOZAL_DONE);
+    expect("start again", TEARDOWN(START), GURTXOZAL_TABLE_RETIRED);
+    expect("reserve in it", reserve(1), GURTXOZAL_TABLE_RETIRED);
+    expect("get_info in it", info(0, first), GURTXOZAL_TABLE_RETIRED);
+    stopping(7, 0, 7, 0);
+    step(1, 3);
+    step(1, 3);
+    expect("finish with an occupied slot", TEARDOWN(FINISH), GURTXOZAL_MISUSE);
+    step(1, RIGHTS);
+    step(0, 0);
+    expect("finish", TEARDOWN(FINISH), GURTXOZAL_DONE);
+    expect("start on a retired table", TEARDOWN(START), GURTXOZAL_TABLE_RETIRED);
+    expect("a step on a retired table", TEARDOWN(STEP), GURTXOZAL_MISUSE);
+    expect("a finish on a retired table", TEARDOWN(FINISH), GURTXOZAL_MISUSE);
+    expect("prepare transfer in a retired table", prepare(GURTXOZAL_MOVE, first, 64), GURTXOZAL_TABLE_RETIRED);
+    expect("close in a retired table", close_value(first), GURTXOZAL_TABLE_RETIRED);
+    RECORD(GURTXOZAL_MUST_TAKE_EMPTY_PAGE, FIELD(OP, GURTXOZAL_OP_TAKE_EMPTY_PAGE), FIELD(TABLE, 0));
+    expect("take_empty_page", run(), GURTXOZAL_DONE);
+    expect("whether a page was taken", answer[GURTXOZAL_ANSWER_TAKEN], 0);
+    expect("the other table is in use", reserve_in(1, 1), GURTXOZAL_DONE);
+}
+
 /* The whole call's numbers, and no word changed by them. */
 static void whole_call(void) {
     fresh();
@@ -270,10 +667,10 @@ static void whole_call(void) {
         exit(2);
     }
     memcpy(before, state, state_words * sizeof *state);
-    const uint64_t unknown[] = {3, GURTXOZAL_OP_TEARDOWN_START, 0}, cut[] = {GURTXOZAL_MUST_RESERVE, GURTXOZAL_OP_RESERVE, 0};
+    const uint64_t unknown[] = {3, GURTXOZAL_OP_TAKE_EMPTY_PAGE + 1, 0}, cut[] = {GURTXOZAL_MUST_RESERVE, GURTXOZAL_OP_RESERVE, 0};
     const uint64_t whole[] = {GURTXOZAL_MUST_RESERVE, GURTXOZAL_OP_RESERVE, 0, 1};
     memset(answer, 0xA5, sizeof answer);
-    expect("an op that is not served", gurtxozal_run(state, state_words, unknown, 3, answer, 72), GURTXOZAL_MALFORMED);
+    expect("an unknown op", gurtxozal_run(state, state_words, unknown, 3, answer, 72), GURTXOZAL_MALFORMED);
     expect("a list cut off", gurtxozal_run(state, state_words, cut, 3, answer, 72), GURTXOZAL_MALFORMED);
     expect("a short answer", gurtxozal_run(state, state_words, whole, 4, answer, 71), GURTXOZAL_ANSWER_SHORT);
     expect("a state cut off", gurtxozal_run(state, state_words - 1, whole, 4, answer, 72), GURTXOZAL_MISUSE);
@@ -291,7 +688,7 @@ static void shown(const char *name) {
 }
 
 int main(void) {
-    state_words = GURTXOZAL_STATE_WORDS(TABLES, PAGES, FRAMES, OBJECTS, ROWS);
+    state_words = GURTXOZAL_STATE_WORDS(TABLES, PAGES + PAGES_THERE, FRAMES, OBJECTS, ROWS);
     state = malloc(state_words * sizeof *state);
     if (state == NULL) {
         return 2;
@@ -303,6 +700,16 @@ int main(void) {
     p11(), shown("P11 320 slots, none occupied: no entry, next 256");
     p12(), shown("P12 fresh: publish in 63, close, take the page, reserve 1: slot 63, generation 3");
     others(), shown("the other requests, and refusals by their numbers");
+    ends(), shown("a table without a page left, and the last id");
+    held_and_rolled_back(), shown("a move is Busy while held, and rolled back has its own rights");
+    committed(), shown("a move committed is a parcel with the receiver's rights, published in another table");
+    copies(), shown("copies raise the count and a rollback releases them; a refused fifth copy leaves the counts and spends one id");
+    refused_transfers(), shown("a transfer's refusals, and a rollback with a copy between two moves");
+    consumption(), shown("consumption");
+    direct(0), shown("direct commit and rollback in one table");
+    direct(1), shown("direct commit and rollback between two tables");
+    stopping_owner(), shown("remove_stopping_owner and its cursor");
+    torn_down(), shown("teardown: start, steps, finish");
     whole_call(), shown("18, 19 and 20 change no word; an empty list is accepted");
     free(state);
     return failed != 0;

@@ -20,16 +20,7 @@ static inline const uint64_t *gurtxozal_answer(const uint64_t *answers, size_t n
     return answers + n * GURTXOZAL_ANSWER_WORDS;
 }
 
-/* Routes of a transfer, operations of its items, classes of objects. */
-enum {
-    GURTXOZAL_ROUTE_BUFFERED = 0,
-    GURTXOZAL_ROUTE_RENDEZVOUS = 1,
-    GURTXOZAL_ROUTE_STAGED_STARTUP = 2
-};
-enum {
-    GURTXOZAL_OPERATION_MOVE = 0,
-    GURTXOZAL_OPERATION_COPY = 1
-};
+/* Classes of objects; gurtxozal.h has a transfer's routes and its items' operations. */
 enum {
     GURTXOZAL_CLASS_LEAF = 0,
     GURTXOZAL_CLASS_RENDEZVOUS_ONLY = 1,

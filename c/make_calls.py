@@ -154,10 +154,8 @@ def choices(prefix, text):
 
 
 def constants():
-    route = row_of("Fields", r"^\| \d+ \| route \| ([^|]+) \|")[0]
-    operation = row_of("Ops", r"^\| transfer item \| operation \(([^)]+)\)")[0]
     kinds = row_of("Creation's parameters", r"^\| class \| ([^|]+) \|")[0]
-    return ["", "/* Routes of a transfer, operations of its items, classes of objects. */"] + choices("ROUTE", route) + choices("OPERATION", operation) + choices("CLASS", kinds)
+    return ["", "/* Classes of objects; gurtxozal.h has a transfer's routes and its items' operations. */"] + choices("CLASS", kinds)
 
 
 def parameters():

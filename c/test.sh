@@ -1,6 +1,6 @@
 #!/usr/bin/env bash
-# The port's outside tests: makes its static libraries and runs C programs over them and the comparison with the Rust through the same C calls.
-# No arguments. Ends with 'c: N passed, M failed'.
+# The port's outside tests: makes its static libraries and runs over them C programs, the recorded lists, the held and the plain run, and the comparison
+# with the Rust, all through the same C calls. No arguments. Ends with 'c: N passed, M failed'.
 set -u
 if [ $# -ne 0 ]; then
   echo "usage: c/test.sh (no arguments)" >&2
@@ -8,15 +8,9 @@ if [ $# -ne 0 ]; then
 fi
 cd "$(dirname "$0")/.." || exit 2
 root=$PWD
-passed=0
-failed=0
-good() { passed=$((passed + 1)); echo "ok    $1"; }
-bad() { failed=$((failed + 1)); echo "WRONG $1"; }
-finish() {
-  echo "c: $passed passed, $failed failed"
-  [ "$failed" -eq 0 ]
-  exit
-}
+name=c
+# shellcheck source=oracle/common.sh
+. oracle/common.sh
 work=$(mktemp -d) || exit 2
 trap 'rm -rf "$work"' EXIT
 
@@ -51,23 +45,33 @@ if built && "$work/wrong" >/dev/null 2>&1; then good "the right header, built th
 wrong=0
 caught=0
 missed=""
-while read -r name; do
-  awk -v name="$name" '{
+while read -r number; do
+  awk -v name="$number" '{
     if (match($0, "(^| )" name "( = | UINT64_C\\()[0-9]+")) {
       head = substr($0, 1, RSTART + RLENGTH - 1); tail = substr($0, RSTART + RLENGTH)
       match(head, /[0-9]+$/); print substr(head, 1, RSTART - 1) (substr(head, RSTART) + 1) tail
     } else print
   }' c/gurtxozal.h >"$work/header/gurtxozal.h"
   wrong=$((wrong + 1))
-  if cmp -s c/gurtxozal.h "$work/header/gurtxozal.h"; then missed="$missed $name(unchanged)"; elif built && "$work/wrong" >/dev/null 2>&1; then missed="$missed $name"; else caught=$((caught + 1)); fi
+  if cmp -s c/gurtxozal.h "$work/header/gurtxozal.h"; then missed="$missed $number(unchanged)"; elif built && "$work/wrong" >/dev/null 2>&1; then missed="$missed $number"; else caught=$((caught + 1)); fi
 done < <(
-  for name in DONE ALLOCATION INVALID_HANDLE WRONG_OBJECT_TYPE ACCESS_DENIED UNSUPPORTED_RIGHTS UNSUPPORTED_FLAGS OBJECT_RETIRED OBJECT_ALREADY_ACTIVE RESERVATION_TOO_LARGE EMPTY_RESERVATION \
-    MISUSE MALFORMED ANSWER_SHORT OP_NEW_OBJECT OP_DUPLICATE OP_RELEASE_PARCEL OP_RETIRE_OBJECT OP_RESERVE OP_TRIM OP_ABORT OP_PUBLISH OP_GET_INFO OP_RESOLVE OP_REPLACE OP_CLOSE OP_SCAN_HANDLES \
-    OP_TAKE_EMPTY_PAGE FIELD_OP FIELD_TABLE FIELD_OBJECT FIELD_COUNT FIELD_VALUE FIELD_RIGHTS FIELD_FLAGS FIELD_ID FIELD_KIND FIELD_CURSOR MUST_NEW_OBJECT MUST_DUPLICATE MUST_RESERVE MUST_TRIM MUST_ABORT \
-    MUST_PUBLISH MUST_GET_INFO MUST_RESOLVE MUST_REPLACE MUST_CLOSE MUST_SCAN_HANDLES MUST_TAKE_EMPTY_PAGE MUST_PARCEL_ITEM ANSWER_NUMBER ANSWER_ID ANSWER_BATCH_COUNT ANSWER_BATCH_VALUES ANSWER_INFO_KOID ANSWER_INFO_KIND \
-    ANSWER_INFO_RIGHTS ANSWER_INFO_FLAGS ANSWER_RESOLVED_OBJECT ANSWER_RESOLVED_KOID ANSWER_RESOLVED_RIGHTS ANSWER_NEW_VALUE ANSWER_SCAN_LENGTH ANSWER_SCAN_HAS_NEXT ANSWER_SCAN_NEXT ANSWER_SCAN_EXAMINED \
-    ANSWER_SCAN_ENTRIES SCAN_ENTRY_VALUE SCAN_ENTRY_KOID SCAN_ENTRY_KIND SCAN_ENTRY_RIGHTS SCAN_ENTRY_FLAGS ANSWER_TAKEN ANSWER_TAKEN_PAGE; do
-    echo "GURTXOZAL_$name"
+  ops="NEW_OBJECT DUPLICATE RELEASE_PARCEL RETIRE_OBJECT RESERVE TRIM ABORT PUBLISH GET_INFO RESOLVE REPLACE CLOSE SCAN_HANDLES PREPARE_TRANSFER PREPARE_CONSUMPTION ROLLBACK COMMIT
+    DIRECT_COMMIT DIRECT_ROLLBACK REMOVE_STOPPING_OWNER TEARDOWN_START TEARDOWN_STEP TEARDOWN_FINISH TAKE_EMPTY_PAGE"
+  for op in $ops; do
+    echo "GURTXOZAL_OP_$op"
+    echo "GURTXOZAL_MUST_$op"
+  done
+  for number in DONE ALLOCATION INVALID_HANDLE BUSY WRONG_OBJECT_TYPE ACCESS_DENIED UNSUPPORTED_RIGHTS UNSUPPORTED_FLAGS UNSUPPORTED_TRANSFER OBJECT_RETIRED OBJECT_ALREADY_ACTIVE \
+    ACTIVE_HANDLE_LIMIT RESERVATION_ID_EXHAUSTED RESERVATION_TOO_LARGE OUTSTANDING_RESERVATION TABLE_FULL TABLE_RETIRED EMPTY_RESERVATION MISUSE MALFORMED ANSWER_SHORT \
+    FIELD_OP FIELD_TABLE FIELD_OBJECT FIELD_COUNT FIELD_VALUE FIELD_RIGHTS FIELD_FLAGS FIELD_ID FIELD_DESTINATION FIELD_KIND FIELD_KOID FIELD_CURSOR FIELD_ROUTE FIELD_OFFERED_RIGHTS \
+    FIELD_OFFERED_KIND FIELD_EXPECTED_KIND FIELD_FORBIDDEN_OBJECT FIELD_FORBIDDEN_KIND \
+    MUST_TRANSFER_ITEM MAY_TRANSFER_ITEM MAY_PREPARE_TRANSFER MUST_PARCEL_ITEM MAY_PARCEL_ITEM ROUTE_BUFFERED ROUTE_STAGED_STARTUP MOVE COPY \
+    ANSWER_NUMBER ANSWER_ID ANSWER_BATCH_COUNT ANSWER_BATCH_VALUES ANSWER_INFO_KOID ANSWER_INFO_KIND ANSWER_INFO_RIGHTS ANSWER_INFO_FLAGS ANSWER_RESOLVED_OBJECT ANSWER_RESOLVED_KOID \
+    ANSWER_RESOLVED_RIGHTS ANSWER_NEW_VALUE ANSWER_SCAN_LENGTH ANSWER_SCAN_HAS_NEXT ANSWER_SCAN_NEXT ANSWER_SCAN_EXAMINED ANSWER_SCAN_ENTRIES ANSWER_REMOVED ANSWER_REMOVED_CURSOR \
+    ANSWER_REMOVED_VALUE ANSWER_REMOVED_KOID ANSWER_REMOVED_KIND ANSWER_REMOVED_RIGHTS ANSWER_REMOVED_FLAGS ANSWER_STEP_REMOVED ANSWER_STEP_KOID ANSWER_STEP_KIND ANSWER_STEP_RIGHTS \
+    ANSWER_STEP_FLAGS ANSWER_TAKEN ANSWER_TAKEN_PAGE \
+    SCAN_ENTRY_VALUE SCAN_ENTRY_KOID SCAN_ENTRY_KIND SCAN_ENTRY_RIGHTS SCAN_ENTRY_FLAGS; do
+    echo "GURTXOZAL_$number"
   done
 )
 if [ -z "$missed" ]; then good "$caught of $wrong wrong headers, each with one number changed, are caught by the cases"; else bad "wrong headers that were not caught:$missed"; fi
@@ -88,11 +92,8 @@ if "$work/any" 1 1000000; then good "any words: a million calls"; else bad "any 
 # shellcheck disable=SC2086
 if cc $flags -O1 c/stack.c $libraries -o "$work/stack" && "$work/stack"; then good "each call uses less than 4,096 bytes of stack"; else bad "each call uses less than 4,096 bytes of stack"; fi
 
-# The Rust, through the C calls.
-if ! command -v cargo >/dev/null 2>&1; then
-  echo "c: there is no cargo here, so neither the Rust nor the recorded lists were run through the C calls"
-  finish
-fi
+# The recorded lists, the held and the plain run, and the Rust, through the C calls.
+has_cargo || finish
 export CARGO_TARGET_DIR="$root/target/oracle-port" ORACLE_PORT=target/staticlib
 if ! (cd oracle && cargo build --release --offline --quiet) 2>"$work/out"; then
   cat "$work/out"
@@ -100,22 +101,10 @@ if ! (cd oracle && cargo build --release --offline --quiet) 2>"$work/out"; then
   finish
 fi
 program=$CARGO_TARGET_DIR/release/oracle
-part() {
-  "$program" "$@" >"$work/out" 2>&1
-  local status=$? last
-  cat "$work/out"
-  last=$(tail -n 1 "$work/out")
-  if [[ $last =~ ^[a-z]+:\ ([0-9]+)\ passed,\ ([0-9]+)\ failed$ ]]; then
-    passed=$((passed + BASH_REMATCH[1]))
-    failed=$((failed + BASH_REMATCH[2]))
-    if [ "${BASH_REMATCH[2]}" -eq 0 ] && [ "$status" -ne 0 ]; then bad "oracle $1 ends with status $status"; fi
-  else
-    bad "oracle $1 ends with status $status and no count"
-  fi
-}
 part replay recorded port
-if [ "$("$program" sources)" = none ]; then
-  echo "c: the Rust sources are not beside the repository, so the port was compared with the recorded lists only"
+part held-port 0 20000
+if ! has_rust "$program"; then
+  echo "c: the port was compared with the recorded lists, and with itself in the held and the plain run"
   finish
 fi
 part port 0 1000000

@@ -130,7 +130,7 @@ int main(void) {
 
     printf("The scale hands its weight to the till: a transfer is prepared.\n");
     PUT(prepare_transfer, SCALE, 1, GURTXOZAL_ROUTE_RENDEZVOUS, NULL);
-    PUT(transfer_item, GURTXOZAL_OPERATION_MOVE, scales_weight, DUPLICATE | TRANSFER | READ, NULL);
+    PUT(transfer_item, GURTXOZAL_MOVE, scales_weight, DUPLICATE | TRANSFER | READ, NULL);
     const struct gurtxozal_prepare_transfer_answer claim = gurtxozal_read_prepare_transfer(run());
     done("prepare transfer", claim.number);
     look(SCALE, scales_weight); /* held: busy */
@@ -153,7 +153,7 @@ int main(void) {
     const uint64_t printers_weight = page.values[0];
     const struct gurtxozal_transfer_item_may sensor = {.map = GURTXOZAL_BIT(GURTXOZAL_FIELD_EXPECTED_KIND), .expected_kind = SENSOR};
     PUT(prepare_transfer, TILL, 1, GURTXOZAL_ROUTE_RENDEZVOUS, NULL);
-    PUT(transfer_item, GURTXOZAL_OPERATION_COPY, tills_weight, READ, &sensor);
+    PUT(transfer_item, GURTXOZAL_COPY, tills_weight, READ, &sensor);
     const struct gurtxozal_prepare_transfer_answer copy = gurtxozal_read_prepare_transfer(run());
     done("prepare transfer", copy.number);
     PUT(direct_commit, copy.id, page.id);

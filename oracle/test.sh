@@ -1,6 +1,7 @@
 #!/usr/bin/env bash
 # The oracle's part of the gate: builds it and runs its checks. No arguments.
-# Where the Rust sources are not beside the repository, it says so and replays the recorded lists on the reading only.
+# Where the Rust sources are not beside the repository, it says so and replays the recorded lists on the reading only. Where they are, and the Rust
+# can't be built, it fails.
 set -u
 
 if [ $# -ne 0 ]; then
@@ -9,45 +10,20 @@ if [ $# -ne 0 ]; then
 fi
 here=$(cd "$(dirname "$0")" && pwd) || exit 2
 cd "$here" || exit 2
+root=$(dirname "$here")
 recorded=../recorded
-passed=0
-failed=0
+name=oracle
+# shellcheck source=oracle/common.sh
+. "$here/common.sh"
 
-finish() {
-    echo "oracle: $passed passed, $failed failed"
-    [ "$failed" -eq 0 ]
-    exit
-}
-
-good() {
-    passed=$((passed + 1))
-    echo "ok    $1"
-}
-
-bad() {
-    failed=$((failed + 1))
-    echo "WRONG $1"
-}
-
-for name in cases states plain edges scrambled last-page served; do
-    if grep -q '^case ' "$recorded/$name.txt" 2>/dev/null; then
-        good "recorded/$name.txt has cases"
+for file in cases states plain edges scrambled last-page mixed; do
+    if grep -q '^case ' "$recorded/$file.txt" 2>/dev/null; then
+        good "recorded/$file.txt has cases"
     else
-        bad "recorded/$name.txt has cases"
+        bad "recorded/$file.txt has cases"
     fi
 done
-if [ -n "${ORACLE_RUST_SOURCES:-}" ]; then
-    sources=$ORACLE_RUST_SOURCES
-    [ "${sources#/}" = "$sources" ] && sources=../$sources
-    if [ ! -f "$sources/src/capability/handle/mod.rs" ]; then
-        bad "ORACLE_RUST_SOURCES names the Rust sources: there is no src/capability/handle/mod.rs in $ORACLE_RUST_SOURCES"
-        finish
-    fi
-fi
-if ! command -v cargo >/dev/null 2>&1; then
-    echo "oracle: there is no cargo here, so neither the Rust nor the recorded lists were run"
-    finish
-fi
+has_cargo || finish
 
 work=$(mktemp -d) || exit 2
 trap 'rm -rf "$work"' EXIT
@@ -60,24 +36,6 @@ fi
 good "the oracle builds"
 program=${CARGO_TARGET_DIR:-target}/release/oracle
 reader=${CARGO_TARGET_DIR:-target}/release/words_to_text
-
-# Runs a command of the oracle and adds up its last line.
-part() {
-    local status last
-    "$program" "$@" >"$work/out" 2>&1
-    status=$?
-    cat "$work/out"
-    last=$(tail -n 1 "$work/out")
-    if [[ $last =~ ^[a-z]+:\ ([0-9]+)\ passed,\ ([0-9]+)\ failed$ ]]; then
-        passed=$((passed + BASH_REMATCH[1]))
-        failed=$((failed + BASH_REMATCH[2]))
-        if [ "${BASH_REMATCH[2]}" -eq 0 ] && [ "$status" -ne 0 ]; then
-            bad "oracle $1 ends with status $status"
-        fi
-    else
-        bad "oracle $1 ends with status $status and no count"
-    fi
-}
 
 # A wrong use must end with status 2 and this message.
 refuses() {
@@ -111,11 +69,12 @@ else
     bad "a state's text, through its words and the second reader, is the same text"
 fi
 
-if [ "$("$program" sources)" = none ]; then
-    echo "oracle: the Rust sources are not beside the repository, so the Rust is not run: the recorded lists are replayed on the reading"
+if ! has_rust "$program"; then
+    echo "oracle: the recorded lists are replayed on the reading"
     refuses "this command needs the Rust" "$program" check
     part replay "$recorded"
     part slips "$recorded"
+    part held-entry 0 300
     finish
 fi
 "$program" sources
@@ -131,7 +90,8 @@ part replay "$recorded" rust
 part replay "$recorded"
 part slips "$recorded"
 part shrink 1
-part held 0 2000
+part held 0 20000
+part held-entry 0 300
 part entry 0 30000
 part random 0 1100000
 finish

@@ -114,6 +114,10 @@ for item in ("transfer", "parcel"):
     for part in ("MUST", "MAY"):
         same(f"the header's {part} of a {item} item", in_c(f"{part}_{item.upper()}_ITEM"), constant(source["lib"], f"{item.upper()}_ITEM_{part}"))
 same("the header's words of an answer", in_c("ANSWER_WORDS"), 72)
+for number, route in re.findall(r"(\d) ([A-Z]\w+)", re.search(r"^\| \d+ \| route \| ([^|]+) \|", doc, flags=re.M).group(1)):
+    same(f"the header's route {route}", in_c("ROUTE_" + re.sub(r"(?<!^)(?=[A-Z])", "_", route).upper()), int(number))
+for number, operation in re.findall(r"(\d) ([A-Z]\w+)", re.search(r"^\| transfer item \| operation \(([^)]+)\)", doc, flags=re.M).group(1)):
+    same(f"the header's operation {operation}", in_c(operation.upper()), int(number))
 
 # the functions for a kernel, which are made from the page
 made = subprocess.run([sys.executable, root / "c/make_calls.py", "--print"], capture_output=True, text=True)

@@ -1,13 +1,12 @@
 #!/usr/bin/env python3
 """The recorded lists on the port: what the program `replay` reads, and what it wrote (crates/replay/src/main.rt has the form of both).
 
-  replay.py --write    writes crates/replay/stdin from recorded/cases.txt and recorded/served.txt
+  replay.py --write    writes crates/replay/stdin from recorded/cases.txt and recorded/mixed.txt
   replay.py --run      runs the proved program, target/bin/replay, on it and writes crates/replay/stdout
   replay.py            crates/replay/stdin is what would be written, and crates/replay/stdout, to which the check of the crates holds the program's output, says
                        what the recorded lists say: each result, each answer, and each end state, whose words are read by `words_to_text`
 
-A case is cut before its first call with an op that the runner does not serve. The end state is shown where the case has its text and was not cut. A case whose
-state has no room in the program is left out.
+The end state is shown where the case has its text. A case whose state has no room in the program is left out.
 """
 import os
 import re
@@ -22,8 +21,7 @@ from recorded import cases, words
 from scratch import root
 
 CRATE = root / "crates" / "replay"
-FILES = ("cases.txt", "served.txt")
-SERVED = {*range(1, 14), 24}
+FILES = ("cases.txt", "mixed.txt")
 ANSWER = 72  # words of an answer; a call of one request is lent one word more
 HEADER = 16
 
@@ -54,28 +52,6 @@ def needed(case):
     return need(t, f, o, r, sum(start[4 : 4 + 2 * t : 2]))
 
 
-def ops(request_list):
-    """The ops of a list that is not malformed."""
-    at, items = 0, 0
-    while at < len(request_list):
-        bits = [b for b in range(18) if request_list[at] >> b & 1]
-        field = dict(zip(bits, request_list[at + 1 :]))
-        at += 1 + len(bits)
-        if items:
-            items -= 1
-            continue
-        yield field[0]
-        if field[0] in (8, 14):
-            items = field[3]
-
-
-def served(call):
-    """Whether the runner's result must be the recorded one: it refuses a list with an op that it does not serve as malformed (19)."""
-    if call[0] == "!" and call[2] in (18, 19):
-        return True
-    return all(op in SERVED for op in ops(call[1] if call[0] == "=" else call[3]))
-
-
 class Record:
     """A record of the input, and its line of output: ('start', R), ('call', R, ANSWER, KEPT) or ('state', TEXT, WORDS PAST THE STATE'S)."""
 
@@ -84,12 +60,10 @@ class Record:
 
 
 def records(case, name):
-    """The records of a case, and whether it was cut."""
+    """The records of a case."""
     kind, start = case.start
     out = [Record(name, [1 if kind == "create" else 2, len(start), *start], ("start", case.result))]
     for call in case.calls:
-        if not served(call):
-            return out, True
         if call[0] == "=":
             out.append(Record(name, [3, ANSWER + 1, len(call[1]), *call[1]], ("call", 0, stripped(call[2]), 1)))
         else:
@@ -98,7 +72,7 @@ def records(case, name):
     if case.text:
         past = [PATTERN] * (STATE - needed(case)) if kind == "create" else start[need(*start[1:5], start[8]) :]
         out.append(Record(name, [4], ("state", case.text, past)))
-    return out, False
+    return out
 
 
 def stripped(answer):
@@ -112,21 +86,20 @@ def planned():
     """Every record, and what is left out, in lines to print."""
     out, said = [], []
     for file in FILES:
-        taken, cut = 0, 0
+        taken = 0
         for case in cases(root / "recorded" / file):
             name = f"{file} {case.name}"
             if needed(case) > STATE:
                 said.append(f"{name}: left out, its state of {needed(case)} words has no room")
                 continue
-            more, short = records(case, name)
+            more = records(case, name)
             if any(len(r.read) > CALL for r in more if r.line[0] == "call") or any(r.read[1] > CALL for r in more if r.line[0] == "call"):
                 sys.exit(f"{name}: a list or its answers have no room")
             out += more
             taken += 1
-            cut += short
         if not taken:
             sys.exit(f"recorded/{file} has no case")
-        said.append(f"{file}: {taken} cases, {cut} of them cut before an op that is not served")
+        said.append(f"{file}: {taken} cases")
     return out, said
 
 

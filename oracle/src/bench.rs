@@ -8,13 +8,14 @@ use std::time::Instant;
 use crate::c_entry::CEntry;
 use crate::oracle::{Direct, Oracle};
 use crate::requests::*;
+use crate::state::{Slot, State};
 use crate::subject::{Start, Subject};
 
 const OBJECTS: u64 = 4000;
 const ROWS: u64 = 16;
 /// Requests in a list, about.
 const LONG: usize = 20_000;
-const TIMES: usize = 7;
+const TIMES: usize = 15;
 
 /// The state of a table of so many pages, each slot of which is occupied by a handle of object 0, but for `free` slots of the last page.
 fn filled(pages: u64, free: u64, spare: u64) -> (Direct, Vec<u64>) {
@@ -46,11 +47,26 @@ fn filled(pages: u64, free: u64, spare: u64) -> (Direct, Vec<u64>) {
     (rust, vec![first])
 }
 
-/// The median of some runs, in nanoseconds.
+/// The values of a table's handles, mask 0.
+fn handles(state: &State) -> Vec<u64> {
+    let mut values = Vec::new();
+    for (number, page) in state.tables[0].pages.iter().enumerate() {
+        for (place, slot) in page.slots.iter().enumerate() {
+            if let Slot::Occupied(generation, _) = slot {
+                values.push(0x4800_0000_0000_0000 | generation << 24 | (number as u64 * 64 + place as u64 + 1));
+            }
+        }
+    }
+    values
+}
+
+/// The median of some runs, in nanoseconds: of more runs where they are short.
 fn median(mut run: impl FnMut() -> f64) -> f64 {
-    let mut times: Vec<f64> = (0..TIMES).map(|_| run()).collect();
+    let first = run();
+    let runs = if first < 200_000.0 { 20 * TIMES } else { TIMES };
+    let mut times: Vec<f64> = (1..runs).map(|_| run()).chain([first]).collect();
     times.sort_by(f64::total_cmp);
-    times[TIMES / 2]
+    times[runs / 2]
 }
 
 /// A list made by asking the Rust: `next` gives the next request from the last answers.
@@ -78,7 +94,7 @@ pub fn run() {
 }
 
 fn measure() {
-    println!("{:>9} {:40} {:>10} {:>10} {:>10} {:>7} {:>7}", "slots", "requests", "port ns", "Rust ns", "less words", "ratio", "less");
+    println!("{:>9} {:48} {:>10} {:>10} {:>10} {:>7} {:>7}", "slots", "requests", "port ns", "Rust ns", "less words", "ratio", "less");
     for pages in [1u64, 64, 4096] {
         let (mut rust, values) = filled(pages, 16.min(pages * 64 - 2), 2);
         let first = values[0];
@@ -86,29 +102,31 @@ fn measure() {
         rust.end();
         let words = crate::words::encode(&crate::state::parse(&text).expect("its own text"));
         let start = Start::Words(words.clone());
-        // The lists: one request over and over, or a cycle that leaves the table as it was.
+        let state = crate::state::parse(&text).expect("its own text");
+        let handles = handles(&state);
+        // The lists: one request over and over, or a cycle that leaves as many handles in the table as it had.
         let one = |request: Request| list_of(&start, LONG, move |_, _| request.clone());
-        let mut lists: Vec<(&str, usize, (Vec<u64>, usize))> = vec![
-            ("get_info", 1, one(get_info(0, first))),
-            ("resolve", 1, one(resolve(0, first, 1, 7))),
-            ("scan_handles, 8 entries", 1, one(scan(0, 0))),
-            ("retire object", 1, one(retire(OBJECTS - 1))),
-            ("replace", 1, list_of(&start, LONG, |at, answers| replace(0, if at == 0 { first } else { answers[at - 1][1] }, u64::MAX))),
-            ("reserve 1, abort", 2, list_of(&start, LONG, |at, answers| if at % 2 == 0 { reserve(0, 1) } else { abort(answers[at - 1][1]) })),
-            ("reserve 16, abort", 2, list_of(&start, LONG, |at, answers| if at % 2 == 0 { reserve(0, 16) } else { abort(answers[at - 1][1]) })),
+        let mut lists: Vec<(String, f64, (Vec<u64>, usize))> = vec![
+            ("get_info".to_string(), 1.0, one(get_info(0, first))),
+            ("resolve".to_string(), 1.0, one(resolve(0, first, 1, 7))),
+            ("scan_handles, 8 entries".to_string(), 1.0, one(scan(0, 0))),
+            ("retire object".to_string(), 1.0, one(retire(OBJECTS - 1))),
+            ("replace".to_string(), 1.0, list_of(&start, LONG, |at, answers| replace(0, if at == 0 { first } else { answers[at - 1][1] }, u64::MAX))),
+            ("reserve 1, abort".to_string(), 2.0, list_of(&start, LONG, |at, answers| if at % 2 == 0 { reserve(0, 1) } else { abort(answers[at - 1][1]) })),
+            ("reserve 16, abort".to_string(), 2.0, list_of(&start, LONG, |at, answers| if at % 2 == 0 { reserve(0, 16) } else { abort(answers[at - 1][1]) })),
             (
-                "reserve 2, trim to 1, abort",
-                3,
+                "reserve 2, trim to 1, abort".to_string(),
+                3.0,
                 list_of(&start, LONG / 3 * 3, |at, answers| match at % 3 {
                     0 => reserve(0, 2),
                     1 => trim(answers[at - 1][1], 1),
                     _ => abort(answers[at - 2][1]),
                 }),
             ),
-            ("duplicate, release parcel", 2, list_of(&start, LONG, |at, answers| if at % 2 == 0 { duplicate(0, first, 1) } else { release(answers[at - 1][1]) })),
+            ("duplicate, release parcel".to_string(), 2.0, list_of(&start, LONG, |at, answers| if at % 2 == 0 { duplicate(0, first, 1) } else { release(answers[at - 1][1]) })),
             (
-                "duplicate, reserve 1, publish, close",
-                4,
+                "duplicate, reserve 1, publish, close".to_string(),
+                4.0,
                 list_of(&start, LONG, |at, answers| match at % 4 {
                     0 => duplicate(0, first, 1),
                     1 => reserve(0, 1),
@@ -116,11 +134,11 @@ fn measure() {
                     _ => close(0, answers[at - 2][3]),
                 }),
             ),
-            ("new object, release parcel", 2, list_of(&start, 2 * (OBJECTS as usize - 2), |at, answers| if at % 2 == 0 { new_object(1 + at as u64 / 2, 1, 0) } else { release(answers[at - 1][1]) })),
+            ("new object, release parcel".to_string(), 2.0, list_of(&start, 2 * (OBJECTS as usize - 2), |at, answers| if at % 2 == 0 { new_object(1 + at as u64 / 2, 1, 0) } else { release(answers[at - 1][1]) })),
             // 17 slots: the 16 free ones do not do, so that a page is attached, and is empty again after the abort.
             (
-                "reserve 17 (a page more), abort, take_empty_page",
-                3,
+                "reserve 17 (a page more), abort, take_empty_page".to_string(),
+                3.0,
                 list_of(&start, LONG / 3 * 3, |at, answers| match at % 3 {
                     0 => reserve(0, 17),
                     1 => abort(answers[at - 1][1]),
@@ -128,6 +146,70 @@ fn measure() {
                 }),
             ),
         ];
+        for count in [1, 8, 64.min(handles.len())] {
+            let (long, held) = (LONG / (2 * count) + 2, handles[..count].to_vec());
+            let claim = |operation: u64, values: &[u64]| transfer(0, 0, values.iter().map(|value| item(operation, *value, u64::MAX)).collect());
+            let given = |answer: &[u64; ANSWER]| answer[3..3 + count].to_vec();
+            lists.push((
+                format!("prepare a transfer of {count}, rollback"),
+                2.0,
+                list_of(&start, 2 * long, |at, answers| if at % 2 == 0 { claim(0, &held) } else { rollback(answers[at - 1][1]) }),
+            ));
+            lists.push((
+                format!("prepare copies of {count}, commit, release parcel"),
+                3.0,
+                list_of(&start, 3 * long, |at, answers| match at % 3 {
+                    0 => claim(1, &held),
+                    1 => commit(answers[at - 1][1]),
+                    _ => release(answers[at - 2][1]),
+                }),
+            ));
+            lists.push((
+                format!("prepare {count}, commit, reserve {count}, publish"),
+                4.0,
+                list_of(&start, 4 * long, |at, answers| match at % 4 {
+                    0 => claim(0, &if at == 0 { held.clone() } else { given(&answers[at - 2]) }),
+                    1 => commit(answers[at - 1][1]),
+                    2 => reserve(0, count as u64),
+                    _ => publish(answers[at - 1][1], &[answers[at - 3][1]]),
+                }),
+            ));
+            lists.push((
+                format!("reserve {count}, prepare {count}, direct commit"),
+                3.0,
+                list_of(&start, 3 * long, |at, answers| match at % 3 {
+                    0 => reserve(0, count as u64),
+                    1 => claim(0, &if at == 1 { held.clone() } else { given(&answers[at - 4]) }),
+                    _ => direct_commit(answers[at - 1][1], answers[at - 2][1]),
+                }),
+            ));
+        }
+        lists.push((
+            "prepare consumption, rollback".to_string(),
+            2.0,
+            list_of(&start, LONG, |at, answers| if at % 2 == 0 { consume(0, first, 1, 7, 1000) } else { rollback(answers[at - 1][1]) }),
+        ));
+        // These can't be repeated: one walk over the table's handles, at most some number of them, from the same state in each run. A walk over few handles takes less time
+        // than the check of the state before it, so that its time can't be told.
+        let walk = handles.len().min(LONG);
+        if walk >= 1000 {
+            lists.push((
+                format!("remove_stopping_owner, each of {walk}"),
+                1.0,
+                list_of(&start, walk, |at, answers| stopping(0, if at == 0 { 0 } else { answers[at - 1][2] })),
+            ));
+            // Start, a step for each handle, and where that is all of them the step that finds none, and finish.
+            let whole = walk == handles.len();
+            lists.push((
+                format!("{}teardown, each of {walk}", if whole { "" } else { "part of a " }),
+                if whole { 1.0 + 3.0 / walk as f64 } else { 1.0 + 1.0 / walk as f64 },
+                list_of(&start, if whole { walk + 3 } else { walk + 1 }, |at, _| match at {
+                    0 => teardown_start(0),
+                    _ if at == walk + 2 => teardown_finish(0),
+                    _ => teardown_step(0),
+                }),
+            ));
+        }
         for (name, cycle, (list, count)) in lists.drain(..) {
             let mut answers = vec![0u64; count * ANSWER];
             let mut wanted = vec![0u64; count * ANSWER];
@@ -162,9 +244,9 @@ fn measure() {
             let check = timed(&[], &mut []);
             let whole = timed(&list, &mut answers);
             assert_eq!(answers, wanted, "{name}: the answers differ");
-            let each = |time: f64| time / count as f64 * cycle as f64;
+            let each = |time: f64| time / count as f64 * cycle;
             let (port_ns, rust_ns, less_ns) = (each(whole - check), each(rust_time), each(rust_time - reading));
-            println!("{:>9} {name:40} {port_ns:>10.0} {rust_ns:>10.0} {less_ns:>10.0} {:>7.2} {:>7.2}", pages * 64, port_ns / rust_ns, port_ns / less_ns);
+            println!("{:>9} {name:48} {port_ns:>10.0} {rust_ns:>10.0} {less_ns:>10.0} {:>7.2} {:>7.2}", pages * 64, port_ns / rust_ns, port_ns / less_ns);
         }
         // The state check beside a plain read of the same words.
         let mut port = CEntry::of_the_port();

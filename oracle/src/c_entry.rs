@@ -20,11 +20,6 @@ unsafe extern "C" {
     fn gurtxozal_run(state: *mut u64, state_length: usize, list: *const u64, list_length: usize, answers: *mut u64, answers_length: usize) -> u64;
 }
 
-/// The ops that the port's runner serves; every other op is unknown to it (19).
-pub fn served(op: u64) -> bool {
-    matches!(op, 1..=13 | 24)
-}
-
 pub struct CEntry {
     create: CreateCall,
     run: RunCall,

@@ -4,13 +4,13 @@ use std::collections::BTreeMap;
 
 use crate::check::explained;
 use crate::tally::Tally;
-use crate::coverage::Coverage;
-use crate::generate::{KINDS, Kind, Sequence, Served, last_call, sequence_of, shrink};
+use crate::coverage::{Coverage, possible};
+use crate::generate::{KINDS, Kind, Sequence, last_call, sequence_with, shrink};
 use crate::oracle::Oracle;
 use crate::requests::{ANSWER, NAMES, read_list};
 use crate::second_reader;
 use crate::state;
-use crate::subject::{Call, FILL, Runs, Start, Trace, difference};
+use crate::subject::{Call, FILL, Runs, Start, Texts, Trace, difference};
 use crate::words;
 
 pub struct Settings {
@@ -19,9 +19,7 @@ pub struct Settings {
     pub seed: u64,
     pub requests: u64,
     pub length: usize,
-    /// The ops in the lists.
-    pub served: Served,
-    /// Whether every possible pair of a served request and a number must occur.
+    /// Whether every possible pair of a request and a number must occur.
     pub covers: bool,
 }
 
@@ -36,8 +34,8 @@ pub fn show(start: &Start, calls: &[Call]) {
     }
 }
 
-/// Compares the oracle with the subject that `other` makes, on random lists. The generator's own trace is the reading's; with
-/// `reading_only` that trace is what is compared, else the subject runs the same lists again.
+/// Compares the oracle with a subject on random lists. The generator's own trace is the reading's: without another subject that trace is what is
+/// compared, else the subject runs the same lists again.
 pub fn random(settings: &Settings, mut other: Option<&mut dyn Runs>, tally: &mut Tally) {
     let mut oracle = Oracle::default();
     let mut coverage = Coverage::default();
@@ -54,7 +52,7 @@ pub fn random(settings: &Settings, mut other: Option<&mut dyn Runs>, tally: &mut
             _ => Kind::Scrambled,
         };
         let length = if kind == Kind::LastPage { 30 } else { settings.length };
-        let Sequence { start, calls, trace } = sequence_of(seed, kind, length, settings.served);
+        let Sequence { start, calls, trace } = sequence_with(seed, kind, length, if other.is_some() { Texts::Last } else { Texts::Each });
         per_kind[kind as usize] += 1;
         let found = oracle.run(&start, &calls);
         let compared = match other.as_mut() {
@@ -134,7 +132,7 @@ pub fn random(settings: &Settings, mut other: Option<&mut dyn Runs>, tally: &mut
         }
     }
     let whole = other.is_none();
-    let (unseen, strange) = if settings.covers { coverage.print(settings.served) } else { (0, 0) };
+    let (unseen, strange) = if settings.covers { coverage.print(possible) } else { (0, 0) };
     let name = settings.name;
     let stopped: u64 = violations.values().sum();
     for (why, count) in &violations {

@@ -1,6 +1,5 @@
 //! Requests against answer numbers: what was seen, and which cells can't occur and why.
 
-use crate::generate::Served;
 use crate::requests::*;
 use crate::subject::{Call, Trace};
 
@@ -46,9 +45,21 @@ const POSSIBLE: [&[usize]; OPS] = [
     &[0, 18],
 ];
 
+/// Which pairs of a request and a number can occur.
+pub type Possible = fn(u64, usize) -> bool;
+/// In any list.
+pub fn possible(op: u64, number: usize) -> bool {
+    POSSIBLE[op as usize].contains(&number)
+}
+/// In the list of a held and a plain run: "H refuses nothing for want of a row or an id". A reservation can lack frames.
+pub fn possible_while_held(op: u64, number: usize) -> bool {
+    possible(op, number) && number != 12 && (number != 1 || op == RESERVE)
+}
+
 /// Why a number can't be a request's answer.
 fn why_not(op: u64, number: usize) -> &'static str {
     match number {
+        1 | 12 if possible(op, number) => "would want a row or an id, which the held run's list does not",
         1 => "takes no row and no frame",
         2 | 3 => "names no handle value",
         4 => "compares no kind",
@@ -97,12 +108,12 @@ impl Coverage {
         }
     }
     /// The possible cells that were not seen, as (request, number), and how many were.
-    pub fn unseen(&self, served: Served) -> (Vec<(usize, usize)>, usize) {
+    pub fn unseen(&self, possible: Possible) -> (Vec<(usize, usize)>, usize) {
         let (mut none, mut some) = (Vec::new(), 0);
-        for op in (1..OPS).filter(|op| served(*op as u64)) {
-            for number in POSSIBLE[op] {
-                if self.cells[op][*number] == 0 {
-                    none.push((op, *number));
+        for op in 1..OPS {
+            for number in (0..19).filter(|number| possible(op as u64, *number)) {
+                if self.cells[op][number] == 0 {
+                    none.push((op, number));
                 } else {
                     some += 1;
                 }
@@ -111,19 +122,18 @@ impl Coverage {
         (none, some)
     }
     /// The table; gives how many possible cells were not seen and how many impossible ones were.
-    pub fn print(&self, served: Served) -> (usize, usize) {
+    pub fn print(&self, possible: Possible) -> (usize, usize) {
         let (mut unseen, mut strange) = (0, 0);
         print!("{:>22} |", "request \\ answer");
         for number in 0..19 {
             print!("{number:>8}");
         }
         println!();
-        for op in (1..OPS).filter(|op| served(*op as u64)) {
+        for op in 1..OPS {
             print!("{op:>2} {:>19} |", &NAMES[op][..NAMES[op].len().min(19)]);
             for number in 0..19 {
-                let possible = POSSIBLE[op].contains(&number);
                 let count = self.cells[op][number];
-                match (possible, count) {
+                match (possible(op as u64, number), count) {
                     (true, 0) => {
                         unseen += 1;
                         print!("{:>8}", "UNSEEN");
@@ -142,8 +152,8 @@ impl Coverage {
         println!("cells marked '.' can't occur:");
         for number in 1..18 {
             let mut reasons: Vec<(&str, Vec<String>)> = Vec::new();
-            for op in (1..OPS).filter(|op| served(*op as u64)) {
-                if !POSSIBLE[op].contains(&number) {
+            for op in 1..OPS {
+                if !possible(op as u64, number) {
                     let why = why_not(op as u64, number);
                     match reasons.iter_mut().find(|(reason, _)| *reason == why) {
                         Some((_, ops)) => ops.push(op.to_string()),

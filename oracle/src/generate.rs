@@ -4,7 +4,7 @@
 use crate::reading::{Reading, Slip};
 use crate::requests::*;
 use crate::state::*;
-use crate::subject::{Call, Runs, Start, Step, Subject, Trace, difference, FILL};
+use crate::subject::{Call, Runs, Start, Step, Subject, Texts, Trace, difference, FILL};
 use crate::words;
 
 pub struct Rng(u64);
@@ -80,17 +80,10 @@ fn parameters(rng: &mut Rng) -> Vec<u64> {
     words
 }
 
-/// Which ops the lists hold.
-pub type Served = fn(u64) -> bool;
-pub fn every_op(_op: u64) -> bool {
-    true
-}
-
 /// What a request can name in a state.
 struct View<'a> {
     s: &'a State,
     rng: &'a mut Rng,
-    served: Served,
 }
 
 impl View<'_> {
@@ -238,17 +231,12 @@ impl View<'_> {
     }
 
     fn request(&mut self) -> Request {
-        let mut weights: [(u64, u64); 24] = [
+        let weights: [(u64, u64); 24] = [
             (NEW_OBJECT, 60), (DUPLICATE, 160), (RELEASE, 10), (RETIRE, 2), (RESERVE, 110), (TRIM, 15), (ABORT, 15), (PUBLISH, 170),
             (GET_INFO, 25), (RESOLVE, 25), (REPLACE, 35), (CLOSE, 30), (SCAN, 30), (TRANSFER, 120), (CONSUME, 25), (ROLLBACK, 45),
             (COMMIT, 45), (DIRECT_COMMIT, 60), (DIRECT_ROLLBACK, 25), (STOPPING, 6), (TEARDOWN_START, 2), (TEARDOWN_STEP, 25),
             (TEARDOWN_FINISH, 10), (TAKE_PAGE, 40),
         ];
-        for (op, weight) in &mut weights {
-            if !(self.served)(*op) {
-                *weight = 0;
-            }
-        }
         let total: u64 = weights.iter().map(|(_, weight)| weight).sum();
         let mut op = TAKE_PAGE;
         // Requests that have nothing to work on are mostly passed over.
@@ -570,15 +558,15 @@ fn spoil(rng: &mut Rng, words: &mut Vec<u64>) {
     }
 }
 
-pub fn next_call(rng: &mut Rng, state: &State, served: Served) -> Call {
-    let mut list = View { s: state, rng: &mut *rng, served }.request().words();
+/// A request on this state.
+pub fn next_request(rng: &mut Rng, state: &State) -> Request {
+    View { s: state, rng }.request()
+}
+
+pub fn next_call(rng: &mut Rng, state: &State) -> Call {
+    let mut list = next_request(rng, state).words();
     if rng.chance(15) {
-        let good = list.clone();
         spoil(rng, &mut list);
-        // A spoilt list can be well formed, with another op.
-        if read_list(&list).is_some_and(|requests| requests.iter().any(|request| !served(request.op()))) {
-            list = good;
-        }
     }
     let lent = if rng.chance(5) { rng.below(72) as usize } else { ANSWER + 1 };
     Call { list, lent }
@@ -592,7 +580,7 @@ fn grown(rng: &mut Rng, params: &[u64], steps: usize) -> State {
     }
     for _ in 0..steps {
         let Some(state) = reading.state() else { break };
-        let list = View { s: state, rng: &mut *rng, served: every_op }.request().words();
+        let list = next_request(rng, state).words();
         let mut answers = vec![0; ANSWER];
         reading.call(&list, &mut answers);
     }
@@ -835,40 +823,57 @@ pub struct Sequence {
     pub trace: Trace,
 }
 
-pub fn sequence(seed: u64, kind: Kind, length: usize) -> Sequence {
-    sequence_of(seed, kind, length, every_op)
+/// A state some requests old, changed as its kind says.
+fn old_state(rng: &mut Rng, kind: Kind, params: &[u64]) -> State {
+    let steps = 20 + rng.below(120) as usize;
+    let mut state = grown(rng, params, steps);
+    match kind {
+        Kind::Plain => {}
+        Kind::Edges => {
+            if rng.chance(300) {
+                crowd(rng, &mut state);
+            }
+            to_the_edge(rng, &mut state);
+        }
+        Kind::Scrambled => {
+            if rng.chance(400) {
+                crowd(rng, &mut state);
+            }
+            scramble(rng, &mut state);
+            if rng.chance(400) {
+                to_the_edge(rng, &mut state);
+            }
+        }
+        Kind::LastPage => widen(rng, &mut state),
+    }
+    state
 }
 
-/// The state that a list starts from is one that any requests can have left; its calls are of served ops alone.
-pub fn sequence_of(seed: u64, kind: Kind, length: usize, served: Served) -> Sequence {
+/// A state that any requests can have left.
+pub fn any_state(rng: &mut Rng, kind: Kind) -> State {
+    let params = parameters(rng);
+    old_state(rng, kind, &params)
+}
+
+/// The words of a state, its rows in any places.
+pub fn words_of(rng: &mut Rng, state: &State) -> Vec<u64> {
+    let mut places: Vec<usize> = (0..state.row_capacity as usize).collect();
+    rng.shuffle(&mut places);
+    words::encode_with(state, |rank| places[rank])
+}
+
+pub fn sequence(seed: u64, kind: Kind, length: usize) -> Sequence {
+    sequence_with(seed, kind, length, Texts::Each)
+}
+
+pub fn sequence_with(seed: u64, kind: Kind, length: usize, texts: Texts) -> Sequence {
     let mut rng = Rng::new(seed ^ (kind as u64) << 56);
     let params = parameters(&mut rng);
     let start = match kind {
         Kind::Plain => Start::Create(params),
         _ => {
-            let steps = 20 + rng.below(120) as usize;
-            let mut state = grown(&mut rng, &params, steps);
-            match kind {
-                Kind::Edges => {
-                    if rng.chance(300) {
-                        crowd(&mut rng, &mut state);
-                    }
-                    to_the_edge(&mut rng, &mut state);
-                }
-                Kind::Scrambled => {
-                    if rng.chance(400) {
-                        crowd(&mut rng, &mut state);
-                    }
-                    scramble(&mut rng, &mut state);
-                    if rng.chance(400) {
-                        to_the_edge(&mut rng, &mut state);
-                    }
-                }
-                _ => widen(&mut rng, &mut state),
-            }
-            let mut places: Vec<usize> = (0..state.row_capacity as usize).collect();
-            rng.shuffle(&mut places);
-            let words = words::encode_with(&state, |rank| places[rank]);
+            let state = old_state(&mut rng, kind, &params);
+            let words = words_of(&mut rng, &state);
             if let Err(what) = words::decode(&words) {
                 unreachable!("the generator made a state that is not well formed (seed {seed}, {kind:?}): {what}");
             }
@@ -878,12 +883,13 @@ pub fn sequence_of(seed: u64, kind: Kind, length: usize, served: Served) -> Sequ
     let mut reading = Reading::new(Slip::None);
     let mut trace = Trace { start: reading.start(&start), text: reading.text().unwrap_or_default(), ..Trace::default() };
     let mut calls = Vec::new();
-    for _ in 0..length {
+    for at in 0..length {
         let Some(state) = reading.state() else { break };
-        let call = next_call(&mut rng, state, served);
+        let call = next_call(&mut rng, state);
         let mut answers = vec![FILL; call.lent];
         let result = reading.call(&call.list, &mut answers);
-        trace.steps.push(Step { result, answers, text: reading.text().unwrap_or_default() });
+        let text = if texts == Texts::Each || at + 1 == length { reading.text().unwrap_or_default() } else { String::new() };
+        trace.steps.push(Step { result, answers, text });
         calls.push(call);
     }
     Sequence { start, calls, trace }

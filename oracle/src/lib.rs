@@ -18,6 +18,7 @@ pub mod words;
 pub mod c_entry;
 pub mod coverage;
 pub mod generate;
+pub mod held;
 pub mod reading;
 pub mod recorded;
 
@@ -32,8 +33,6 @@ pub mod bench;
 pub mod check;
 #[cfg(rust_sources)]
 pub mod compare;
-#[cfg(rust_sources)]
-pub mod held;
 #[cfg(rust_sources)]
 pub mod record;
 

@@ -16,9 +16,11 @@ const HELP: &str = "usage: oracle COMMAND
   sources                     which Rust is built in
   check                       P1 to P12, every corner case and difference, on the Rust itself
   random [SEED [REQUESTS]]    random lists on the Rust, compared with the reading; coverage table
-  held [SEED LISTS]           the held and the plain run (demand 3) on the Rust
   entry [SEED REQUESTS]       the same against the reading behind the C entry's words: a test of the comparison
-  port [SEED REQUESTS]        the same against the port, through its C entry, with lists of the requests that it serves; coverage table
+  port [SEED REQUESTS]        the same against the port, through its C entry; coverage table
+  held [SEED PAIRS]           the held and the plain run (demand 3) on the Rust
+  held-entry [SEED PAIRS]     the same on the reading behind the C entry's words, and on wrong readings: a test of the comparison
+  held-port [SEED PAIRS]      the same on the port, through its C entry; coverage table
   bench                       the benchmark: the Rust and the port in one run (docs/performance.md)
   record DIR                  write the recorded lists, from the Rust
   same DIR                    make the recorded lists again and compare them with the files, byte for byte
@@ -51,7 +53,11 @@ fn main() -> ExitCode {
             number(seed).and_then(|seed| number(requests).and_then(|requests| random(&mut tally, seed, requests)))
         }
         ["held"] => held(&mut tally, 0, 2000),
-        ["held", seed, lists] => number(seed).and_then(|seed| number(lists).and_then(|lists| held(&mut tally, seed, lists))),
+        ["held", seed, pairs] => number(seed).and_then(|seed| number(pairs).and_then(|pairs| held(&mut tally, seed, pairs))),
+        ["held-entry"] => held_entry(&mut tally, 0, 300),
+        ["held-entry", seed, pairs] => number(seed).and_then(|seed| number(pairs).and_then(|pairs| held_entry(&mut tally, seed, pairs))),
+        ["held-port"] => held_port(&mut tally, 0, 20_000),
+        ["held-port", seed, pairs] => number(seed).and_then(|seed| number(pairs).and_then(|pairs| held_port(&mut tally, seed, pairs))),
         ["entry"] => entry(&mut tally, 0, 30_000),
         ["entry", seed, requests] => {
             number(seed).and_then(|seed| number(requests).and_then(|requests| entry(&mut tally, seed, requests)))
@@ -142,13 +148,13 @@ fn check(_tally: &mut Tally) -> Result<(), String> {
 }
 
 #[cfg(rust_sources)]
-fn settings(name: &'static str, seed: u64, requests: u64, served: oracle::generate::Served, covers: bool) -> oracle::compare::Settings {
-    oracle::compare::Settings { name, seed, requests, length: 120, served, covers }
+fn settings(name: &'static str, seed: u64, requests: u64, covers: bool) -> oracle::compare::Settings {
+    oracle::compare::Settings { name, seed, requests, length: 120, covers }
 }
 
 #[cfg(rust_sources)]
 fn random(tally: &mut Tally, seed: u64, requests: u64) -> Result<(), String> {
-    oracle::compare::random(&settings("random", seed, requests, oracle::generate::every_op, true), None, tally);
+    oracle::compare::random(&settings("random", seed, requests, true), None, tally);
     Ok(())
 }
 #[cfg(not(rust_sources))]
@@ -157,19 +163,38 @@ fn random(_tally: &mut Tally, _seed: u64, _requests: u64) -> Result<(), String> 
 }
 
 #[cfg(rust_sources)]
-fn held(tally: &mut Tally, seed: u64, lists: u64) -> Result<(), String> {
-    oracle::held::run(seed, lists, tally);
+fn held(tally: &mut Tally, seed: u64, pairs: u64) -> Result<(), String> {
+    let settings = oracle::held::Settings { name: "the Rust", seed, pairs, covers: pairs >= 20_000 };
+    oracle::held::run(&settings, &mut oracle::oracle::Oracle::default(), tally);
     Ok(())
 }
 #[cfg(not(rust_sources))]
-fn held(_tally: &mut Tally, _seed: u64, _lists: u64) -> Result<(), String> {
+fn held(_tally: &mut Tally, _seed: u64, _pairs: u64) -> Result<(), String> {
     missing()
+}
+
+fn held_entry(tally: &mut Tally, seed: u64, pairs: u64) -> Result<(), String> {
+    let settings = oracle::held::Settings { name: "the reading behind the C entry's words", seed, pairs, covers: pairs >= 20_000 };
+    oracle::held::run(&settings, &mut oracle::c_entry::CEntry::of_the_reading(), tally);
+    oracle::held::slips(seed, tally);
+    Ok(())
+}
+
+#[cfg(port)]
+fn held_port(tally: &mut Tally, seed: u64, pairs: u64) -> Result<(), String> {
+    let settings = oracle::held::Settings { name: "the port", seed, pairs, covers: true };
+    oracle::held::run(&settings, &mut oracle::c_entry::CEntry::of_the_port(), tally);
+    Ok(())
+}
+#[cfg(not(port))]
+fn held_port(_tally: &mut Tally, _seed: u64, _pairs: u64) -> Result<(), String> {
+    portless()
 }
 
 #[cfg(rust_sources)]
 fn entry(tally: &mut Tally, seed: u64, requests: u64) -> Result<(), String> {
     let mut subject = oracle::c_entry::CEntry::of_the_reading();
-    oracle::compare::random(&settings("entry", seed, requests, oracle::generate::every_op, false), Some(&mut subject), tally);
+    oracle::compare::random(&settings("entry", seed, requests, false), Some(&mut subject), tally);
     Ok(())
 }
 #[cfg(not(rust_sources))]
@@ -180,7 +205,7 @@ fn entry(_tally: &mut Tally, _seed: u64, _requests: u64) -> Result<(), String> {
 #[cfg(all(rust_sources, port))]
 fn port(tally: &mut Tally, seed: u64, requests: u64) -> Result<(), String> {
     let mut subject = oracle::c_entry::CEntry::of_the_port();
-    oracle::compare::random(&settings("port", seed, requests, oracle::c_entry::served, true), Some(&mut subject), tally);
+    oracle::compare::random(&settings("port", seed, requests, true), Some(&mut subject), tally);
     Ok(())
 }
 #[cfg(all(not(rust_sources), port))]
@@ -276,9 +301,7 @@ fn replay(tally: &mut Tally, dir: &Path, on: Replayed) -> Result<(), String> {
             }
         }
         let (mut calls, mut wrong) = (0, Vec::new());
-        // The port runs each list up to the first request that it does not serve.
-        let cut: Vec<recorded::Case> = cases.iter().map(|case| if on == Replayed::Port { case.up_to(oracle::c_entry::served) } else { case.clone() }).collect();
-        for case in &cut {
+        for case in &cases {
             match recorded::replay(case, subject.as_mut(), rust) {
                 Ok(count) => calls += count,
                 Err(error) => wrong.push(format!("{}: {error}", case.name)),
@@ -305,7 +328,7 @@ fn replay(tally: &mut Tally, dir: &Path, on: Replayed) -> Result<(), String> {
             &format!("recorded {file}: each list's last state through its words: the second reader's text equals the recorded one {}", faults.join(" ")),
         );
     }
-    let (none, some) = coverage.unseen(oracle::generate::every_op);
+    let (none, some) = coverage.unseen(oracle::coverage::possible);
     tally.line(
         none.is_empty(),
         &format!("recorded lists: {} requests answered by the Rust, {some} possible pairs of request and number seen, {} not {none:?}", coverage.requests, none.len()),

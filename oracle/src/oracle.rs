@@ -6,7 +6,7 @@ use std::sync::{Arc, Mutex};
 use crate::capability::handle::wire::Machine;
 use crate::requests::{ANSWER, read_list};
 use crate::state;
-use crate::subject::{Call, Runs, Start, Subject, Trace, run_into};
+use crate::subject::{Call, Runs, Start, Subject, Texts, Trace, run_into};
 use crate::violation;
 use crate::words;
 
@@ -123,11 +123,11 @@ impl Oracle {
 }
 
 impl Runs for Oracle {
-    fn run(&mut self, start: &Start, calls: &[Call]) -> Trace {
+    fn run_with(&mut self, start: &Start, calls: &[Call], texts: Texts) -> Trace {
         let trace = Arc::new(Mutex::new(Trace::default()));
         let (start, calls, kept) = (start.clone(), calls.to_vec(), Arc::clone(&trace));
         let stopped = self.work(move |direct| {
-            run_into(direct, &start, &calls, |change| {
+            run_into(direct, &start, &calls, texts, |change| {
                 if let Ok(mut trace) = kept.lock() {
                     change(&mut trace);
                 }

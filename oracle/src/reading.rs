@@ -143,7 +143,7 @@ impl Table {
     }
 
     /// The pages that a reservation of this many slots needs: detached ones in their order, then new ones. 15 beyond the limit.
-    fn pages_needed(&self, count: u64, slip: Slip) -> Result<Vec<u64>, u64> {
+    pub(crate) fn pages_needed(&self, count: u64, slip: Slip) -> Result<Vec<u64>, u64> {
         let mut missing = count.saturating_sub(self.free_count);
         let mut detached: Vec<u64> = self.detached.clone();
         if slip == Slip::DetachedPagesOldestFirst {

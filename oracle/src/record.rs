@@ -3,7 +3,7 @@
 use std::collections::BTreeMap;
 
 use crate::cases;
-use crate::generate::{KINDS, Kind, Rng, sequence, sequence_of};
+use crate::generate::{KINDS, Kind, Rng, sequence};
 use crate::oracle::Oracle;
 use crate::reading::{Reading, Slip};
 use crate::recorded::{Case, from_traces, write};
@@ -14,8 +14,8 @@ use crate::words;
 
 /// How many random lists of each kind, and how long.
 const RANDOM: [(Kind, u64, usize); 4] = [(Kind::Plain, 40, 110), (Kind::Edges, 32, 60), (Kind::Scrambled, 32, 60), (Kind::LastPage, 4, 40)];
-/// The same for lists of the ops that the port serves.
-const SERVED: [(Kind, u64, usize); 3] = [(Kind::Plain, 24, 110), (Kind::Edges, 16, 60), (Kind::Scrambled, 16, 60)];
+/// The same for the lists that the Rattle program `replay` runs too.
+const MIXED: [(Kind, u64, usize); 3] = [(Kind::Plain, 24, 110), (Kind::Edges, 16, 60), (Kind::Scrambled, 16, 60)];
 const SEED: u64 = 0x5EED_0000;
 
 /// File names and contents.
@@ -54,17 +54,17 @@ pub fn all() -> Vec<(String, String)> {
         }
         files.push((format!("{name}.txt"), write(&cases)));
     }
-    let mut served: Vec<Case> = Vec::new();
-    for (kind, count, length) in SERVED {
+    let mut mixed: Vec<Case> = Vec::new();
+    for (kind, count, length) in MIXED {
         let name = KINDS.iter().find(|(known, _)| *known == kind).map_or("", |(_, name)| name);
         for number in 0..count {
             let seed = SEED + 0x1000 + number;
-            let made = sequence_of(seed, kind, length, crate::c_entry::served);
+            let made = sequence(seed, kind, length);
             let found = oracle.run(&made.start, &made.calls);
-            served.push(from_traces(&format!("served-{name}-{number}"), &format!("random, seed {seed:x}"), &made.start, &made.calls, &found, &made.trace));
+            mixed.push(from_traces(&format!("mixed-{name}-{number}"), &format!("random, seed {seed:x}"), &made.start, &made.calls, &found, &made.trace));
         }
     }
-    files.push(("served.txt".to_string(), write(&served)));
+    files.push(("mixed.txt".to_string(), write(&mixed)));
     files
 }
 

@@ -109,17 +109,6 @@ pub struct Case {
     pub text: Option<String>,
 }
 
-impl Case {
-    /// The case up to the first call with an op that is not served.
-    pub fn up_to(&self, served: crate::generate::Served) -> Self {
-        let end = self.lines.iter().position(|line| read_list(&line.call.list).is_some_and(|list| list.iter().any(|request| !served(request.op()))));
-        match end {
-            Some(end) => Self { lines: self.lines[..end].to_vec(), text: None, ..self.clone() },
-            None => self.clone(),
-        }
-    }
-}
-
 fn trimmed(words: &[u64]) -> Vec<u64> {
     let end = words.iter().rposition(|word| *word != 0).map_or(0, |at| at + 1);
     words[..end].to_vec()

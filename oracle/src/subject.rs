@@ -52,15 +52,25 @@ pub trait Subject {
     fn text(&mut self) -> Result<String, String>;
 }
 
+/// After which calls the state's text is taken; where it is not, it is empty.
+#[derive(Clone, Copy, Debug, Eq, PartialEq)]
+pub enum Texts {
+    Each,
+    Last,
+}
+
 /// Runs whole traces. Every `Subject` does so step by step; the oracle does it on a thread of its own.
 pub trait Runs {
-    fn run(&mut self, start: &Start, calls: &[Call]) -> Trace;
+    fn run_with(&mut self, start: &Start, calls: &[Call], texts: Texts) -> Trace;
+    fn run(&mut self, start: &Start, calls: &[Call]) -> Trace {
+        self.run_with(start, calls, Texts::Each)
+    }
 }
 
 impl<S: Subject> Runs for S {
-    fn run(&mut self, start: &Start, calls: &[Call]) -> Trace {
+    fn run_with(&mut self, start: &Start, calls: &[Call], texts: Texts) -> Trace {
         let mut trace = Trace::default();
-        run_into(self, start, calls, |change| change(&mut trace));
+        run_into(self, start, calls, texts, |change| change(&mut trace));
         trace
     }
 }
@@ -70,6 +80,7 @@ pub fn run_into<S: Subject + ?Sized>(
     subject: &mut S,
     start: &Start,
     calls: &[Call],
+    texts: Texts,
     mut keep: impl FnMut(&mut dyn FnMut(&mut Trace)),
 ) {
     let result = subject.start(start);
@@ -81,10 +92,13 @@ pub fn run_into<S: Subject + ?Sized>(
     if result != 0 && matches!(start, Start::Create(_)) {
         return;
     }
-    for call in calls {
+    for (at, call) in calls.iter().enumerate() {
         let mut answers = vec![FILL; call.lent];
         let result = subject.call(&call.list, &mut answers);
-        let text = subject.text().unwrap_or_else(|error| format!("broken: {error}\n"));
+        let text = match texts {
+            Texts::Last if at + 1 < calls.len() => String::new(),
+            _ => subject.text().unwrap_or_else(|error| format!("broken: {error}\n")),
+        };
         let mut step = Some(Step { result, answers, text });
         keep(&mut |trace| trace.steps.extend(step.take()));
     }

@@ -285,6 +285,71 @@ pub fn encode_with(state: &State, place_of: impl Fn(usize) -> usize) -> Vec<u64>
     w
 }
 
+/// Fills the words of a state that are out of use, of free rows and of free frames: they "don't count", so that the state is the same.
+pub fn fill_out_of_use(w: &mut [u64], mut word: impl FnMut() -> u64) {
+    let (tables, pages) = (w[1] as usize, w[8]);
+    let at = places(w[1], w[2], w[3], w[4], pages);
+    let mut free: Vec<std::ops::Range<usize>> = vec![9..HEADER];
+    for table in 0..tables {
+        let head = at.heads + HEAD * table;
+        if w[head + 2] != 1 {
+            free.push(head + 3..head + 4);
+        }
+        free.push(head + 11..head + HEAD);
+        let entry = |page: u64| at.entries + ENTRY * (w[head + 10] + page) as usize;
+        free.push(entry(w[head + 5])..entry(w[head]));
+        for page in 0..w[head + 5] {
+            let words = entry(page);
+            match (w[words], w[words + 2]) {
+                (0, _) => free.extend([words + 2..words + 3, words + 4..words + 5]),
+                (_, 0) => {}
+                _ => free.push(words + 3..words + 5),
+            }
+            if w[words] != 0 {
+                let frame = at.frames + FRAME * (w[words] - 1) as usize;
+                for slot in 0..SLOTS_PER_PAGE {
+                    let words = frame + SLOT * slot as usize;
+                    match w[words] {
+                        _ if slot >= page_slots(page) => free.push(words..words + SLOT),
+                        3 => free.push(words + 5..words + 6),
+                        _ => free.push(words + 4..words + 6),
+                    }
+                }
+            }
+        }
+    }
+    for frame in 0..w[2] as usize {
+        if w[at.owners + frame] == 0 {
+            free.push(at.frames + FRAME * frame..at.frames + FRAME * (frame + 1));
+        }
+    }
+    for rank in 0..w[4] {
+        let words = at.rows + ROW * w[at.index + 2 * rank as usize] as usize;
+        if rank >= w[6] {
+            free.push(words..words + ROW);
+            continue;
+        }
+        let (what, count) = (w[words + 1], w[words + 3] as usize);
+        if what == 3 {
+            free.push(words + 2..words + 3);
+        }
+        free.push(words + 4..words + 6);
+        for position in 0..count {
+            let entry = words + 6 + 6 * position;
+            match (what, w[entry]) {
+                (1, _) => free.push(entry + 1..entry + 6),
+                (2, 0) => {}
+                (2, _) => free.extend([entry + 1..entry + 2, entry + 5..entry + 6]),
+                _ => free.extend([entry..entry + 2, entry + 5..entry + 6]),
+            }
+        }
+        free.push(words + 6 + 6 * count..words + ROW);
+    }
+    for place in free.into_iter().flatten() {
+        w[place] = word();
+    }
+}
+
 fn need(holds: bool, what: &str) -> Result<(), String> {
     if holds { Ok(()) } else { Err(what.to_string()) }
 }
