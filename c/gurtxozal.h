@@ -1,6 +1,7 @@
 /* The till's handle tables: two calls over lent words. Every word is an unsigned 64-bit number; docs/formats.md has the words of a
- * state, of a list, of an answer and of creation's parameters, and document 01 the rules. Both calls take any words.
- * Link with libcreate.a and librunner.a. */
+ * state, of a list, of an answer and of creation's parameters, and document 01 the rules. Both calls take any words and any lengths. The
+ * lent slices must not overlap; the state must be writable even where a call is refused, since its check writes object counts and puts
+ * them back; nobody may read or write a lent word during a call. Link with libcreate.a and librunner.a; docs/embedding.md has the rest. */
 #ifndef GURTXOZAL_H
 #define GURTXOZAL_H
 

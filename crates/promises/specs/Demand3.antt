@@ -27,6 +27,7 @@ use Rattle.promises.specs.Held.{held-words, plain-words, lowered-answers
 
 pub record TwoRuns : Type 0 where
   -- "Two runs start from any two equal, well formed states": H's words ws represent s, P's words us represent u
+  -- (two slices of words are equal states exactly if they represent one state: where a row stands, its rank, the index and a mark's word 2 are no fields of document 01)
   pub sh : Shape
   pub ws : List ℕ
   pub us : List ℕ
