@@ -70,6 +70,15 @@ STATEMENTS = {
         "promises",
         "demand 1: the result is 0, 18, 19 or 20",
     ),
+    "calls that must be lent a word more than their answers": (
+        [
+            ("promises/specs/Terms.antt", "use Prim.Native.Nat.{ℕ, _*_, _≤_}\n", "use Prim.Native.Nat.{ℕ, _*_, _≤_, _<_}\n"),
+            ("promises/specs/Terms.antt", "pub enough : answerWords * length (requestsIn (c .list)) ≤ length (c .lent)", "pub enough : answerWords * length (requestsIn (c .list)) < length (c .lent)"),
+            ("promises/specs/Calls.antt", "m r (f .reads) (f .enough) in", "m r (f .reads) (omega (arith, f .enough)) in"),
+        ],
+        "promises",
+        "`a-call`: a list that reads and 72 words a request are a call",
+    ),
 }
 
 # Document 01 wrongly read, to be refused by the theorems up to that of the two runs. name: (file below crates/, old, new)

@@ -1,7 +1,7 @@
 -- That the promises say something: each is put to use on the shop's words, every field of its conclusion. Assumes nothing.
 use mathlib.Core.Path.{_≡_, refl, sym, ap, subst, _∙_}
 use mathlib.Core.Bool.{Bool, true, false}
-use mathlib.Core.List.{List, [], _∷_, _++_}
+use mathlib.Core.List.{List, [], _∷_, _++_, map}
 use mathlib.Core.Option.{Option, none, some}
 use Prim.Native.Nat.{ℕ, zero, suc, _+_, _*_, _≤_, _<_}
 use native.Mathlib.Omega.{arith}
@@ -12,21 +12,24 @@ use lib.Dec.{eqb}
 use borrow.Author.Tests.{ne-eqb, eqb-true}
 use Rattle.words.specs.Pick.{clash}
 use Rattle.format.specs.Format.{answerWords}
-use Rattle.model.specs.Base.{member, pick}
-use Rattle.model.specs.State.{till, State, Slot.reserved, maxTables}
+use Rattle.model.specs.Base.{member, pick, every}
+use Rattle.model.specs.State.{till, Table, State, Slot.reserved, maxTables}
 use Rattle.model.specs.Create.{permitted}
-use Rattle.model.specs.Request.{Route.buffered, Request, Request.reserve, Request.rollback, Request.commit}
-use Rattle.model.specs.Step.{run}
+use Rattle.model.specs.Request.{Route.buffered, Answer.opened, Request, Request.duplicate, Request.reserve, Request.publish, Request.close, Request.prepareConsumption, Request.rollback, Request.commit}
+use Rattle.model.specs.Step.{step, run}
+use Rattle.model.specs.WellFormed.{WellFormed, Equal}
+use Rattle.invariant.specs.Pages.{till-sane}
+use Rattle.invariant.specs.Kept.{kept}
 use Rattle.model.specs.Refusals.{spends}
 use Rattle.model.specs.Words.{readList, usedWords, padded, wordsOf, allWords}
 use Rattle.layout.specs.declared.Shape.{Shape}
 use Rattle.layout.specs.Layout.{head, load, load-root}
 use Rattle.representation.specs.Represents.{slotIn, TableIs, Rep}
-use Rattle.representation.specs.Unique.{rep-unique}
+use Rattle.representation.specs.Unique.{shapeFor, shape-unique, rep-unique}
 use Rattle.answer.specs.Does.{idSpent}
 use Rattle.create.specs.Parameters.{parametersOf, tablesIn}
 use Rattle.create.specs.Meets.{Meets as Creates}
-use Rattle.noninterference.specs.Runs.{lowered, lowerTable, lowerState}
+use Rattle.noninterference.specs.Runs.{accepted, lowered, withSlots, lowerTable, lowerState}
 use Rattle.noninterference.specs.World.{by-computing}
 use Rattle.contract.specs.Meets.{Called, Meets}
 use Rattle.promises.specs.Lower.{Ending, Ending.rolledBack, Ending.committed, endH, endP, lowerAnswers, rollbackWords, commitWords, closingWords, reads-rollback, reads-commit}
@@ -36,6 +39,8 @@ use Rattle.promises.specs.Held.{list-then}
 use Rattle.promises.specs.Demand1.{demand-1, demand-1-creation}
 use Rattle.promises.specs.Demand2.{demand-2, demand-2-lists, demand-2-calls, demand-2-cut, demand-2-creation}
 use Rattle.promises.specs.Demand3.{TwoRuns, Same, demand-3}
+use Rattle.promises.specs.Transfers.{SameOrders, transfer-keeps-orders, consumption-keeps-orders, rollback-keeps-orders, transfer-is-closing, consumption-is-closing}
+use Rattle.promises.specs.Batches.{lacking, NewPages, pages-of-64}
 use Rattle.promises.specs.Shop.{ran, readBy, parameters, sh, new, shape-new, asked, openingWords, opening, reads-opening, shop, Begun, rep-new, rep-shop, v63, v62, v61, prepareWords, items, transfer, reads-prepare, listWords, plainWords, wrong, list, reads-list, refusedWords, reads-refused, heldAnswers, plainAnswers, held-answers}
 
 -- word 5 of a state's words is the next id
@@ -242,11 +247,12 @@ module _ (ws us : List ℕ) (wb : Begun ws) (ub : Begun us) (hs ps : List Call) 
       (next-word (left ws hs) s h, next-word (left us ps) (lowerState 6 s) p, h .reps .memory .tables 1 (omega arith) .slots 62, p .reps .memory .tables 1 (omega arith) .slots 62)
 
   -- committed, and closed in P: both closings are accepted; table 0's free order begins with slot 63 in both, the last one closed; slot 62 of table 1 is reserved by 10 in H
-  -- and by 9 in P
+  -- and by 9 in P; the next id is 11 in H and 10 in P
   commit-and-close : listOf hs ≡ prepareWords ++ (listWords ++ commitWords 6) → listOf ps ≡ plainWords ++ closingWords 0 (v61 ∷ v63 ∷ [])
       → (getD (drop 432 (answersOf ps)) 0 18 ≡ 0) × (getD (drop 432 (answersOf ps)) 72 18 ≡ 0)
       × (load (left ws hs) sh (head 0 6) ≡ 64) × (load (left us ps) sh (head 0 6) ≡ 64)
       × (slotIn (load (left ws hs) sh) 1 62 ≡ reserved 1 10) × (slotIn (load (left us ps) sh) 1 62 ≡ reserved 1 9)
+      × (getD (left ws hs) 5 0 ≡ 11) × (getD (left us ps) 5 0 ≡ 10)
   unfolding runs ran
   commit-and-close lh lp =
       let d : Same (runs committed (commit 6) (reads-commit 6) lh lp) = same committed (commit 6) (reads-commit 6) lh lp in
@@ -255,5 +261,132 @@ module _ (ws us : List ℕ) (wb : Begun ws) (ub : Begun us) (hs ps : List Call) 
       let h = subst (Rep (left ws hs) sh) e (d .held) .reps .memory in
       let p = d .plain .reps .memory in
       let t : (c : ℕ) → c < 2 → TableIs (load (left us ps) sh) c (lowerTable 6 (s .tables c)) =
-      λ c lt. subst (TableIs (load (left us ps) sh) c) (d .tables c ∙ ap (λ (x : State). lowerTable 6 (x .tables c)) e) (p .tables c (omega (arith, p .tableCount))) in
-      (d .closed refl 0 (omega arith), d .closed refl 1 (omega arith), h .tables 0 (omega arith) .free .0, t 0 (omega arith) .free .0, h .tables 1 (omega arith) .slots 62, t 1 (omega arith) .slots 62)
+      λ c lt. subst (TableIs (load (left us ps) sh) c) (d .tables c ∙ ap (λ (x : State). lowerTable 6 (x .tables c)) e) (p .tables c (omega (arith, p .tableCount))) in (
+        d .closed refl 0 (omega arith),
+        d .closed refl 1 (omega arith),
+        h .tables 0 (omega arith) .free .0,
+        t 0 (omega arith) .free .0,
+        h .tables 1 (omega arith) .slots 62,
+        t 1 (omega arith) .slots 62,
+        next-word (left ws hs) s (subst (Rep (left ws hs) sh) e (d .held)),
+        next-word (left us ps) (d .stateP) (d .plain) ∙ d .next ∙ ap (λ (x : State). lowered 6 (x .book .next)) e,
+      )
+
+-- ---- that there are such calls
+
+abbrev sent : List ℕ → List ℕ → Called → Call
+sent l os x = record { list = l; lent = os; gave = x }
+
+-- calls are no more than the contract of each, a list that reads and words enough for its answers
+a-call : (ws l os : List ℕ) (x : Called) (rs : List Request) (cs : List Call) → Meets ws l os x → readList l ≡ some rs → answerWords * length rs ≤ length os → Calls (x .state) cs → Calls ws (sent l os x ∷ cs)
+a-call ws l os x rs cs m e h more = (m, record { reads = rw e refl; enough = rw e h }, more)
+
+-- a call that is refused whole (18, 19 or 20) may stand anywhere between: what follows it are calls on the words before it, and leaves what they leave
+left-out : (ws l os : List ℕ) (x : Called) (cs : List Call) → Meets ws l os x → (x .result ≡ 0 → ⊥) → Calls (x .state) cs → Calls ws cs × (left (x .state) cs ≡ left ws cs)
+left-out ws l os x cs m n k = let e : x .state ≡ ws = demand-1 ws l os x m .kept n .0 in (subst (λ (v : List ℕ). Calls v cs) e k, ap (λ (v : List ℕ). left v cs) e)
+
+-- one `sh` serves both runs: words that represent equal states have one shape
+one-shape : (ws us : List ℕ) (k j : Shape) (s u : State) → Rep ws k s → Rep us j u → Equal s u → k ≡ j
+one-shape ws us k j s u r q e = shape-unique k (load ws k) s (r .reps .memory) ∙ ap shapeFor e ∙ sym (shape-unique j (load us j) u (q .reps .memory))
+
+-- a shop is begun by creation and one call
+begins : (memory : List ℕ) → 2023 ≤ length memory → (r : ℕ) (ws : List ℕ) → Creates memory parameters r ws → (os : List ℕ) (x : Called) → Meets ws openingWords os x → 504 ≤ length os → Begun (x .state)
+begins memory room r ws c os x m h = record {
+  memory = memory;
+  room = room;
+  result = r;
+  start = ws;
+  creates = c;
+  calls = sent openingWords os x ∷ [];
+  chain = a-call ws openingWords os x opening [] m reads-opening (omega arith) tt;
+  whole = refl;
+  is = refl;
+}
+
+-- the opening in one call, and in two of four and three requests
+abbrev firstFour : List ℕ
+firstFour = take 24 openingWords
+
+abbrev lastThree : List ℕ
+lastThree = drop 24 openingWords
+
+reads-cut : (readList firstFour ≡ some (take 4 opening)) × (readList lastThree ≡ some (drop 4 opening))
+unfolding readBy
+reads-cut = (refl, refl)
+
+one-or-two : (memory : List ℕ) → 2023 ≤ length memory → (r : ℕ) (ws : List ℕ) → Creates memory parameters r ws → (os : List ℕ) → length os ≡ 504
+    → (x y q : Called) → Meets ws openingWords os x → Meets ws firstFour os y → Meets (y .state) lastThree os q
+    → (answersOf (sent openingWords os x ∷ []) ≡ answersOf (sent firstFour os y ∷ sent lastThree os q ∷ [])) × (getD (x .state) 5 0 ≡ getD (q .state) 5 0)
+one-or-two memory room r ws c os l x y q m n k = two-cuts memory room r ws c os x (sent openingWords os x ∷ []) (sent firstFour os y ∷ sent lastThree os q ∷ [])
+    (a-call ws openingWords os x opening [] m reads-opening (omega (arith, l)) tt)
+    (a-call ws firstFour os y (take 4 opening) (sent lastThree os q ∷ []) n (reads-cut .0) (omega (arith, l)) (a-call (y .state) lastThree os q (drop 4 opening) [] k (reads-cut .1) (omega (arith, l)) tt))
+    refl refl
+
+abbrev plain : List Request
+plain = reserve 1 1 ∷ duplicate 0 v62 1 ∷ publish 6 (7 ∷ []) ∷ reserve 0 0 ∷ wrong ∷ reserve 1 1 ∷ []
+
+reads-plain : readList plainWords ≡ some plain
+unfolding readBy
+reads-plain = refl
+
+-- two shops from their creation on, by the contracts alone: a call opens each, run H is three calls, run P is one. The next id is 11 in H and 10 in P
+six-calls : (mh mp : List ℕ) → 2023 ≤ length mh → 2023 ≤ length mp → (rh rp : ℕ) (wh wp : List ℕ) → Creates mh parameters rh wh → Creates mp parameters rp wp
+    → (os : List ℕ) → length os ≡ 504 → (xh xp x y z q : Called) → Meets wh openingWords os xh → Meets wp openingWords os xp
+    → Meets (xh .state) prepareWords os x → Meets (x .state) listWords os y → Meets (y .state) (rollbackWords 6) os z → Meets (xp .state) plainWords os q
+    → (getD (z .state) 5 0 ≡ 11) × (getD (q .state) 5 0 ≡ 10)
+six-calls mh mp roomh roomp rh rp wh wp ch cp os l xh xp x y z q oh op m1 m2 m3 n =
+    let last : List Call = sent (rollbackWords 6) os z ∷ [] in
+    let hs : List Call = sent prepareWords os x ∷ sent listWords os y ∷ last in
+    let kh : Calls (xh .state) hs = a-call (xh .state) prepareWords os x (transfer ∷ []) (sent listWords os y ∷ last) m1 reads-prepare (omega (arith, l))
+    (a-call (x .state) listWords os y list last m2 reads-list (omega (arith, l)) (a-call (y .state) (rollbackWords 6) os z (rollback 6 ∷ []) [] m3 (reads-rollback 6) (omega (arith, l)) tt)) in
+    let kp : Calls (xp .state) (sent plainWords os q ∷ []) = a-call (xp .state) plainWords os q plain [] n reads-plain (omega (arith, l)) tt in
+    let d = roll-back (xh .state) (xp .state) (begins mh roomh rh wh ch os xh oh (omega (arith, l))) (begins mp roomp rp wp cp os xp op (omega (arith, l))) hs (sent plainWords os q ∷ []) kh kp refl refl in
+    (d .0, d .1)
+
+-- ---- the two sentences of document 01
+
+-- of every field but the slots: the table is the one before with other slots
+but-slots : (t u : Table) → SameOrders t u → u ≡ withSlots t (u .slots)
+but-slots t u p = λ i. record {
+  limit = p .limit i;
+  mask = p .mask i;
+  life = p .life i;
+  epoch = p .epoch i;
+  size = p .size i;
+  pages = p .pages i;
+  slots = u .slots;
+  free = p .free i;
+  empty = p .empty i;
+  detached = p .detached i;
+}
+
+-- the shop's transfer, and a consumption of the handle in slot 62
+module _ (w : WellFormed till shop) where
+  abbrev after : Request → State
+  after r = step till shop r .0
+
+  abbrev eats : Request
+  eats = prepareConsumption 0 v62 1 4 71
+
+  kept-orders : (c : ℕ) → (after transfer .tables c ≡ withSlots (shop .tables c) (after transfer .tables c .slots)) × (after eats .tables c ≡ withSlots (shop .tables c) (after eats .tables c .slots))
+  kept-orders c = (but-slots _ _ (transfer-keeps-orders till shop w 0 buffered none none items c), but-slots _ _ (consumption-keeps-orders till shop w 0 v62 1 4 71 c))
+
+  back-orders : (c : ℕ) → let u : State = step till (after transfer) (rollback 6) .0 in u .tables c ≡ withSlots (after transfer .tables c) (u .tables c .slots)
+  back-orders c = but-slots _ _ (rollback-keeps-orders till (after transfer) (kept till till-sane shop w transfer) 6 c)
+
+  abbrev ByClosing : (values : List ℕ) → State → State → Type 0
+  ByClosing vs s u = (every accepted (run till s (map (close 0) vs) .1) ≡ true) × ((c : ℕ) → run till s (map (close 0) vs) .0 .tables c ≡ u .tables c)
+
+  opens : (step till shop transfer .1 ≡ opened 6) × (step till shop eats .1 ≡ opened 6)
+  unfolding ran
+  opens = (refl, refl)
+
+  committed-orders : ByClosing (v61 ∷ v63 ∷ []) shop (step till (after transfer) (commit 6) .0) × ByClosing (v62 ∷ []) shop (step till (after eats) (commit 6) .0)
+  committed-orders =
+      let x = transfer-is-closing till shop w 0 buffered none none items 6 (opens .0) in
+      let y = consumption-is-closing till shop w 0 v62 1 4 71 6 (opens .1) in
+      ((x .closings, x .tables), (y .closings, y .tables))
+
+-- a batch of 64 may need two new pages and never three
+two-pages : (lacking till ≡ 1) × NewPages till 2 × (NewPages till 1 → ⊥)
+two-pages = let p = pages-of-64 till refl in (p .short, p .enough, λ h. omega (arith, p .least 1 h))

@@ -18,7 +18,7 @@ use Rattle.model.specs.Words.{readList, wordsOf}
 use Rattle.layout.specs.declared.Shape.{Shape}
 use Rattle.representation.specs.Represents.{Rep}
 use Rattle.invariant.specs.Pages.{till-sane}
-use Rattle.noninterference.specs.Runs.{isMove, valueOf, permitted, wanting, accepted, lowerRequest, lowerTable, lowerState}
+use Rattle.noninterference.specs.Runs.{isMove, valueOf, permitted, wanting, accepted, lowered, lowerRequest, lowerTable, lowerState}
 use Rattle.noninterference.specs.Theorem.{held-and-plain}
 use Rattle.promises.specs.Lower.{lowerWords, lowerAnswers, Ending, Ending.rolledBack, Ending.committed, endH, endP, lastH, lastP, reads-lowered, reads-both, reads-lastH, reads-lastP}
 use Rattle.promises.specs.Terms.{Call, Calls, left, listOf, answersOf, Passed}
@@ -83,6 +83,8 @@ pub record Same (x : TwoRuns) : Type 0 where
   pub whole : x .ending ≡ rolledBack → stateP ≡ lowerState (x .t) stateH
   -- "or every table after a commit": "its head, lifecycle, counts, pages with frames, slots and orders, with every field in use"
   pub tables : (c : ℕ) → stateP .tables c ≡ lowerTable (x .t) (stateH .tables c)
+  -- "the next id included": one lower in P after either end
+  pub next : stateP .book .next ≡ lowered (x .t) (stateH .book .next)
 
 pub demand-3 : (x : TwoRuns) → Same x
 demand-3 x =
@@ -115,4 +117,5 @@ demand-3 x =
       plain = subst (Rep (left (x .us) (x .ps)) (x .sh)) (run-both till (x .u) plain closings .0) (pt .state);
       whole = e .whole;
       tables = e .tables;
+      next = e .next;
     }

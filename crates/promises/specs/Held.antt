@@ -11,13 +11,15 @@ use Rattle.words.specs.Pick.{clash, both}
 use Rattle.format.specs.Format.{answerWords}
 use Rattle.model.specs.Base.{every}
 use Rattle.model.specs.State.{Sizes, till, State}
-use Rattle.model.specs.Request.{Route, Item, Request, Request.close, Request.prepareTransfer}
+use Rattle.model.specs.Request.{Route, Item, Request, Request.close, Request.prepareTransfer, Request.rollback, Request.commit}
 use Rattle.model.specs.Request.{Answer, Answer.refused, Answer.done, Answer.opened, Answer.batch, Answer.infoOf, Answer.resolved, Answer.renewed, Answer.scanned, Answer.removed, Answer.closed, Answer.taken}
 use Rattle.model.specs.Refusals.{isRefused}
-use Rattle.model.specs.Step.{step, run}
+use Rattle.model.specs.Book.{find, spendId}
+use Rattle.model.specs.Step.{closeOf, rollbackOf, commitOf, decide, step, run}
+use Rattle.model.specs.Decided.{Any, accepts, with-handle, with-claim, carried}
 use Rattle.model.specs.Words.{usedWords, wordsOf, allWords}
 use Rattle.model.specs.Lists.{words-length, run-length}
-use Rattle.noninterference.specs.Runs.{valueOf, accepted, lowerRequest, lowerAnswer, lowerTable, lowerState}
+use Rattle.noninterference.specs.Runs.{valueOf, accepted, lowered, lowerRequest, lowerAnswer, lowerTable, lowerState}
 use Rattle.noninterference.specs.Theorem.{Agree}
 use Rattle.promises.specs.Answers.{number-0, zero-accepts, prepare-answers}
 use Rattle.promises.specs.Lower.{Ending, Ending.rolledBack, Ending.committed, lastH, lastP, lowerAnswers, answers-lowered}
@@ -107,16 +109,48 @@ closed-words (a ∷ l) e (suc i) d h =
 
 -- ---- the ends
 
+-- neither a closing nor the end of a claim spends an id
+
+module _ (z : Sizes) (s : State) where
+  abbrev SameNext : State → Type 0
+  SameNext u = u .book .next ≡ s .book .next
+
+  never : (n : ℕ) → ⊥ → SameNext (spendId s)
+  never n e = absurd e
+
+  close-next : (b v : ℕ) → SameNext (step z s (close b v) .0)
+  unfolding step decide closeOf
+  close-next b v = carried {N = Any} {R = λ n. ⊥} {A = λ u a. SameNext u} SameNext z s _ refl never (λ u a r. r) (with-handle s b v tt tt tt tt λ l a k h e. accepts refl)
+
+  rollback-next : (i : ℕ) → SameNext (step z s (rollback i) .0)
+  unfolding step decide rollbackOf
+  rollback-next i = carried {N = Any} {R = λ n. ⊥} {A = λ u a. SameNext u} SameNext z s _ refl never (λ u a r. r) (with-claim (find i (s .book .rows)) tt λ b es e. accepts refl)
+
+  commit-next : (i : ℕ) → SameNext (step z s (commit i) .0)
+  unfolding step decide commitOf
+  commit-next i = carried {N = Any} {R = λ n. ⊥} {A = λ u a. SameNext u} SameNext z s _ refl never (λ u a r. r) (with-claim (find i (s .book .rows)) tt λ b es e. accepts refl)
+
+closings-next : (z : Sizes) (s : State) (b : ℕ) (vs : List ℕ) → run z s (map (close b) vs) .0 .book .next ≡ s .book .next
+closings-next z s b [] = refl
+closings-next z s b (v ∷ vs) = closings-next z (step z s (close b v) .0) b vs ∙ close-next z s b v
+
 -- what the theorem on steps says of either end
 pub record Ended (e : Ending) (t b : ℕ) (vs : List ℕ) (h p : State) : Type 0 where
   pub done-H : step till h (lastH e t) .1 ≡ done
   pub done-P : every accepted (run till p (lastP e b vs) .1) ≡ true
   pub whole : e ≡ rolledBack → run till p (lastP e b vs) .0 ≡ lowerState t (step till h (lastH e t) .0)
   pub tables : (c : ℕ) → run till p (lastP e b vs) .0 .tables c ≡ lowerTable t (step till h (lastH e t) .0 .tables c)
+  pub next : run till p (lastP e b vs) .0 .book .next ≡ lowered t (step till h (lastH e t) .0 .book .next)
 
 pub ends : (e : Ending) (t b : ℕ) (vs : List ℕ) (h p : State × List Answer) → Agree till t b vs h p → Ended e t b vs (h .0) (p .0)
-ends rolledBack t b vs h p g = record { done-H = g .rolledBack; done-P = refl; whole = λ q. g .afterRollback; tables = λ c. ap (λ (x : State). x .tables c) (g .afterRollback) }
-ends committed t b vs h p g = record { done-H = g .committed; done-P = g .closings; whole = λ q. let z : _≡_ {A = ℕ} 0 1 = cc in absurd (omega arith); tables = g .afterCommit }
+ends rolledBack t b vs h p g = record { done-H = g .rolledBack; done-P = refl; whole = λ q. g .afterRollback; tables = λ c. ap (λ (x : State). x .tables c) (g .afterRollback); next = ap (λ (x : State). x .book .next) (g .afterRollback) }
+ends committed t b vs h p g = record {
+  done-H = g .committed;
+  done-P = g .closings;
+  whole = λ q. let z : _≡_ {A = ℕ} 0 1 = cc in absurd (omega arith);
+  tables = g .afterCommit;
+  next = closings-next till (p .0) b vs ∙ ap (λ (x : State). x .book .next) (g .afterRollback) ∙ ap (lowered t) (rollback-next till (h .0) t ∙ sym (commit-next till (h .0) t));
+}
 
 -- as many closings as items
 pub as-many : (e : Ending) (b : ℕ) (items : List Item) (s : State) → e ≡ committed → length (run till s (lastP e b (map valueOf items)) .1) ≡ length items
