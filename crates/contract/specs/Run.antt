@@ -140,9 +140,6 @@ module _ (one : One) (steps : Steps one) where
           })
 
 -- what the code's loop goes by
-pub list-first : (one : One) (n : ℕ) (ws os : List ℕ) (sh : Shape) (list : List ℕ) → listR one n ws os sh list 0 0 ≡ listR one n ws os sh list 0 0
-list-first one n ws os sh list = refl
-
 pub list-turn : (one : One) (n : ℕ) (ws os ws′ os′ : List ℕ) (sh : Shape) (list : List ℕ) (at base next base′ : ℕ) (x : Both) → 0 < n → both ws′ os′ ≡ one ws (cleared os base answerWords) sh list at base
     → next ≡ nextAt list at → base′ ≡ base + answerWords → listR one n ws os sh list at base ≡ x → listR one (n - 1) ws′ os′ sh list next base′ ≡ x
 unfolding listR
