@@ -32,6 +32,7 @@ CLASSES = [
     ("computed", r"expected type `(.*) ≡ [^`]*`, but this has type `\1 ≡ \1`"),
     ("computed", r"as printed, the two types differ only where one has `%s` \(expected\), right after `[^`]*≡`" % VALUE),
     ("differs", r"the two (?:types|values|sides) (?:first )?(?:differ|are)|≟ .*does not hold"),
+    ("condition", r"projects from .*, but this has type `[^`]*→"),
     ("steps", r"expected type|does not hold|give a proof of that|not admitted"),
     ("search", r"`search`|`cc`|`omega`|`simp`|`rw`|list the missing equation|was found"),
     ("need", r"it is not proved that|no proof of"),
@@ -39,6 +40,7 @@ CLASSES = [
 MEANING = {
     "computed": "the checker computed both sides, and they are different values",
     "differs": "two sides that must be equal differ, computed as far as they go or as printed",
+    "condition": "a statement with a condition more is used where the condition is not shown",
     "steps": "a step of the proof does not prove what is now stated",
     "search": "no proof of what is now stated was found",
     "need": "what the contract needs is not proved",
