@@ -1,6 +1,7 @@
 #!/usr/bin/env bash
-# Tests the repository, from nothing: proves every listed crate, tries every must-fail edit, runs every program, then what stands beside the
-# crates. What could not be run here is counted as neither and listed before the end. The last line is 'N passed, M failed'; the exit status is 0 only if M is 0.
+# Tests the repository, from nothing: proves every listed crate, tries the must-fail edits of crates/*/must-fail, runs every program, then what stands beside the
+# crates, two tests at a time. What could not be run here is counted as neither and listed before the end. The last line is 'N passed, M failed'; the exit status is 0 only
+# if M is 0. How long the parts take: docs/budget.md.
 set -u
 cd "$(dirname "$0")" || exit 2
 passed=0
@@ -15,20 +16,22 @@ said() {
   local line
   while IFS= read -r line; do unrun+=("$1: $line"); done < <(grep -iE 'not run|not compared|no cargo|left out|cut before' "$2")
 }
-check() { # check NAME COMMAND..: one test; status 3 means that it could not be run here
-  local name=$1 status
+verdict() { # verdict NAME STATUS LOG: one test that has ended; status 3 means that it could not be run here
+  cat "$3"
+  case $2 in
+    0)
+      ok "$1"
+      said "$1" "$3"
+      ;;
+    3) skipped "$1 ($(tail -n 1 "$3"))" ;;
+    *) bad "$1" ;;
+  esac
+}
+check() { # check NAME COMMAND..: one test
+  local name=$1
   shift
   "$@" >"$logs/check" 2>&1
-  status=$?
-  cat "$logs/check"
-  case $status in
-    0)
-      ok "$name"
-      said "$name" "$logs/check"
-      ;;
-    3) skipped "$name ($(tail -n 1 "$logs/check"))" ;;
-    *) bad "$name" ;;
-  esac
+  verdict "$name" $? "$logs/check"
 }
 count() { # count NAME FILE: adds the closing line 'N passed, M failed' of a log; without one, or where nothing passed, it is a failure
   local line n m
@@ -44,6 +47,33 @@ count() { # count NAME FILE: adds the closing line 'N passed, M failed' of a log
   failed=$((failed + m))
   echo "$1: $line"
   if [ "$((n + m))" -eq 0 ]; then bad "$1: it ran nothing"; fi
+}
+
+# lane SCRIPT..: scripts one after the other; what each printed, its status and its seconds are kept. Two lanes run beside each other, each with one job
+lane() {
+  local script began
+  for script in "$@"; do
+    began=$SECONDS
+    RT_JOBS=1 "$script" >"$logs/${script//\//-}.out" 2>&1
+    echo "$? $((SECONDS - began))" >"$logs/${script//\//-}.end"
+  done
+}
+ended() { # ended SCRIPT [NAME]: a script that ran in a lane; without a name its closing line is counted
+  local log=$logs/${1//\//-} status=none seconds=0
+  if [ -f "$log.end" ]; then read -r status seconds <"$log.end"; else echo "it did not end" >>"$log.out"; fi
+  if [ $# -eq 2 ]; then
+    verdict "$2" "$status" "$log.out"
+  else
+    cat "$log.out"
+    if [ "$status" = 3 ]; then
+      skipped "$1 ($(tail -n 1 "$log.out"))"
+    else
+      count "$1" "$log.out"
+      check "$1 ends with status 0" test "$status" = 0
+      said "$1" "$log.out"
+    fi
+  fi
+  echo "$1: $seconds s"
 }
 
 command -v rt >/dev/null 2>&1 || {
@@ -69,35 +99,33 @@ grep -E '^rt: |error|NOT PROVED|passed, ' "$logs/rt" | cut -c1-240
 count "rt ci" "$logs/rt"
 check "rt ci ends with status 0" test "$status" -eq 0
 check "no crate rests on an axiom" tests/axioms.sh "$logs/rt"
-check "every must-fail edit is refused, and its line says which fact fails" tests/reasons.py
+echo "proofs and edits: $((SECONDS - start)) s"
+check "every must-fail edit is refused, and its line says which fact fails; those tried by hand can still be made" tests/reasons.py
 check "what is promised is what docs/statements/ has" tests/statements.py
 check "the layout of every file (rt fmt --check)" rt fmt --check
 check "the tables of docs/formats.md are those of the code" tests/formats.py
 check "what the documents cite is there" tests/trace.py
 check "every public function has a contract that speaks of all it gives and demands nothing" tests/contracts.py
-echo "proofs: $((SECONDS - start)) s"
+echo "with what is read of them: $((SECONDS - start)) s"
 
-# What stands beside the crates: slips in the definitions, the oracle, the port through its C calls, the recorded lists on the definitions and on
-# the port, the examples.
-for script in tests/slips.py oracle/test.sh c/test.sh; do
-  "$script" >"$logs/script" 2>&1
-  status=$?
-  cat "$logs/script"
-  if [ "$status" -eq 3 ]; then
-    skipped "$script ($(tail -n 1 "$logs/script"))"
-  else
-    count "$script" "$logs/script"
-    check "$script ends with status 0" test "$status" -eq 0
-    said "$script" "$logs/script"
-  fi
-  echo "$script: $((SECONDS - start)) s"
-done
-check "the recorded lists, computed from the definitions" tests/model_replay.py
-check "the recorded lists, replayed by a Rattle program on the port" tests/replay.py
+# What stands beside the crates: the port through its C calls, the functions for a kernel; slips in the definitions, the oracle, the recorded lists on the definitions and on the
+# port. The second lane uses the oracle built by its first script, and no static library; what needs both comes after the lanes.
+port=(c/test.sh tests/calls.sh tests/embedding.py)
+others=(oracle/test.sh tests/replay.py tests/slips.py tests/model_replay.py)
+echo "beside each other: ${port[*]}; ${others[*]}"
+lane "${port[@]}" &
+lane "${others[@]}" &
+wait
+ended tests/slips.py
+ended oracle/test.sh
+ended c/test.sh
+ended tests/model_replay.py "the recorded lists, computed from the definitions"
+ended tests/replay.py "the recorded lists, replayed by a Rattle program on the port"
+ended tests/calls.sh "the functions for a kernel, and the till's story on the port"
+ended tests/embedding.py "docs/embedding.md is what the libraries are"
+echo "with both lanes: $((SECONDS - start)) s"
 check "the examples print what they should" tests/example.sh
 check "what run.py shows: states read from their words, the two runs" tests/viewer.py
-check "the functions for a kernel, and the till's story on the port" tests/calls.sh
-check "docs/embedding.md is what the libraries are" tests/embedding.py
 
 echo "the whole test: $((SECONDS - start)) s"
 if [ "${#unrun[@]}" -eq 0 ]; then echo "nothing was left out"; else

@@ -26,8 +26,19 @@ def constant(text, name):
     return int(found.group(1).replace("_", "")) if found else None
 
 
+def body(name):
+    found = re.search(r"\npub fn %s\(.*?\n\{\n(.*?)\n\}\n" % name, source["lib"], flags=re.S)
+    return found.group(1) if found else ""
+
+
+def arms(name):
+    """The results of a function that is one `match`, at the numbers of its arms."""
+    found = re.findall(r"^ +(\d+) => ([\d_]+),$", body(name), flags=re.M)
+    return [int(n.replace("_", "")) for _, n in found] if [int(k) for k, _ in found] == list(range(len(found))) else None
+
+
 def array(name):
-    found = re.search(r"const %s: \[u64; \d+\] = \[(.*?)\];" % name, source["lib"], flags=re.S)
+    found = re.search(r"const %s: \[u\d+; \d+\] = \[(.*?)\];" % name, source["lib"], flags=re.S)
     return [int(n.replace("_", "")) for n in re.findall(r"[\d_]+", found.group(1))] if found else None
 
 
@@ -46,7 +57,7 @@ for bit, name, kind, _ in re.findall(r"^\| (\d+) \| ([^|]+?) \| ([^|]*?) \|([^|]
     field_kinds.append(4 if name == "op" else 3 if name == "route" else kinds.get(kind.split(",")[0].strip(), -1))
     same(f"the bit of field {name}", constant(source["field"], "FIELD_" + name.upper().replace(" ", "_")), int(bit))
 same("the fields", len(bits), 18)
-same("FIELD_KIND", array("FIELD_KIND"), field_kinds)
+same("field_kind", arms("field_kind"), field_kinds)
 same("fieldKinds", definition("fieldKinds"), field_kinds)
 
 

@@ -111,8 +111,8 @@ use Prim.Native.Nat.{ℕ, zero, suc, _+_, _-_, _*_}
 use lib.ListN.{length}
 use lib.Dec.{eqb, ltb}
 use Rattle.authority.specs.Rights.{contains}
-use Rattle.codec.specs.Codec.{pick as choose, encode, payload, decodes, payloadIn, numberIn, slotIn, generationIn, nextGeneration, maskOf}
-use Rattle.format.specs.Format.{pick as choice, musts, mays, fieldKinds, fieldFits, knownOp}
+use Rattle.codec.specs.Codec.{encode, payload, decodes, payloadIn, numberIn, slotIn, generationIn, nextGeneration, maskOf}
+use Rattle.format.specs.Format.{musts, mays, fieldKinds, fieldFits, knownOp}
 use Rattle.model.specs.Base.{bit, pick, orElse, isSome, range}
 use Rattle.model.specs.State.{Handle, Slot, Slot.absent, Slot.vacant, Slot.reserved, Slot.transferReserved, Slot.occupied, Page, Lifecycle, Lifecycle.active, Lifecycle.tearingDown, Lifecycle.retired, Table, Class, Class.leaf, Class.rendezvousOnly, Class.never, Stage, Stage.stillNew, Stage.nowActive, Stage.nowRetired, Object, Entry, Entry.moved, Entry.copied, Body, Body.reservation, Body.claim, Body.parcel, Row, State, till, noPage, noTable, noObject, maxTables, maxFrames, maxObjects, maxRows, maxBatch, maxSlots, maxLimit, knownFlags, lastId}
 use Rattle.model.specs.Storage.{place, vacate, takeFree, pagesFor, attach, detach, slotsOf}
@@ -219,7 +219,7 @@ stored (e ∷ es) f j = pick (eqb j (e .0)) (e .1) (stored es f j)
 """
 
 UNFOLD = (
-    "unfolding choose choice encode payload decodes payloadIn numberIn slotIn generationIn maskOf nextGeneration contains maxTables maxFrames maxObjects maxRows "
+    "unfolding encode payload decodes payloadIn numberIn slotIn generationIn maskOf nextGeneration contains maxTables maxFrames maxObjects maxRows "
     "maxBatch maxSlots maxLimit knownFlags lastId\n  place vacate takeFree pagesFor attach detach decide step usedWords wordsOf answerShort readRequest readList call musts mays "
     "fieldKinds fieldFits knownOp permitted created\n  newObjectOf duplicateOf releaseParcelOf retireObjectOf reserveOf trimOf abortOf publishOf getInfoOf resolveOf replaceOf closeOf "
     "scanHandlesOf prepareTransferOf prepareConsumptionOf\n  rollbackOf commitOf directCommitOf directRollbackOf removeStoppingOwnerOf teardownStartOf teardownStepOf teardownFinishOf "

@@ -6,10 +6,13 @@ the proof that stands no longer goes through, which a right program in other wor
 says what wrong program it makes and which fact then fails: a case with its words, or a line of argument. There must be a line for each edit and an edit for each line, and
 the names that a line cites in backticks must stand in the crates.
 
+Edits stand in crates/CRATE/must-fail, which the gate tries, and in tests/wrong/CRATE, which tests/wrong.py tries by hand. Of the latter it is seen here that the text to change
+stands in the crate, and that docs/wrong-programs.md has their number.
+
 An edit is at fault if its first error is that it can't be read, that a name is missing, or that a proof repeats a definition's text; if it changes a proof; or if
 another edit of its crate makes the same change. The class of each edit is printed beside it.
 
-  reasons.py              the logs of all edits, as `rt ci` leaves them in target/must-fail/CRATE/LABEL/.log
+  reasons.py              the logs of the gate's edits, as `rt ci` leaves them in target/must-fail/CRATE/LABEL/.log
   reasons.py --partial    an edit without a log is named and not counted (after `rt must-fail CRATE`)
 """
 import re
@@ -19,6 +22,7 @@ from pathlib import Path
 
 root = Path(__file__).resolve().parent.parent
 TABLE = root / "tests" / "must-fail.txt"
+TRIED = root / "docs" / "wrong-programs.md"
 
 VALUE = r"(?:\d+|(?:[\w.·]+\.)?(?:true|false))"
 TABLES = r"specs/(?:Cases|Effects|WordCases|Examples|Exclusions)\.antt"
@@ -69,6 +73,16 @@ def classify(log):
     return (None, error) if error else (UNFIT, "no error in its log")
 
 
+def gate_edits():
+    """The edits that `rt ci` tries, by CRATE/LABEL."""
+    return {f"{p.parent.parent.name}/{p.stem}": p for p in sorted(root.glob("crates/*/must-fail/*.edit"))}
+
+
+def hand_edits():
+    """The edits that tests/wrong.py tries, by CRATE/LABEL."""
+    return {f"{p.parent.name}/{p.stem}": p for p in sorted(root.glob("tests/wrong/*/*.edit"))}
+
+
 def change(edit):
     """The files and the replacements of an edit."""
     out, file, old = [], "", ""
@@ -78,8 +92,28 @@ def change(edit):
         elif line.startswith("old: "):
             old = line[5:]
         elif line.startswith("new:"):
-            out.append((file, old, line[4:].strip()))
+            out.append((file, old, line[4:].removeprefix(" ")))
     return out
+
+
+def applied(folder, parts):
+    """The texts of a crate's files after an edit, by path; or what keeps it from being made, as `rt` has it: each old text stands once."""
+    texts = {}
+    for file, old, new in parts:
+        path = folder / file
+        if path not in texts and not path.is_file():
+            return f"there is no {file}"
+        text = texts.get(path) or path.read_text()
+        if not old or text.count(old) != 1:
+            return f"its old text stands {text.count(old) if old else 0} times in {file}: {old[:80]}"
+        texts[path] = text.replace(old, new)
+    return texts or "it changes nothing"
+
+
+def tried():
+    """What docs/wrong-programs.md says: for each crate the edits by hand and how many of them were refused."""
+    text = TRIED.read_text() if TRIED.exists() else ""
+    return {crate: (int(n), int(refused)) for crate, n, refused in re.findall(r"^\| (\w+) \| \d+ \| (\d+) \| (\d+) \|", text, flags=re.M)}
 
 
 def table():
@@ -130,7 +164,9 @@ def main():
     for text, wanted in SELF:
         if classify(text)[0] != wanted:
             faults.append(f"the classes are wrong: {classify(text)[0]} for: {text[:120]}")
-    edits = {f"{p.parent.parent.name}/{p.stem}": p for p in sorted(root.glob("crates/*/must-fail/*.edit"))}
+    gate, by_hand = gate_edits(), hand_edits()
+    faults += [f"{name}: it stands in must-fail and in tests/wrong" for name in gate if name in by_hand]
+    edits = {**by_hand, **gate}
     faults += [f"{name}: it has no line in tests/must-fail.txt" for name in edits if name not in lines]
     faults += [f"{name}: a line of tests/must-fail.txt, and no edit" for name in lines if name not in edits]
     counts, changes, unseen = Counter(), {}, 0
@@ -142,6 +178,11 @@ def main():
         same = changes.setdefault((crate, tuple(parts)), name)
         if same != name:
             faults.append(f"{name}: the same change as {same}")
+        if name not in gate:
+            made = applied(root / "crates" / crate, parts)
+            if isinstance(made, str):
+                faults.append(f"{name}: {made}")
+            continue
         log = root / "target" / "must-fail" / crate / label / ".log"
         if not log.exists():
             unseen += 1
@@ -157,6 +198,9 @@ def main():
         else:
             counts[kind] += 1
             print(f"{name}: {kind}, at {where}")
+    for crate, n in Counter(name.split("/")[0] for name in by_hand).items():
+        if tried().get(crate) != (n, n):
+            faults.append(f"tests/wrong/{crate} has {n} edits, and docs/wrong-programs.md does not say that so many were refused: run tests/wrong.py {crate}")
     for kind, meaning in MEANING.items():
         if counts[kind]:
             print(f"{counts[kind]} {kind}: {meaning}")
@@ -164,8 +208,9 @@ def main():
         print(f"{unseen} edits have no log")
     for fault in faults:
         print(fault)
-    print(f"{len(edits)} edits, {len(lines)} lines of tests/must-fail.txt, {len(faults)} at fault")
-    sys.exit(1 if faults or not edits or not sum(counts.values()) else 0)
+    print(f"{len(gate)} edits in the gate, {len(by_hand)} by hand, {len(lines)} lines of tests/must-fail.txt, {len(faults)} at fault")
+    sys.exit(1 if faults or not gate or not sum(counts.values()) else 0)
 
 
-main()
+if __name__ == "__main__":
+    main()

@@ -7,8 +7,9 @@ false, and the fact that fails; it must be refused there and by no crate below i
 applies it. The script says which crate refused a slip, and where.
 Its last line is 'N passed, M failed'.
 
-  slips.py [WORDS]     the slips, or those whose names have the words
+  slips.py [WORDS]     the slips, or those whose names have the words; RT_JOBS of them at a time (default 2)
 """
+import os
 import re
 import subprocess
 import sys
@@ -74,6 +75,7 @@ STATEMENTS = {
         [
             ("promises/specs/Terms.antt", "use Prim.Native.Nat.{ℕ, _*_, _≤_}\n", "use Prim.Native.Nat.{ℕ, _*_, _≤_, _<_}\n"),
             ("promises/specs/Terms.antt", "pub enough : answerWords * length (requestsIn (c .list)) ≤ length (c .lent)", "pub enough : answerWords * length (requestsIn (c .list)) < length (c .lent)"),
+            ("promises/specs/Calls.antt", "use lib.Seq.{take-at}\n", "use native.Mathlib.Omega.{arith}\nuse lib.Seq.{take-at}\n"),
             ("promises/specs/Calls.antt", "m r (f .reads) (f .enough) in", "m r (f .reads) (omega (arith, f .enough)) in"),
         ],
         "promises",
@@ -163,7 +165,7 @@ def main():
     jobs = [(name, bare) for name in SLIPS for bare in (False, True) if asked in name] + [(name, False) for name in (*WORDS, *STATEMENTS) if asked in name]
     if not jobs:
         sys.exit(f"no slip has the words '{asked}'")
-    with ThreadPoolExecutor(2) as pool:
+    with ThreadPoolExecutor(int(os.environ.get("RT_JOBS", "2"))) as pool:
         results = list(pool.map(lambda j: attempt(*j), jobs))
     passed = failed = 0
     for (name, bare), (text, good) in zip(jobs, results):

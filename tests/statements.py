@@ -107,7 +107,7 @@ def module(crate, name):
     if not path.exists():
         return {}, {}, {}
     lines = [re.sub(r"\s--(\s.*|$)", "", l).rstrip() for l in path.read_text().split("\n") if not re.match(r"\s*--(\s|$)", l)]
-    brought, foreign = imports("\n".join(lines), "use ")
+    brought, foreign = imports("\n".join(lines), "(?:pub )?use ")
     out, sections, at = {}, [], 0
     while at < len(lines):
         line = lines[at]

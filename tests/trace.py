@@ -13,7 +13,7 @@ for path in root.glob("crates/*/specs/**/*.antt"):
     known |= set(re.findall(r"^pub (?:record|data) (\S+)", text, flags=re.M))
 for path in root.glob("crates/*/src/*.rt"):
     known |= set(re.findall(r"(?:fn|struct|enum|const) (\w+)", path.read_text()))
-edits = {p.stem for p in root.glob("crates/*/must-fail/*.edit")}
+edits = {p.stem for p in [*root.glob("crates/*/must-fail/*.edit"), *root.glob("tests/wrong/*/*.edit")]}
 crates = {p.name for p in root.glob("crates/*")}
 # words of document 01 and of the Rust, quoted as they stand there
 quoted = set(
