@@ -1,6 +1,7 @@
 //! The benchmark (docs/performance.md): the Rust and the port in one run, by the same driver. Both are fed the same request words and write the
 //! same 72 answer words for each request. A call of the port checks the whole state first: its requests are timed in long lists, less the time of
-//! an empty list. The Rust's time is given as it is, and less what its driver takes to read the words of the list.
+//! an empty list. The Rust's time is given as it is, and less what its driver takes to read the words of the list. A request that can't be repeated
+//! alone is timed in a cycle, and, at 64 slots, by the difference of two lists that share their first part.
 
 use std::hint::black_box;
 use std::time::Instant;
@@ -16,6 +17,9 @@ const ROWS: u64 = 16;
 /// Requests in a list, about.
 const LONG: usize = 20_000;
 const TIMES: usize = 15;
+/// Pairs of runs for a difference, and how many times its uncertainty a difference must be to be told.
+const PAIRS: usize = 1000;
+const CLEAR: f64 = 10.0;
 
 /// The state of a table of so many pages, each slot of which is occupied by a handle of object 0, but for `free` slots of the last page.
 fn filled(pages: u64, free: u64, spare: u64) -> (Direct, Vec<u64>) {
@@ -60,6 +64,12 @@ fn handles(state: &State) -> Vec<u64> {
     values
 }
 
+/// A plain read: the sum of the words. A function of its own, so that its code does not depend on what stands around the call.
+#[inline(never)]
+fn plain_read(words: &[u64]) -> u64 {
+    words.iter().fold(0, |sum, word| sum.wrapping_add(*word))
+}
+
 /// The median of some runs, in nanoseconds: of more runs where they are short.
 fn median(mut run: impl FnMut() -> f64) -> f64 {
     let first = run();
@@ -86,15 +96,218 @@ fn list_of(start: &Start, count: usize, mut next: impl FnMut(usize, &[[u64; ANSW
     (list, count)
 }
 
-pub fn run() {
+/// Prints rows as they are measured, as text or as docs/performance.md has them, and keeps their ratios.
+struct Table {
+    markdown: bool,
+    ratios: Vec<(f64, f64)>,
+}
+
+impl Table {
+    fn head(&self, what: &str) {
+        if self.markdown {
+            println!("\n| slots | {what} | port | Rust | less words | ratio | ratio, less words |\n|---|---|---|---|---|---|---|");
+        } else {
+            println!("{:>9} {what:48} {:>10} {:>10} {:>10} {:>7} {:>7}", "slots", "port ns", "Rust ns", "less words", "ratio", "less");
+        }
+    }
+
+    fn row(&mut self, slots: u64, name: &str, port: f64, rust: f64, less: f64) {
+        let (ratio, ratio_less) = (port / rust, port / less);
+        self.ratios.push((ratio, ratio_less));
+        if self.markdown {
+            println!("| {slots} | {name} | {port:.0} | {rust:.0} | {less:.0} | {ratio:.2} | {ratio_less:.2} |");
+        } else {
+            println!("{slots:>9} {name:48} {port:>10.0} {rust:>10.0} {less:>10.0} {ratio:>7.2} {ratio_less:>7.2}");
+        }
+    }
+
+    /// Least, geometric mean and greatest of both ratios, and the rows above the bounds.
+    fn sum(&mut self, what: &str) {
+        let of = |pick: fn(&(f64, f64)) -> f64| {
+            let all: Vec<f64> = self.ratios.iter().map(pick).collect();
+            let mean = (all.iter().map(|ratio| ratio.ln()).sum::<f64>() / all.len() as f64).exp();
+            let ends = all.iter().fold((f64::INFINITY, 0.0f64), |(low, high), ratio| (low.min(*ratio), high.max(*ratio)));
+            format!("least {:.2}, geometric mean {mean:.2}, greatest {:.2}", ends.0, ends.1)
+        };
+        let above = |bound: f64, pick: fn(&(f64, f64)) -> f64| self.ratios.iter().filter(|row| pick(row) > bound).count();
+        let many = self.ratios.len();
+        println!("\n{what}: {many} rows");
+        println!("- with the driver: {}; above 1.0: {} of {many}", of(|row| row.0), above(1.0, |row| row.0));
+        println!("- less words: {}; above 1.5: {} of {many}", of(|row| row.1), above(1.5, |row| row.1));
+        self.ratios.clear();
+    }
+}
+
+/// Two lists from one state, the second of which goes on where the first ends. The tail's requests are timed by their difference. Both begin with the same requests that
+/// leave no trace, so that neither side's memory is used for the first time in the tail.
+struct Split {
+    name: &'static str,
+    head: Vec<u64>,
+    whole: Vec<u64>,
+    /// Requests of the head and of the whole.
+    counts: (usize, usize),
+}
+
+/// The next request of a part, by its place there and the answers since the shared beginning.
+type Make<'a> = &'a dyn Fn(usize, &[[u64; ANSWER]]) -> Request;
+
+fn split(start: &Start, value: u64, name: &'static str, first: &[(usize, Make)], tail: (usize, Make)) -> Split {
+    let rows = ROWS as usize;
+    let warm: [(usize, Make); 6] = [
+        (rows, &|_, _| duplicate(0, value, 1)),
+        (rows, &|k, answers| release(answers[k][1])),
+        (rows, &|_, _| reserve(0, 1)),
+        (rows, &|k, answers| abort(answers[2 * rows + k][1])),
+        (1, &|_, _| transfer(0, 0, vec![item(0, value, u64::MAX)])),
+        (1, &|_, answers| rollback(answers[4 * rows][1])),
+    ];
+    let of = |parts: &[(usize, Make)]| parts.iter().map(|(count, _)| count).sum::<usize>();
+    let skipped = of(&warm);
+    let before = skipped + of(first);
+    let list = |many: usize| {
+        list_of(start, many, |at, answers| {
+            let (mut place, own) = (at, answers.get(skipped..).unwrap_or(&[]));
+            for (part, answers) in warm.iter().map(|part| (part, answers)).chain(first.iter().chain([&tail]).map(|part| (part, own))) {
+                if place < part.0 {
+                    return part.1(place, answers);
+                }
+                place -= part.0;
+            }
+            unreachable!("a request past the list's end")
+        })
+    };
+    let ((head, _), (whole, all)) = (list(before), list(before + tail.0));
+    Split { name, head, whole, counts: (before, all) }
+}
+
+/// The median of paired differences, in nanoseconds, and its uncertainty (from the spread of the middle half).
+fn difference(mut pair: impl FnMut() -> f64) -> (f64, f64) {
+    let mut times: Vec<f64> = (0..PAIRS).map(|_| pair()).collect();
+    times.sort_by(f64::total_cmp);
+    (times[PAIRS / 2], 0.93 * (times[PAIRS * 3 / 4] - times[PAIRS / 4]) / (PAIRS as f64).sqrt())
+}
+
+/// A number with commas between its thousands.
+fn spaced(number: f64) -> String {
+    let digits = format!("{number:.0}");
+    let parts: Vec<&str> = digits.as_bytes().rchunks(3).rev().map(|part| std::str::from_utf8(part).expect("digits")).collect();
+    parts.join(",")
+}
+
+/// One row by difference.
+fn tell(table: &mut Table, slots: u64, start: &Start, words: &[u64], this: &Split) {
+    let tail = (this.counts.1 - this.counts.0) as f64;
+    let mut wanted = vec![0u64; this.counts.1 * ANSWER];
+    let mut answers = wanted.clone();
+    let mut rust_run = |list: &[u64], count: usize| {
+        let mut rust = Direct::default();
+        assert_eq!(rust.start(start), 0);
+        let from = Instant::now();
+        let result = rust.call(black_box(list), &mut wanted[..count * ANSWER]);
+        let time = from.elapsed().as_nanos() as f64;
+        assert_eq!(result, 0);
+        rust.end();
+        time
+    };
+    let rust = difference(|| {
+        let head = rust_run(&this.head, this.counts.0);
+        rust_run(&this.whole, this.counts.1) - head
+    });
+    let read_run = |list: &[u64]| {
+        let from = Instant::now();
+        black_box(read_list(black_box(list)).map(|list| list.len()));
+        from.elapsed().as_nanos() as f64
+    };
+    let reading = difference(|| {
+        let head = read_run(&this.head);
+        read_run(&this.whole) - head
+    });
+    let mut port = CEntry::of_the_port();
+    let mut port_run = |list: &[u64], count: usize| {
+        let mut state = words.to_vec();
+        let from = Instant::now();
+        let result = port.bare(&mut state, black_box(list), &mut answers[..count * ANSWER]);
+        let time = from.elapsed().as_nanos() as f64;
+        assert_eq!(result, 0);
+        time
+    };
+    let ported = difference(|| {
+        let head = port_run(&this.head, this.counts.0);
+        port_run(&this.whole, this.counts.1) - head
+    });
+    assert_eq!(answers, wanted, "{}: the answers differ", this.name);
+    let less = (rust.0 - reading.0, rust.1 + reading.1);
+    if [rust, less, ported].iter().all(|(time, unsure)| *time > CLEAR * unsure) {
+        table.row(slots, this.name, ported.0 / tail, rust.0 / tail, less.0 / tail);
+    } else {
+        println!("not told: {} ({:.0} +- {:.0}, Rust {:.0} +- {:.0}, less words {:.0} +- {:.0} ns)", this.name, ported.0, ported.1, rust.0, rust.1, less.0, less.1);
+    }
+}
+
+/// The requests of a small table one by one. A list opens at most as many rows as there are.
+fn differences(table: &mut Table, slots: u64, start: &Start, words: &[u64], handles: &[u64]) {
+    let first = handles[0];
+    let rows = ROWS as usize;
+    let half = rows / 2;
+    let id = |answers: &[[u64; ANSWER]], at: usize| answers[at][1];
+    let moves = |values: &[u64]| transfer(0, 0, values.iter().map(|value| item(0, *value, u64::MAX)).collect());
+    let copy: Make = &|_, _| duplicate(0, first, 1);
+    let slot: Make = &|_, _| reserve(0, 1);
+    let slots_2: Make = &|_, _| reserve(0, 2);
+    let claim: Make = &|k, _| moves(&handles[k..k + 1]);
+    let claim_8: Make = &|k, _| moves(&handles[8 * k..8 * k + 8]);
+    let claim_all: Make = &|_, _| moves(handles);
+    let eights = handles.len() / 8;
+    let all = [
+        split(start, first, "new object", &[], (rows, &|k, _| new_object(1 + k as u64, 1, 0))),
+        split(start, first, "duplicate", &[], (rows, copy)),
+        split(start, first, "release parcel", &[(rows, copy)], (rows, &|k, answers| release(id(answers, k)))),
+        split(start, first, "reserve 1", &[], (rows, slot)),
+        split(start, first, "abort of 1", &[(rows, slot)], (rows, &|k, answers| abort(id(answers, k)))),
+        split(start, first, "trim of 2 to 1", &[(half, slots_2)], (half, &|k, answers| trim(id(answers, k), 1))),
+        split(start, first, "publish 1", &[(half, copy), (half, slot)], (half, &|k, answers| publish(id(answers, half + k), &[id(answers, k)]))),
+        split(start, first, "close", &[], (handles.len(), &|k, _| close(0, handles[k]))),
+        split(start, first, "prepare a transfer of 1", &[], (rows, claim)),
+        split(start, first, "rollback of 1", &[(rows, claim)], (rows, &|k, answers| rollback(id(answers, k)))),
+        split(start, first, "commit of 1", &[(rows, claim)], (rows, &|k, answers| commit(id(answers, k)))),
+        split(start, first, "direct commit of 1", &[(half, slot), (half, claim)], (half, &|k, answers| direct_commit(id(answers, half + k), id(answers, k)))),
+        split(start, first, "direct rollback of 1", &[(half, slot), (half, claim)], (half, &|k, answers| direct_rollback(id(answers, half + k), id(answers, k)))),
+        split(start, first, "prepare a transfer of 8", &[], (eights, claim_8)),
+        split(start, first, "rollback of 8", &[(eights, claim_8)], (eights, &|k, answers| rollback(id(answers, k)))),
+        split(start, first, "commit of 8", &[(eights, claim_8)], (eights, &|k, answers| commit(id(answers, k)))),
+        split(start, first, "prepare a transfer of 48", &[], (1, claim_all)),
+        split(start, first, "rollback of 48", &[(1, claim_all)], (1, &|_, answers| rollback(id(answers, 0)))),
+        split(start, first, "commit of 48", &[(1, claim_all)], (1, &|_, answers| commit(id(answers, 0)))),
+        split(start, first, "prepare consumption", &[], (rows, &|k, _| consume(0, handles[k], 1, 7, 1000))),
+        split(start, first, "remove_stopping_owner", &[], (handles.len(), &|k, answers| stopping(0, if k == 0 { 0 } else { answers[k - 1][2] }))),
+        split(start, first, "teardown step", &[(1, &|_, _| teardown_start(0))], (handles.len(), &|_, _| teardown_step(0))),
+        // 80 slots are two pages more than the 16 that are free, and both are empty after the aborts
+        split(
+            start,
+            first,
+            "take_empty_page",
+            &[(1, &|_, _| reserve(0, 64)), (1, &|_, _| reserve(0, 64)), (2, &|k, answers| abort(id(answers, k)))],
+            (2, &|_, _| take_page(0)),
+        ),
+    ];
+    for this in &all {
+        tell(table, slots, start, words, this);
+    }
+}
+
+/// The benchmark; with `markdown` its tables are as docs/performance.md has them.
+pub fn run(markdown: bool) {
     let mut oracle = Oracle::default();
-    if let Some(place) = oracle.work(|_| measure()) {
+    if let Some(place) = oracle.work(move |_| measure(markdown)) {
         println!("the Rust stopped at {}:{}", place.file, place.line);
     }
 }
 
-fn measure() {
-    println!("{:>9} {:48} {:>10} {:>10} {:>10} {:>7} {:>7}", "slots", "requests", "port ns", "Rust ns", "less words", "ratio", "less");
+fn measure(markdown: bool) {
+    let mut table = Table { markdown, ratios: Vec::new() };
+    let mut checks = Vec::new();
+    table.head("requests");
+    let mut small = None;
     for pages in [1u64, 64, 4096] {
         let (mut rust, values) = filled(pages, 16.min(pages * 64 - 2), 2);
         let first = values[0];
@@ -246,7 +459,7 @@ fn measure() {
             assert_eq!(answers, wanted, "{name}: the answers differ");
             let each = |time: f64| time / count as f64 * cycle;
             let (port_ns, rust_ns, less_ns) = (each(whole - check), each(rust_time), each(rust_time - reading));
-            println!("{:>9} {name:48} {port_ns:>10.0} {rust_ns:>10.0} {less_ns:>10.0} {:>7.2} {:>7.2}", pages * 64, port_ns / rust_ns, port_ns / less_ns);
+            table.row(pages * 64, &name, port_ns, rust_ns, less_ns);
         }
         // The state check beside a plain read of the same words.
         let mut port = CEntry::of_the_port();
@@ -261,13 +474,29 @@ fn measure() {
         let read = median(|| {
             let state = words.clone();
             let from = Instant::now();
-            let mut sum = 0u64;
-            for word in black_box(&state) {
-                sum = sum.wrapping_add(*word);
-            }
-            black_box(sum);
+            black_box(plain_read(black_box(&state)));
             from.elapsed().as_nanos() as f64
         });
-        println!("{:>9} state check of {} words: {:.0} ns; a plain read of them {:.0} ns; ratio {:.2}", pages * 64, words.len(), check, read, check / read);
+        checks.push((words.len(), check, read));
+        small.get_or_insert((start, words, handles));
+    }
+    table.sum("Requests and cycles");
+    if !markdown {
+        println!();
+    }
+    let (start, words, handles) = small.expect("the smallest table");
+    table.head("one request, by difference");
+    differences(&mut table, 64, &start, &words, &handles);
+    table.sum("By difference");
+    println!();
+    if markdown {
+        println!("| words | check | plain read | ratio |\n|---|---|---|---|");
+    }
+    for (many, check, read) in checks {
+        if markdown {
+            println!("| {} | {} ns | {} ns | {:.2} |", spaced(many as f64), spaced(check), spaced(read), check / read);
+        } else {
+            println!("state check of {many} words: {check:.0} ns; a plain read of them {read:.0} ns; ratio {:.2}", check / read);
+        }
     }
 }
