@@ -2,16 +2,12 @@
 -- A value is the prefix and, below it, a payload of 56 bits under a mask; the payload is a generation of 32 bits and a slot number of 24.
 -- Assumes nothing.
 use Prim.Native.Nat.{ℕ, _+_, _-_, _*_, _/_, _%_, _^_}
-use mathlib.Core.Bool.{Bool, true, false, not, _&&_}
+use mathlib.Core.Bool.{Bool, not, _&&_}
 use lib.Dec.{eqb, ltb}
 use lib.Bits.{bitXor}
+use Rattle.words.specs.Pick.{pick}
 use Rattle.codec.specs.declared.Decoded.{Decoded}
 use Rattle.codec.specs.declared.Decoded.the-variants.{At, Invalid}
-
--- a choice by a test
-unfoldable pub pick : {A : Type 0} → Bool → A → A → A
-pick true a b = a
-pick false a b = b
 
 -- "Slot index is at most 16,777,214."
 abbrev pub slotLimit : ℕ

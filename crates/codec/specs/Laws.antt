@@ -7,10 +7,10 @@ use native.Mathlib.Omega.{arith}
 use lib.Dec.{eqb, ltb}
 use lib.Bits.{bitAnd, bitXor, xor-lt, and-mask, and-high}
 use borrow.Author.Tests.{eqb-true, eqb-false, eq-eqb, ne-eqb, lt-ltb, le-ltb, ltb-true, ltb-false}
+use Rattle.words.specs.Pick.{yes-is, no-is}
 use Rattle.codec.specs.declared.Decoded.the-variants.{At, Invalid}
 use Rattle.codec.specs.Xor.{xor-cancel}
 use Rattle.codec.specs.Codec.{
-  pick,
   slotLimit,
   generationLimit,
   prefix,
@@ -44,24 +44,13 @@ p3 = refl
 
 -- P4 4800000001000000, mask 0: 2
 pub p4 : decodedNumber (decodeOf 0 0x4800_0000_0100_0000) ≡ 2
-unfolding decodeOf decodes numberIn generationIn payloadIn maskOf pick
+unfolding decodeOf decodes numberIn generationIn payloadIn maskOf
 p4 = refl
 
 -- P5 4800000000000001, mask 0: 2
 pub p5 : decodedNumber (decodeOf 0 0x4800_0000_0000_0001) ≡ 2
-unfolding decodeOf decodes numberIn generationIn payloadIn maskOf pick
+unfolding decodeOf decodes numberIn generationIn payloadIn maskOf
 p5 = refl
-
--- a choice, where its test is known
-pub yes-is : {A : Type 0} (b : Bool) (r x y : A) → b ≡ true → r ≡ x → r ≡ pick b x y
-unfolding pick
-yes-is true r x y e p = p
-yes-is false r x y e p = cc
-
-pub no-is : {A : Type 0} (b : Bool) (r x y : A) → b ≡ false → r ≡ y → r ≡ pick b x y
-unfolding pick
-no-is true r x y e p = cc
-no-is false r x y e p = p
 
 first-fails : (p q r : Bool) → p ≡ false → (p && (q && r)) ≡ false
 first-fails true q r e = cc
@@ -275,7 +264,7 @@ same-value mask v w hv hw es eg = sym (encode-decoded mask v hv) ∙ ap₂ (enco
 
 -- the generation after the limit is 1
 pub next-at-limit : nextGeneration generationLimit ≡ 1
-unfolding nextGeneration pick
+unfolding nextGeneration
 next-at-limit = refl
 
 -- and after any below one more

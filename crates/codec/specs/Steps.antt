@@ -7,9 +7,10 @@ use native.Mathlib.Omega.{arith}
 use lib.Dec.{eqb}
 use lib.Bits.{bitAnd, bitXor, and-mask}
 use borrow.Author.Tests.{eq-eqb, ne-eqb}
+use Rattle.words.specs.Pick.{yes-is, no-is}
 use Rattle.codec.specs.declared.Decoded.the-variants.{At, Invalid}
 use Rattle.codec.specs.Codec.{prefix, maskOf, payload, encode, payloadIn, numberIn, slotIn, generationIn, decodes, decodeOf}
-use Rattle.codec.specs.Laws.{yes-is, no-is, mask-is, masked-below, prefix-bits, other-prefix, no-slot, no-generation, all-three}
+use Rattle.codec.specs.Laws.{mask-is, masked-below, prefix-bits, other-prefix, no-slot, no-generation, all-three}
 
 -- the payload and the mask, as the code makes them
 abbrev pub made : ℕ → ℕ → ℕ → ℕ

@@ -2,10 +2,8 @@
 use mathlib.Core.Path.{_≡_, refl, sym, ap, _∙_}
 use mathlib.Core.Bool.{Bool, true, false}
 use mathlib.Core.List.{List, [], _∷_}
-use Prim.Native.Nat.{ℕ, zero, suc, _+_, _-_, _*_, _/_, _^_, _≤_, _<_, min}
-use native.Mathlib.Omega.{arith}
+use Prim.Native.Nat.{ℕ, zero, suc, _+_, _-_, _*_, _/_, min}
 use native.Mathlib.Numerals.{add-one}
-use native.Mathlib.Nat.{mul-le-mul}
 use lib.ListN.{length, getD, set}
 use lib.Dec.{leb}
 use Rattle.words.specs.Pick.{pick, yes-is, no-is}
@@ -15,17 +13,13 @@ use Rattle.layout.specs.declared.ShapeRead.the-variants.{Shape as found, Bad}
 use Rattle.layout.specs.Layout.{Addr.reg, total, root, head, object, index, rank, save, Write, Write.at, writes, length-writes}
 use Rattle.layout.specs.ShapeOf.{onShape}
 use Rattle.codec.specs.Codec.{maskOf}
+use Rattle.layout.specs.Turns.{turns}
 use Rattle.create.specs.Parameters.{tableFrom, objectPlace, objectOf, pageSum, planOf}
 
 -- words 0 to n - 1 are 0
 unfoldable pub clearedW : List ℕ → ℕ → List ℕ
 clearedW ws zero = ws
 clearedW ws (suc n) = set (clearedW ws n) n 0
-
--- n turns, each a plan of stores
-unfoldable pub rounds : List ℕ → Shape → (ℕ → List Write) → ℕ → List ℕ
-rounds ws sh f zero = ws
-rounds ws sh f (suc n) = writes (rounds ws sh f n) sh (f n)
 
 -- the header: version 1, the counts, next id 1; all frames are free
 abbrev pub headerP : Shape → List Write
@@ -41,7 +35,7 @@ abbrev pub headP : List ℕ → ℕ → List Write
 headP ps b = at (head b 0) (tableFrom ps b .pages) ∷ at (head b 1) (maskOf (tableFrom ps b .seed)) ∷ at (head b 10) (pageSum ps b) ∷ []
 
 abbrev pub headsW : List ℕ → Shape → List ℕ → ℕ → List ℕ
-headsW ws sh ps n = rounds ws sh (headP ps) n
+headsW ws sh ps n = turns ws sh (headP ps) n
 
 -- an object, new and without handles
 abbrev pub objectP : List ℕ → ℕ → ℕ → List Write
@@ -50,21 +44,21 @@ objectP ps t o =
     ∷ at (object o 3) (objectOf ps t o .supported) ∷ at (object o 4) (objectOf ps t o .exportable) ∷ at (object o 7) (objectOf ps t o .limit) ∷ []
 
 abbrev pub objectsW : List ℕ → Shape → List ℕ → ℕ → List ℕ
-objectsW ws sh ps n = rounds ws sh (objectP ps (sh .tables)) n
+objectsW ws sh ps n = turns ws sh (objectP ps (sh .tables)) n
 
 -- the frames of a group: its size, or what is left
 abbrev pub groupP : Shape → ℕ → ℕ → ℕ → List Write
 groupP sh k size g = at (reg k g 0 0) (min size (sh .frames - g * size)) ∷ []
 
 abbrev pub groupsW : List ℕ → Shape → ℕ → ℕ → ℕ → List ℕ
-groupsW ws sh k size n = rounds ws sh (groupP sh k size) n
+groupsW ws sh k size n = turns ws sh (groupP sh k size) n
 
 -- each place has the rank of its number
 abbrev pub placeP : ℕ → List Write
 placeP i = at (index i) i ∷ at (rank i) i ∷ []
 
 abbrev pub placesW : List ℕ → Shape → ℕ → List ℕ
-placesW ws sh n = rounds ws sh placeP n
+placesW ws sh n = turns ws sh placeP n
 
 -- the three levels of groups
 unfoldable pub levelsW : List ℕ → Shape → List ℕ
@@ -108,18 +102,6 @@ cleared-more ws k us vs e q = rw add-one (cc)
 
 pub cleared-at : (ws : List ℕ) (k n : ℕ) (us : List ℕ) → us ≡ clearedW ws k → k ≡ n → us ≡ clearedW ws n
 cleared-at ws k n us e q = rw (← q) e
-
-module _ (ws : List ℕ) (sh : Shape) (f : ℕ → List Write) where
-  pub rounds-more : (k : ℕ) (us vs : List ℕ) → us ≡ rounds ws sh f k → vs ≡ writes us sh (f k) → vs ≡ rounds ws sh f (k + 1)
-  unfolding rounds
-  rounds-more k us vs e q = rw (add-one, ← e) q
-
-  pub rounds-at : (k n : ℕ) (us : List ℕ) → us ≡ rounds ws sh f k → k ≡ n → us ≡ rounds ws sh f n
-  rounds-at k n us e q = rw (← q) e
-
--- no group's first frame is large
-pub group-small : (g size : ℕ) → g < 65536 → size < 65536 → g * size < 2 ^ 64
-group-small g size a b = let z : g * size ≤ 65535 * 65535 = mul-le-mul {n₁ = g} {m₁ = size} {n₂ = 65535} {m₂ = 65535} (omega arith) (omega arith) in omega arith
 
 -- ---- what the stores say
 

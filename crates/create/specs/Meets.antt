@@ -7,7 +7,7 @@ use Prim.Native.Nat.{ℕ, zero, suc, _+_, _-_, _*_, _/_, _≤_, _<_, min}
 use native.Mathlib.Omega.{arith}
 use lib.ListN.{length, getD}
 use lib.Dec.{eqb, ltb, leb}
-use borrow.Author.Tests.{ne-eqb, eqb-true, eqb-false, lt-ltb, le-ltb, ltb-true, ltb-false, leb-true, leb-false, le-leb}
+use borrow.Author.Tests.{lt-ltb, le-ltb, ltb-true, ltb-false, leb-true, leb-false, le-leb}
 use Rattle.words.specs.Pick.{bool, both, clash}
 use Rattle.codec.specs.Codec.{maskOf}
 use Rattle.layout.specs.Layout.{Mem, total, head, object}
@@ -16,6 +16,7 @@ use Rattle.model.specs.Base.{bit, nth, every, range, occurs, sum}
 use Rattle.model.specs.State.{till, Slot.absent, maxSlots}
 use Rattle.model.specs.Create.{TableParameters, ObjectParameters, tablePermitted, objectPermitted, permitted, classOf, newTable, newObjectRecord, created}
 use Rattle.model.specs.Created.{created-well-formed}
+use Rattle.model.specs.Sums.{sum-equal, range-all, length-range}
 use Rattle.representation.specs.Represents.{classWord, slotIn, TableIs, ObjectIs, Represents, Rep}
 use Rattle.representation.specs.Unique.{shapeFor}
 use Rattle.create.specs.Parameters.{from, from-length, tableFrom, objectOf, tablesIn, objectsIn, parametersOf, need, pageSum, pages-small, shapeIn, Good, TableGood, table-is, ObjectGood, object-is, good-checked, plan-good, plan-bad}
@@ -47,29 +48,7 @@ every-from p f k zero i j e h q = absurd (omega arith)
 every-from p f k (suc n) zero j e h q = let z : j ≡ k = omega arith in rw z (both (p (f k)) (every p (from f (suc k) n)) e .0)
 every-from p f k (suc n) (suc i) j e h q = every-from p f (suc k) n i j (both (p (f k)) (every p (from f (suc k) n)) e .1) (omega arith) (omega arith)
 
-sum-same : (n : ℕ) (f g : ℕ → ℕ) → ((k : ℕ) → k < n → f k ≡ g k) → sum n f ≡ sum n g
-sum-same zero f g h = refl
-sum-same (suc n) f g h = omega (arith, sum-same n f g (λ k i. h k (omega arith)), h n (omega arith))
-
 -- ---- frames that are all free
-
-range-below : (f k n : ℕ) → f < k → occurs f (range k n) ≡ 0
-range-below f k zero h = refl
-range-below f k (suc n) h = rw (ne-eqb f k (λ z. omega arith)) (omega (arith, range-below f (suc k) n (omega arith)))
-
-range-once : (f k n : ℕ) → k ≤ f → occurs f (range k n) ≡ bit (ltb f (k + n))
-range-once f k zero h = rw (le-ltb f (k + 0) (omega arith))
-range-once f k (suc n) h = bool (eqb f k)
-    (λ e. let q : f ≡ k = eqb-true f k e in rw (e, lt-ltb f (k + suc n) (omega arith)) (omega (arith, range-below f (suc k) n (omega arith))))
-    (λ e. let q : f ≡ k → ⊥ = eqb-false f k e in let i : occurs f (range (suc k) n) ≡ bit (ltb f (suc k + n)) = range-once f (suc k) n (omega arith) in
-    let p : suc k + n ≡ k + suc n = omega arith in rw (e, ← p) (omega arith))
-
-range-all : (f n : ℕ) → occurs f (range 0 n) ≡ bit (ltb f n)
-range-all f n = let q : 0 + n ≡ n = omega arith in rw q at (range-once f 0 n (omega arith))
-
-range-length : (k n : ℕ) → length (range k n) ≡ n
-range-length k zero = refl
-range-length k (suc n) = ap suc (range-length (suc k) n)
 
 bit-below : (x n : ℕ) → x < n → bit (ltb x n) ≡ 1
 bit-below x n h = rw (lt-ltb x n h)
@@ -156,7 +135,7 @@ module _ (ps : List ℕ) (g : Good ps) where
   limit-at b h = rw (table-at b h) (omega (arith, table-good b h .few-pages))
 
   limits-sum : (n : ℕ) → n ≤ getD ps 0 0 → pageSum ps n ≡ (sum n λ b. newTable (nth (tablesIn ps (getD ps 0 0)) b) .limit)
-  limits-sum n h = sum-same n (λ b. min (tableFrom ps b .pages) 262144) (λ b. newTable (nth (tablesIn ps (getD ps 0 0)) b) .limit) (λ b i. limit-at b (omega arith))
+  limits-sum n h = sum-equal n (λ b. min (tableFrom ps b .pages) 262144) (λ b. newTable (nth (tablesIn ps (getD ps 0 0)) b) .limit) (λ b i. limit-at b (omega arith))
 
   some-pages : (n : ℕ) → n ≤ getD ps 0 0 → n ≤ pageSum ps n
   some-pages zero h = omega arith
@@ -212,7 +191,7 @@ module _ (ps : List ℕ) (g : Good ps) where
           sixteens = λ k h. new-sixteen ps sh k (omega arith) ∙ sym (group-count (getD ps 1 0) (k * 16) 16);
           hundreds = λ k h. new-hundred ps sh k (omega arith) ∙ sym (group-count (getD ps 1 0) (k * 256) 256);
           thousands = λ k h. new-thousand ps sh k (omega arith) ∙ sym (group-count (getD ps 1 0) (k * 4096) 4096);
-          count = new-root ps sh 7 ∙ sym (range-length 0 (getD ps 1 0));
+          count = new-root ps sh 7 ∙ sym (length-range 0 (getD ps 1 0));
         };
         objects = λ o h. let i : o < getD ps 2 0 = omega (arith, objects-length) in
             rw (object-at o i) (object-made m o (objectOf ps (getD ps 0 0) o) (object-good o i) (new-koid ps sh o i) (new-kind ps sh o i) (new-class ps sh o i) (new-supported ps sh o i)

@@ -10,10 +10,11 @@ use Rattle.words.specs.Pick.{pick, bool}
 use Rattle.words.specs.Words.{get-past, get-put, get-other}
 use Rattle.codec.specs.Codec.{maskOf}
 use Rattle.layout.specs.declared.Shape.{Shape}
-use Rattle.layout.specs.Layout.{Addr, Mem, total, root, head, owner, group, object, index, rank, load, place, place-low, isIn, in-is, load-out, Write, writes, upds, InAll, length-writes, load-writes, writes-past}
+use Rattle.layout.specs.Layout.{Addr, Mem, total, root, head, owner, group, object, index, rank, load, place, place-low, isIn, in-is, load-out, writes, upds, length-writes, load-writes, writes-past}
 use Rattle.layout.specs.Layout.{in-root, in-head, in-object, in-index, in-rank}
+use Rattle.layout.specs.Turns.{hit, length-turns, load-turns, miss, turns, turns-past, turnsM}
 use Rattle.create.specs.Parameters.{tableFrom, objectOf, pageSum}
-use Rattle.create.specs.Creation.{clearedW, rounds, headerP, headerW, headP, objectP, groupP, levelsW, placeP, builtW}
+use Rattle.create.specs.Creation.{clearedW, headerP, headerW, headP, objectP, groupP, levelsW, placeP, builtW}
 
 -- ---- cleared words
 
@@ -45,43 +46,6 @@ load-cleared ws sh = fun-ext λ a. bool (isIn sh a)
     (λ e. get-cleared ws (total sh) (place (length (clearedW ws (total sh))) sh a) (place-low (length (clearedW ws (total sh))) sh a (in-is sh a e)))
     (λ e. load-out (clearedW ws (total sh)) sh a e)
 
--- ---- turns
-
-abbrev pub roundsM : Mem → (ℕ → List Write) → ℕ → Mem
-roundsM m f zero = m
-roundsM m f (suc n) = upds (roundsM m f n) (f n)
-
-module _ (ws : List ℕ) (sh : Shape) (f : ℕ → List Write) where
-  pub length-rounds : (n : ℕ) → length (rounds ws sh f n) ≡ length ws
-  unfolding rounds
-  length-rounds zero = refl
-  length-rounds (suc n) = length-writes (rounds ws sh f n) sh (f n) ∙ length-rounds n
-
-  pub rounds-past : (n i : ℕ) → total sh ≤ i → getD (rounds ws sh f n) i 0 ≡ getD ws i 0
-  unfolding rounds
-  rounds-past zero i h = refl
-  rounds-past (suc n) i h = writes-past (rounds ws sh f n) sh (f n) i h ∙ rounds-past n i h
-
-  pub load-rounds : total sh ≤ length ws → (n : ℕ) → ((i : ℕ) → i < n → InAll sh (f i)) → load (rounds ws sh f n) sh ≡ roundsM (load ws sh) f n
-  unfolding rounds
-  load-rounds h zero c = refl
-  load-rounds h (suc n) c =
-      load-writes (rounds ws sh f n) sh (omega (arith, length-rounds n)) (f n) (c n (omega arith))
-      ∙ ap (λ (m : Mem). upds m (f n)) (load-rounds h n (λ i g. c i (omega arith)))
-
-module _ (m : Mem) (f : ℕ → List Write) (a : Addr) where
-  -- no turn stores there
-  pub miss : ((i : ℕ) (k : Mem) → upds k (f i) a ≡ k a) → (n : ℕ) → roundsM m f n a ≡ m a
-  miss c zero = refl
-  miss c (suc n) = c n (roundsM m f n) ∙ miss c n
-
-  -- one turn stores there
-  pub hit : (i v : ℕ) → ((k : Mem) → upds k (f i) a ≡ v) → ((j : ℕ) (k : Mem) → (i ≡ j → ⊥) → upds k (f j) a ≡ k a) → (n : ℕ) → i < n → roundsM m f n a ≡ v
-  hit i v c d zero h = absurd (omega arith)
-  hit i v c d (suc n) h = bool (eqb i n)
-      (λ e. rw (← eqb-true i n e) (c (roundsM m f i)))
-      (λ e. d n (roundsM m f n) (eqb-false i n e) ∙ hit i v c d n (omega (arith, eqb-false i n e)))
-
 -- the tests that are left of such a store
 pub here : (i v w : ℕ) → pick (eqb i i) v w ≡ v
 here i v w = rw (eq-eqb i i refl)
@@ -96,46 +60,46 @@ module _ (ps : List ℕ) (sh : Shape) where
   mRoot = upds zeros (headerP sh)
 
   abbrev pub mHeads : Mem
-  mHeads = roundsM mRoot (headP ps) (sh .tables)
+  mHeads = turnsM mRoot (headP ps) (sh .tables)
 
   abbrev pub mObjects : Mem
-  mObjects = roundsM mHeads (objectP ps (sh .tables)) (sh .objects)
+  mObjects = turnsM mHeads (objectP ps (sh .tables)) (sh .objects)
 
   abbrev pub mSixteens : Mem
-  mSixteens = roundsM mObjects (groupP sh 4 16) ((sh .frames + 15) / 16)
+  mSixteens = turnsM mObjects (groupP sh 4 16) ((sh .frames + 15) / 16)
 
   abbrev pub mHundreds : Mem
-  mHundreds = roundsM mSixteens (groupP sh 5 256) ((sh .frames + 255) / 256)
+  mHundreds = turnsM mSixteens (groupP sh 5 256) ((sh .frames + 255) / 256)
 
   abbrev pub mThousands : Mem
-  mThousands = roundsM mHundreds (groupP sh 6 4096) ((sh .frames + 4095) / 4096)
+  mThousands = turnsM mHundreds (groupP sh 6 4096) ((sh .frames + 4095) / 4096)
 
   abbrev pub mNew : Mem
-  mNew = roundsM mThousands placeP (sh .rows)
+  mNew = turnsM mThousands placeP (sh .rows)
 
   pub load-built : (ws : List ℕ) → total sh ≤ length ws → load (builtW ws ps sh) sh ≡ mNew
   unfolding builtW headerW levelsW
   load-built ws h =
       let w0 = clearedW ws (total sh) in let l0 = length-cleared ws (total sh) in
       let w1 = writes w0 sh (headerP sh) in let l1 = length-writes w0 sh (headerP sh) in
-      let w2 = rounds w1 sh (headP ps) (sh .tables) in let l2 = length-rounds w1 sh (headP ps) (sh .tables) in
-      let w3 = rounds w2 sh (objectP ps (sh .tables)) (sh .objects) in let l3 = length-rounds w2 sh (objectP ps (sh .tables)) (sh .objects) in
-      let w4 = rounds w3 sh (groupP sh 4 16) ((sh .frames + 15) / 16) in let l4 = length-rounds w3 sh (groupP sh 4 16) ((sh .frames + 15) / 16) in
-      let w5 = rounds w4 sh (groupP sh 5 256) ((sh .frames + 255) / 256) in let l5 = length-rounds w4 sh (groupP sh 5 256) ((sh .frames + 255) / 256) in
-      let w6 = rounds w5 sh (groupP sh 6 4096) ((sh .frames + 4095) / 4096) in let l6 = length-rounds w5 sh (groupP sh 6 4096) ((sh .frames + 4095) / 4096) in
-      load-rounds w6 sh placeP (omega arith) (sh .rows) (λ i g. (in-index sh i g, (in-rank sh i g, tt)))
-      ∙ ap (λ (m : Mem). roundsM m placeP (sh .rows))
-      (load-rounds w5 sh (groupP sh 6 4096) (omega arith) ((sh .frames + 4095) / 4096) (λ i g. (record { xs = g; ys = omega arith; fs = omega arith }, tt))
-      ∙ ap (λ (m : Mem). roundsM m (groupP sh 6 4096) ((sh .frames + 4095) / 4096))
-      (load-rounds w4 sh (groupP sh 5 256) (omega arith) ((sh .frames + 255) / 256) (λ i g. (record { xs = g; ys = omega arith; fs = omega arith }, tt))
-      ∙ ap (λ (m : Mem). roundsM m (groupP sh 5 256) ((sh .frames + 255) / 256))
-      (load-rounds w3 sh (groupP sh 4 16) (omega arith) ((sh .frames + 15) / 16) (λ i g. (record { xs = g; ys = omega arith; fs = omega arith }, tt))
-      ∙ ap (λ (m : Mem). roundsM m (groupP sh 4 16) ((sh .frames + 15) / 16))
-      (load-rounds w2 sh (objectP ps (sh .tables)) (omega arith) (sh .objects)
+      let w2 = turns w1 sh (headP ps) (sh .tables) in let l2 = length-turns w1 sh (headP ps) (sh .tables) in
+      let w3 = turns w2 sh (objectP ps (sh .tables)) (sh .objects) in let l3 = length-turns w2 sh (objectP ps (sh .tables)) (sh .objects) in
+      let w4 = turns w3 sh (groupP sh 4 16) ((sh .frames + 15) / 16) in let l4 = length-turns w3 sh (groupP sh 4 16) ((sh .frames + 15) / 16) in
+      let w5 = turns w4 sh (groupP sh 5 256) ((sh .frames + 255) / 256) in let l5 = length-turns w4 sh (groupP sh 5 256) ((sh .frames + 255) / 256) in
+      let w6 = turns w5 sh (groupP sh 6 4096) ((sh .frames + 4095) / 4096) in let l6 = length-turns w5 sh (groupP sh 6 4096) ((sh .frames + 4095) / 4096) in
+      load-turns w6 sh placeP (omega arith) (sh .rows) (λ i g. (in-index sh i g, (in-rank sh i g, tt)))
+      ∙ ap (λ (m : Mem). turnsM m placeP (sh .rows))
+      (load-turns w5 sh (groupP sh 6 4096) (omega arith) ((sh .frames + 4095) / 4096) (λ i g. (record { xs = g; ys = omega arith; fs = omega arith }, tt))
+      ∙ ap (λ (m : Mem). turnsM m (groupP sh 6 4096) ((sh .frames + 4095) / 4096))
+      (load-turns w4 sh (groupP sh 5 256) (omega arith) ((sh .frames + 255) / 256) (λ i g. (record { xs = g; ys = omega arith; fs = omega arith }, tt))
+      ∙ ap (λ (m : Mem). turnsM m (groupP sh 5 256) ((sh .frames + 255) / 256))
+      (load-turns w3 sh (groupP sh 4 16) (omega arith) ((sh .frames + 15) / 16) (λ i g. (record { xs = g; ys = omega arith; fs = omega arith }, tt))
+      ∙ ap (λ (m : Mem). turnsM m (groupP sh 4 16) ((sh .frames + 15) / 16))
+      (load-turns w2 sh (objectP ps (sh .tables)) (omega arith) (sh .objects)
       (λ i g. (in-object sh i 0 g (omega arith), (in-object sh i 1 g (omega arith), (in-object sh i 2 g (omega arith), (in-object sh i 3 g (omega arith), (in-object sh i 4 g (omega arith), (in-object sh i 7 g (omega arith), tt)))))))
-      ∙ ap (λ (m : Mem). roundsM m (objectP ps (sh .tables)) (sh .objects))
-      (load-rounds w1 sh (headP ps) (omega arith) (sh .tables) (λ i g. (in-head sh i 0 g (omega arith), (in-head sh i 1 g (omega arith), (in-head sh i 10 g (omega arith), tt))))
-      ∙ ap (λ (m : Mem). roundsM m (headP ps) (sh .tables))
+      ∙ ap (λ (m : Mem). turnsM m (objectP ps (sh .tables)) (sh .objects))
+      (load-turns w1 sh (headP ps) (omega arith) (sh .tables) (λ i g. (in-head sh i 0 g (omega arith), (in-head sh i 1 g (omega arith), (in-head sh i 10 g (omega arith), tt))))
+      ∙ ap (λ (m : Mem). turnsM m (headP ps) (sh .tables))
       (load-writes w0 sh (omega arith) (headerP sh)
       (in-root sh 0 (omega arith), (in-root sh 1 (omega arith), (in-root sh 2 (omega arith), (in-root sh 3 (omega arith), (in-root sh 4 (omega arith), (in-root sh 5 (omega arith), (in-root sh 7 (omega arith), (in-root sh 8 (omega arith), tt))))))))
       ∙ ap (λ (m : Mem). upds m (headerP sh)) (load-cleared ws sh)))))))
@@ -144,13 +108,13 @@ module _ (ps : List ℕ) (sh : Shape) where
   unfolding builtW headerW levelsW
   length-built ws =
       let w0 = clearedW ws (total sh) in let w1 = writes w0 sh (headerP sh) in
-      let w2 = rounds w1 sh (headP ps) (sh .tables) in
-      let w3 = rounds w2 sh (objectP ps (sh .tables)) (sh .objects) in
-      let w4 = rounds w3 sh (groupP sh 4 16) ((sh .frames + 15) / 16) in
-      let w5 = rounds w4 sh (groupP sh 5 256) ((sh .frames + 255) / 256) in
-      let w6 = rounds w5 sh (groupP sh 6 4096) ((sh .frames + 4095) / 4096) in
-      length-rounds w6 sh placeP (sh .rows) ∙ length-rounds w5 sh (groupP sh 6 4096) ((sh .frames + 4095) / 4096) ∙ length-rounds w4 sh (groupP sh 5 256) ((sh .frames + 255) / 256)
-      ∙ length-rounds w3 sh (groupP sh 4 16) ((sh .frames + 15) / 16) ∙ length-rounds w2 sh (objectP ps (sh .tables)) (sh .objects) ∙ length-rounds w1 sh (headP ps) (sh .tables)
+      let w2 = turns w1 sh (headP ps) (sh .tables) in
+      let w3 = turns w2 sh (objectP ps (sh .tables)) (sh .objects) in
+      let w4 = turns w3 sh (groupP sh 4 16) ((sh .frames + 15) / 16) in
+      let w5 = turns w4 sh (groupP sh 5 256) ((sh .frames + 255) / 256) in
+      let w6 = turns w5 sh (groupP sh 6 4096) ((sh .frames + 4095) / 4096) in
+      length-turns w6 sh placeP (sh .rows) ∙ length-turns w5 sh (groupP sh 6 4096) ((sh .frames + 4095) / 4096) ∙ length-turns w4 sh (groupP sh 5 256) ((sh .frames + 255) / 256)
+      ∙ length-turns w3 sh (groupP sh 4 16) ((sh .frames + 15) / 16) ∙ length-turns w2 sh (objectP ps (sh .tables)) (sh .objects) ∙ length-turns w1 sh (headP ps) (sh .tables)
       ∙ length-writes w0 sh (headerP sh) ∙ length-cleared ws (total sh)
 
   -- words past the state keep their values
@@ -158,13 +122,13 @@ module _ (ps : List ℕ) (sh : Shape) where
   unfolding builtW headerW levelsW
   built-past ws i h =
       let w0 = clearedW ws (total sh) in let w1 = writes w0 sh (headerP sh) in
-      let w2 = rounds w1 sh (headP ps) (sh .tables) in
-      let w3 = rounds w2 sh (objectP ps (sh .tables)) (sh .objects) in
-      let w4 = rounds w3 sh (groupP sh 4 16) ((sh .frames + 15) / 16) in
-      let w5 = rounds w4 sh (groupP sh 5 256) ((sh .frames + 255) / 256) in
-      let w6 = rounds w5 sh (groupP sh 6 4096) ((sh .frames + 4095) / 4096) in
-      rounds-past w6 sh placeP (sh .rows) i h ∙ rounds-past w5 sh (groupP sh 6 4096) ((sh .frames + 4095) / 4096) i h ∙ rounds-past w4 sh (groupP sh 5 256) ((sh .frames + 255) / 256) i h
-      ∙ rounds-past w3 sh (groupP sh 4 16) ((sh .frames + 15) / 16) i h ∙ rounds-past w2 sh (objectP ps (sh .tables)) (sh .objects) i h ∙ rounds-past w1 sh (headP ps) (sh .tables) i h
+      let w2 = turns w1 sh (headP ps) (sh .tables) in
+      let w3 = turns w2 sh (objectP ps (sh .tables)) (sh .objects) in
+      let w4 = turns w3 sh (groupP sh 4 16) ((sh .frames + 15) / 16) in
+      let w5 = turns w4 sh (groupP sh 5 256) ((sh .frames + 255) / 256) in
+      let w6 = turns w5 sh (groupP sh 6 4096) ((sh .frames + 4095) / 4096) in
+      turns-past w6 sh placeP (sh .rows) i h ∙ turns-past w5 sh (groupP sh 6 4096) ((sh .frames + 4095) / 4096) i h ∙ turns-past w4 sh (groupP sh 5 256) ((sh .frames + 255) / 256) i h
+      ∙ turns-past w3 sh (groupP sh 4 16) ((sh .frames + 15) / 16) i h ∙ turns-past w2 sh (objectP ps (sh .tables)) (sh .objects) i h ∙ turns-past w1 sh (headP ps) (sh .tables) i h
       ∙ writes-past w0 sh (headerP sh) i h ∙ cleared-past ws (total sh) i h
 
   -- ---- what it shows

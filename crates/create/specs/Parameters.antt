@@ -8,14 +8,15 @@ use native.Mathlib.Numerals.{add-one}
 use native.Mathlib.Nat.{sub-zero}
 use lib.ListN.{length, getD}
 use lib.Dec.{ltb, leb}
-use borrow.Author.Tests.{lt-ltb, le-ltb, ltb-true, ltb-false, le-leb, leb-true, not-true}
-use Rattle.words.specs.Pick.{pick, bool, both, both-is, clash}
+use borrow.Author.Tests.{lt-ltb, le-ltb, ltb-true, le-leb, leb-true}
+use Rattle.words.specs.Pick.{pick, bool, both, both-is, clash, refuted, all-six}
 use Rattle.layout.specs.declared.Shape.{Shape}
 use Rattle.layout.specs.declared.ShapeRead.{ShapeRead}
 use Rattle.layout.specs.declared.ShapeRead.the-variants.{Shape as found, Bad}
 use Rattle.model.specs.Base.{atMost, between, every, sum}
 use Rattle.model.specs.State.{till, maxTables, maxFrames, maxObjects, maxRows, maxLimit, maxSlots}
 use Rattle.model.specs.Create.{TableParameters, ObjectParameters, Parameters, maxPages, tablePermitted, objectPermitted, permitted}
+use Rattle.model.specs.Tests.{within}
 
 -- n things, from that of number k on
 abbrev pub from {ℓ} : {A : Type ℓ} → (ℕ → A) → ℕ → ℕ → List A
@@ -104,21 +105,11 @@ module _ {ℓ} {A : Type ℓ} (p : A → Bool) (f : ℕ → A) (x : Bool) (k n :
 
 -- ---- tests
 
-at-most : (a b : ℕ) → atMost a b ≡ true → a ≤ b
-at-most a b e = ltb-false b a (not-true (ltb b a) e)
-
 at-most-yes : (a b : ℕ) → a ≤ b → atMost a b ≡ true
 at-most-yes a b h = rw (le-ltb b a h)
 
-within-is : (a x b : ℕ) → between a x b ≡ true → (a ≤ x) × (x ≤ b)
-within-is a x b e = let q = both (atMost a x) (atMost x b) e in (at-most a x (q .0), at-most x b (q .1))
-
 within-yes : (a x b : ℕ) → a ≤ x → x ≤ b → between a x b ≡ true
 within-yes a x b h g = both-is (atMost a x) (atMost x b) (at-most-yes a x h) (at-most-yes x b g)
-
--- a test that a fact refutes is false
-refuted : (b : Bool) → (b ≡ true → ⊥) → false ≡ b
-refuted b h = bool b (λ e. absurd (h e)) (λ e. sym e)
 
 -- one table
 pub record TableGood (p : TableParameters) : Type 0 where
@@ -130,7 +121,7 @@ pub table-is : (p : TableParameters) → tablePermitted till p ≡ true → Tabl
 unfolding maxSlots
 table-is p e =
     let q = both (between 1 (p .pages) (maxPages till)) (ltb (p .seed) (2 ^ 64)) e in
-    let w = within-is 1 (p .pages) (maxPages till) (q .0) in
+    let w = within 1 (p .pages) (maxPages till) (q .0) in
     record { some-page = w .0; few-pages = omega arith; seed = ltb-true (p .seed) (2 ^ 64) (q .1) }
 
 pub table-yes : (p : TableParameters) → TableGood p → tablePermitted till p ≡ true
@@ -152,15 +143,6 @@ pub record ObjectGood (p : ObjectParameters) : Type 0 where
   pub exportable : p .exportable < 2
   pub limit : p .limit < 2 ^ 32
 
-all-six : (a b c d e f : Bool) → (a && (b && (c && (d && (e && f))))) ≡ true
-    → (a ≡ true) × (b ≡ true) × (c ≡ true) × (d ≡ true) × (e ≡ true) × (f ≡ true)
-all-six false b c d e f h = clash h refl
-all-six true false c d e f h = clash h refl
-all-six true true false d e f h = clash h refl
-all-six true true true false e f h = clash h refl
-all-six true true true true false f h = clash h refl
-all-six true true true true true f h = (refl, refl, refl, refl, refl, h)
-
 six-all : (a b c d e f : Bool) → a ≡ true → b ≡ true → c ≡ true → d ≡ true → e ≡ true → f ≡ true → (a && (b && (c && (d && (e && f))))) ≡ true
 six-all a b c d e f p q r s t u = rw (p, q, r, s, t, u)
 
@@ -169,7 +151,7 @@ unfolding maxLimit
 object-is p h =
     let t = all-six (between 1 (p .koid) (2 ^ 64 - 1)) (ltb (p .kind) (2 ^ 32)) (ltb (p .class) 3)
     (ltb (p .supported) (2 ^ 64)) (ltb (p .exportable) 2) (between 0 (p .limit) maxLimit) h in
-    let k = within-is 1 (p .koid) (2 ^ 64 - 1) (t .0) in let l = within-is 0 (p .limit) maxLimit (t .5) in
+    let k = within 1 (p .koid) (2 ^ 64 - 1) (t .0) in let l = within 0 (p .limit) maxLimit (t .5) in
     record {
       some-koid = k .0;
       koid = omega arith;
@@ -214,8 +196,8 @@ good-checked ps g =
     let lt = from-length (tableFrom ps) 0 (getD ps 0 0) in let lo = from-length (objectOf ps (getD ps 0 0)) 0 (getD ps 2 0) in
     let t = all-six (between 1 (length (tablesIn ps (getD ps 0 0))) maxTables) (every (tablePermitted till) (tablesIn ps (getD ps 0 0))) (between 0 (getD ps 1 0) maxFrames)
     (between 1 (length (objectsIn ps (getD ps 0 0) (getD ps 2 0))) maxObjects) (every objectPermitted (objectsIn ps (getD ps 0 0) (getD ps 2 0))) (between 1 (getD ps 3 0) maxRows) (g .within) in
-    let a = within-is 1 (length (tablesIn ps (getD ps 0 0))) maxTables (t .0) in let b = within-is 0 (getD ps 1 0) maxFrames (t .2) in
-    let c = within-is 1 (length (objectsIn ps (getD ps 0 0) (getD ps 2 0))) maxObjects (t .3) in let d = within-is 1 (getD ps 3 0) maxRows (t .5) in
+    let a = within 1 (length (tablesIn ps (getD ps 0 0))) maxTables (t .0) in let b = within 0 (getD ps 1 0) maxFrames (t .2) in
+    let c = within 1 (length (objectsIn ps (getD ps 0 0) (getD ps 2 0))) maxObjects (t .3) in let d = within 1 (getD ps 3 0) maxRows (t .5) in
     record {
       counts = record {
         some-table = omega arith;

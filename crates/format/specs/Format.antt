@@ -4,6 +4,7 @@ use Prim.Native.Nat.{ℕ}
 use mathlib.Core.List.{List, [], _∷_}
 use mathlib.Core.Bool.{Bool, true, false, not, _&&_}
 use lib.Dec.{eqb, leb}
+use Rattle.words.specs.Pick.{pick}
 
 -- docs/formats.md, "Ops": the fields that each op must carry, as a bit map, at the op's number
 unfoldable pub musts : List ℕ
@@ -36,11 +37,6 @@ fieldCount = 18
 -- docs/formats.md, "Fields of a record": each field's kind, at its bit. 0 any word, 1 a number of 32 bits, 2 a koid, 3 a route, 4 the op
 unfoldable pub fieldKinds : List ℕ
 fieldKinds = 4 ∷ 0 ∷ 0 ∷ 0 ∷ 0 ∷ 0 ∷ 1 ∷ 0 ∷ 0 ∷ 1 ∷ 2 ∷ 0 ∷ 3 ∷ 0 ∷ 1 ∷ 1 ∷ 2 ∷ 1 ∷ []
-
--- a choice by a test
-unfoldable pub pick : {A : Type 0} → Bool → A → A → A
-pick true a b = a
-pick false a b = b
 
 -- docs/formats.md, "Ops": "Op 0 and every op above 24 is unknown."
 unfoldable pub knownOp : ℕ → Bool

@@ -1,16 +1,17 @@
 -- Laws of the tables: each is one test that is computed over the whole table.
 -- Assumes nothing.
 use mathlib.Core.Path.{_≡_, refl, sym, ap, _∙_}
-use mathlib.Core.Bool.{Bool, true, false, _&&_}
+use mathlib.Core.Bool.{Bool, true, false, _&&_, and-false}
 use mathlib.Core.List.{List, [], _∷_}
 use Prim.Native.Nat.{ℕ, zero, suc, _+_, _%_, _^_, _<_, _≤_}
+use native.Mathlib.Omega.{arith}
 use native.Mathlib.Nat.{add-zero, zero-add, add-suc, suc-add, le-of-suc-le-suc, not-suc-le-zero}
 use lib.Dec.{eqb, leb, ltb}
 use lib.ListN.{length, getD, List·getD-eq-default}
 use lib.Bits.{bitAnd}
 use borrow.Author.Tests.{eqb-true, lt-leb, le-leb, ltb-true, ltb-false, ne-eqb}
+use Rattle.words.specs.Pick.{and-left, and-right}
 use Rattle.format.specs.Format.{
-  pick,
   musts,
   mays,
   fieldKinds,
@@ -28,20 +29,12 @@ abbrev pub every : (ℕ → ℕ → Bool) → ℕ → List ℕ → Bool
 every f i [] = true
 every f i (x ∷ xs) = f i x && every f (suc i) xs
 
-pub both-left : (a b : Bool) → (a && b) ≡ true → a ≡ true
-both-left true b t = refl
-both-left false b t = t
-
-pub both-right : (a b : Bool) → (a && b) ≡ true → b ≡ true
-both-right true b t = t
-both-right false b t = cc
-
 from : (f : ℕ → ℕ → Bool) (xs : List ℕ) (i : ℕ) → every f i xs ≡ true → (k : ℕ) → k < length xs → f (i + k) (getD xs k 0) ≡ true
 from f [] i t k h = absurd (not-suc-le-zero h)
-from f (x ∷ xs) i t zero h = ap (λ (m : ℕ). f m x) (add-zero i) ∙ both-left (f i x) (every f (suc i) xs) t
+from f (x ∷ xs) i t zero h = ap (λ (m : ℕ). f m x) (add-zero i) ∙ and-left (f i x) (every f (suc i) xs) t
 from f (x ∷ xs) i t (suc k) h =
     ap (λ (m : ℕ). f m (getD xs k 0)) (add-suc i k ∙ sym (suc-add i k))
-    ∙ from f xs (suc i) (both-right (f i x) (every f (suc i) xs) t) k (le-of-suc-le-suc h)
+    ∙ from f xs (suc i) (and-right (f i x) (every f (suc i) xs) t) k (le-of-suc-le-suc h)
 
 -- so the test holds at each entry
 pub at : (f : ℕ → ℕ → Bool) (xs : List ℕ) → every f 0 xs ≡ true → (k : ℕ) → k < length xs → f k (getD xs k 0) ≡ true
@@ -67,17 +60,13 @@ table-fits : every (λ (op must : ℕ). rowFits op must (getD mays op 0)) 0 must
 unfolding rowFits musts mays knownOp
 table-fits = refl
 
-never : (b : Bool) → (b && false) ≡ false
-never true = refl
-never false = refl
-
 short : (op : ℕ) → op < 25 → op < length musts
 unfolding musts
 short op h = h
 
 past : (op : ℕ) → 25 ≤ op → rowFits op (getD musts op 0) (getD mays op 0) ≡ true
 unfolding musts mays rowFits knownOp
-past op h = rw (List·getD-eq-default musts 0 h, List·getD-eq-default mays 0 h, lt-leb op 24 h, never (leb 1 op))
+past op h = rw (List·getD-eq-default musts 0 h, List·getD-eq-default mays 0 h, lt-leb op 24 h, and-false (leb 1 op))
 
 -- every op's row fits; of an unknown op both maps are 0
 pub row-fits : (op : ℕ) → rowFits op (getD musts op 0) (getD mays op 0) ≡ true
@@ -89,10 +78,10 @@ row-fits op = go (ltb op 25) refl
 
 all-four : (p q r s : Bool) → (p && (q && (r && s))) ≡ true → (p ≡ true) × (q ≡ true) × (r ≡ true) × (s ≡ true)
 all-four p q r s t =
-    (both-left p (q && (r && s)) t, both-left q (r && s) t1, both-left r s (both-right q (r && s) t1), both-right r s (both-right q (r && s) t1))
+    (and-left p (q && (r && s)) t, and-left q (r && s) t1, and-left r s (and-right q (r && s) t1), and-right r s (and-right q (r && s) t1))
   where
     t1 : (q && (r && s)) ≡ true
-    t1 = both-right p (q && (r && s)) t
+    t1 = and-right p (q && (r && s)) t
 
 module _ (op : ℕ) where
   row : (eqb (bitAnd (getD musts op 0) (getD mays op 0)) 0 ≡ true) × (ltb (getD musts op 0) (2 ^ fieldCount) ≡ true)
@@ -128,13 +117,21 @@ pub kinds-fit : (every (λ (bit kind : ℕ). leb kind 4) 0 fieldKinds && eqb (le
 unfolding fieldKinds
 kinds-fit = refl
 
+-- a table's entry, where its number is known
+pub entry : (xs : List ℕ) (i k r : ℕ) → i ≡ k → r ≡ getD xs k 0 → r ≡ getD xs i 0
+entry xs i k r e p = p ∙ ap (λ (n : ℕ). getD xs n 0) (sym e)
+
+-- a number that is at least n, and is not n
+pub beyond : (n i : ℕ) → n ≤ i → (i ≡ n → ⊥) → suc n ≤ i
+beyond n i h f = omega arith
+
 -- what a kind takes, where the kind is known
 pub kind-fits : (kind k word : ℕ) (r : Bool) → kind ≡ k → r ≡ fieldFits k word → r ≡ fieldFits kind word
 kind-fits kind k word r e p = p ∙ ap (λ (n : ℕ). fieldFits n word) (sym e)
 
 pub no-kind : (kind word : ℕ) → (kind ≡ 0 → ⊥) → (kind ≡ 1 → ⊥) → (kind ≡ 2 → ⊥) → (kind ≡ 3 → ⊥) → (kind ≡ 4 → ⊥) → (kind ≡ 5 → ⊥)
     → (kind ≡ 6 → ⊥) → false ≡ fieldFits kind word
-unfolding fieldFits pick
+unfolding fieldFits
 no-kind kind word h0 h1 h2 h3 h4 h5 h6 =
     simp (ne-eqb kind 0 h0, ne-eqb kind 1 h1, ne-eqb kind 2 h2, ne-eqb kind 3 h3, ne-eqb kind 4 h4, ne-eqb kind 5 h5, ne-eqb kind 6 h6)
 

@@ -8,7 +8,7 @@ pub mod op;
 pub mod refusal;
 
 // The fields that each op must carry, as a bit map, at the op's number.
-pub const MUST: [u64; 25] = [
+pub const MUST: [u16; 25] = [
     0,
     101,
     51,
@@ -37,7 +37,7 @@ pub const MUST: [u64; 25] = [
 ];
 
 // The fields that each op may carry besides.
-pub const MAY: [u64; 25] = [
+pub const MAY: [u32; 25] = [
     0,
     0,
     0,
@@ -64,9 +64,6 @@ pub const MAY: [u64; 25] = [
     0,
     0,
 ];
-
-// Each field's kind, at its bit.
-pub const FIELD_KIND: [u64; 18] = [4, 0, 0, 0, 0, 0, 1, 0, 0, 1, 2, 0, 3, 0, 1, 1, 2, 1];
 
 // Kinds of fields.
 pub const KIND_WORD: u64 = 0;
@@ -96,28 +93,47 @@ pub const PARCEL_ITEM_MAY: u64 = 0;
 // Each request answers this many words.
 pub const ANSWER_WORDS: u64 = 72;
 
-// The fields that an op must carry; 0 for an unknown op.
+// The fields that an op must carry, as a bit map; 0 for an unknown op.
 pub fn must(op: u64) -> u64
     ensures { λ r. ⌜ r ≡ getD musts op 0 ⌝ }
 {
     let i = op as usize;
-    if i < 25 { MUST[i] } else { 0 }
+    if i < 25 { MUST[i] as u64 } else { 0 }
 }
 
-// The fields that an op may carry besides; 0 for an unknown op.
+// The fields that an op may carry besides, as a bit map; 0 for an unknown op. Only a transfer's preparation has any.
 pub fn may(op: u64) -> u64
     ensures { λ r. ⌜ r ≡ getD mays op 0 ⌝ }
 {
     let i = op as usize;
-    if i < 25 { MAY[i] } else { 0 }
+    if i < 25 { MAY[i] as u64 } else { 0 }
 }
 
 // The kind of the field of a bit; 0 where there is no such field.
 pub fn field_kind(bit: u64) -> u64
     ensures { λ r. ⌜ r ≡ getD fieldKinds bit 0 ⌝ }
 {
-    let i = bit as usize;
-    if i < 18 { FIELD_KIND[i] } else { 0 }
+    match bit {
+        0 => 4,
+        1 => 0,
+        2 => 0,
+        3 => 0,
+        4 => 0,
+        5 => 0,
+        6 => 1,
+        7 => 0,
+        8 => 0,
+        9 => 1,
+        10 => 2,
+        11 => 0,
+        12 => 3,
+        13 => 0,
+        14 => 1,
+        15 => 1,
+        16 => 2,
+        17 => 1,
+        _ => 0,
+    }
 }
 
 // Whether a field of a kind takes a word.

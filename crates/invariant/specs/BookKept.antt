@@ -1,5 +1,5 @@
 -- Every request keeps the clauses of the book and the counts.
-use mathlib.Core.Path.{_≡_, refl, _∙_, subst, fun-ext}
+use mathlib.Core.Path.{_≡_, refl, _∙_, subst}
 use mathlib.Core.Bool.{true}
 use mathlib.Core.List.{List, [], _∷_, _++_, map}
 use mathlib.Core.Option.{Option, some}
@@ -10,7 +10,7 @@ use lib.Dec.{ltb, eqb}
 use borrow.Author.Tests.{ltb-true, eqb-true}
 use Rattle.authority.specs.Rights.{contains}
 use Rattle.codec.specs.Codec.{generationIn}
-use Rattle.model.specs.Base.{bit, put, occurs, atMost}
+use Rattle.model.specs.Base.{bit, occurs, atMost}
 use Rattle.model.specs.State.{Sizes, Slot.reserved, Slot.occupied, Table, Entry, Entry.moved, Body.reservation, State, isVacant, isActive, maxBatch}
 use Rattle.model.specs.Storage.{takeFree, pagesFor, grow}
 use Rattle.model.specs.Request.{Route, Item, Request, Request.newObject, Request.duplicate, Request.releaseParcel, Request.retireObject}
@@ -26,7 +26,7 @@ use Rattle.model.specs.Transfer.{itemsFault, copiesFault, entryFor}
 use Rattle.model.specs.Step.{reserveOf, trimOf, abortOf, publishOf, prepareTransferOf, prepareConsumptionOf, rollbackOf, commitOf, directCommitOf}
 use Rattle.model.specs.Step.{directRollbackOf, decide, step}
 use Rattle.model.specs.WellFormed.{HandleRange, WellFormed}
-use Rattle.model.specs.Tests.{bool, clash, same, bit-small, put-same, at-most}
+use Rattle.model.specs.Tests.{clash, same, bit-small, put-same, at-most, put-put}
 use Rattle.model.specs.Decided.{accepts, checked, with-some, with-view, after-id, with-reservation, with-claim, carried}
 use Rattle.invariant.specs.Pointwise.{grow-grown}
 use Rattle.invariant.specs.BookLemmas.{row}
@@ -45,9 +45,6 @@ use Rattle.invariant.specs.Growth.{grow-calm}
 use Rattle.invariant.specs.BookHandles.{Keeps, new-object, duplicate-kept, release-kept, retire-kept, info-kept, resolve-kept, scan-kept}
 use Rattle.invariant.specs.BookHandles.{close-kept, replace-kept, remove-kept, start-kept, step-kept, finish-kept, take-kept}
 
-put-put : (f : ℕ → Table) (b : ℕ) (t u : Table) → put (put f b t) b u ≡ put f b u
-put-put f b t u = fun-ext (λ j. bool (eqb j b) (λ e. rw e) (λ e. rw e))
-
 -- slots of a changed table are taken
 taken-after : (z : Sizes) (s : State) (b n : ℕ) (u : Table) (fs : List ℕ) → Good (withFrames (withTable s b u) fs) → b < s .tableCount
     → isActive (u .life) ≡ true → 0 < n
@@ -62,7 +59,7 @@ taken-after z s b n u fs g l a p q fr id len order =
     let r′ : Good (addRow (reservation b (take n (u .free))) (withTable v b (f u))) =
     subst (λ y. Good (addRow (reservation b (take n (y .free))) (withTable v b (f y)))) (put-same (s .tables) b u) r in
     subst (λ ts. Good (edit s ts (s .objects) (s .book .rows ++ (row i (reservation b (take n (u .free))) ∷ [])) (i + 1) fs))
-    (put-put (s .tables) b u (f u)) r′
+    (put-put (s .tables) b (f u) u) r′
 
 module _ (z : Sizes) (sane : Sane z) (s : State) (w : WellFormed z s) where
   g : Good s

@@ -10,20 +10,15 @@ use lib.ListN.{length, take, drop, length-take}
 use lib.Dec.{eqb, ltb}
 use borrow.Author.Tests.{ltb-true, ltb-false, eqb-true, eqb-false, eq-eqb, ne-eqb, not-true}
 use Rattle.codec.specs.Codec.{nextGeneration}
-use Rattle.model.specs.Base.{bit, occurs, without, insert, sum, isSome, also}
+use Rattle.model.specs.Base.{bit, occurs, without, insert, sum, isSome}
 use Rattle.model.specs.State.{Sizes, Slot, Slot.absent, Slot.vacant, maxSlots, Table, maxBatch}
 use Rattle.model.specs.Storage.{pageOf, onPage, slotsOf, pageRange, pagesFrom, pagesFor, attach, attachAll, grow, detach}
 use Rattle.model.specs.WellFormed.{isFrame, isAttached, Rising}
-use Rattle.model.specs.Tests.{apart, bool, clash, and-left, and-right, bit-true, bit-small, same}
+use Rattle.model.specs.Tests.{apart, bool, clash, and-left, and-right, bit-true, bit-small, same, also-some}
 use Rattle.model.specs.Sums.{without-none, length-push, length-range, sum-equal, sum-put}
 use Rattle.invariant.specs.Pointwise.{Alike, attach-free, attach-slots, grow-slots, grow-free}
 use Rattle.invariant.specs.Pages.{Sane, page-slots}
 use Rattle.invariant.specs.Orders.{Sound, recast, absent-out, order-is, Room, attach-sound}
-
--- what stands behind a list that got one more in front
-also-some : (a : ℕ) (x : Option (List ℕ)) (ps : List ℕ) → also a x ≡ some ps → (qs : List ℕ) × (x ≡ some qs) × (ps ≡ a ∷ qs)
-also-some a none ps e = apart (cc)
-also-some a (some qs) ps e = (qs, refl, cc)
 
 module _ (z : Sizes) where
   -- pages that can be attached one after another

@@ -41,7 +41,7 @@ blank : (g : ℕ) → shown (vacant g) ≡ shown absent
 unfolding shown
 blank g = refl
 
-busy-nowhere : (f : ℕ → Slot) (a n : ℕ) → busyIn f a n ≡ 0 → (j : ℕ) → a ≤ j → j < a + n → isBusy (f j) ≡ false
+pub busy-nowhere : (f : ℕ → Slot) (a n : ℕ) → busyIn f a n ≡ 0 → (j : ℕ) → a ≤ j → j < a + n → isBusy (f j) ≡ false
 busy-nowhere f a zero e j l m = absurd (omega arith)
 busy-nowhere f a (suc n) e j l m = bool (isBusy (f a))
     (λ q. let y : suc (busyIn f (suc a) n) ≡ 0 = rw q at e in absurd (omega arith))

@@ -37,7 +37,7 @@ record Named (t : Table) (v k : ℕ) (h : Handle) : Type 0 where
   slot : k ≡ slotIn (t .mask) v
   stands : t .slots (slotIn (t .mask) v) ≡ occupied (generationIn (t .mask) v) h
 
-view-slot : (j g : ℕ) (x : Slot) (k : ℕ) (h : Handle) → viewSlot j g x ≡ holds k h → (k ≡ j) × (x ≡ occupied g h)
+pub view-slot : (j g : ℕ) (x : Slot) (k : ℕ) (h : Handle) → viewSlot j g x ≡ holds k h → (k ≡ j) × (x ≡ occupied g h)
 view-slot j g absent k h e = apart (cc)
 view-slot j g (vacant n) k h e = apart (cc)
 view-slot j g (reserved n i) k h e = apart (cc)
@@ -87,13 +87,18 @@ taken f (moved j h r ∷ es) k a q = bool (eqb k j)
     (taken f es k (a .1) (let q′ : 0 < 0 + occurs k (movedOf es) = rw y at q in omega arith)))
 taken f (copied h ∷ es) k a q = taken f es k (a .1) q
 
+-- no fault in two parts
+pub both-none : (a b : Option ℕ) → firstOf a b ≡ none → (a ≡ none) × (b ≡ none)
+both-none none b e = (refl, e)
+both-none (some n) b e = apart (cc)
+
 -- checks that all hold
-fault-head : (c : Check) (cs : List Check) → firstFault (c ∷ cs) ≡ none → (c .holds ≡ true) × (firstFault cs ≡ none)
+pub fault-head : (c : Check) (cs : List Check) → firstFault (c ∷ cs) ≡ none → (c .holds ≡ true) × (firstFault cs ≡ none)
 fault-head c cs e = bool (c .holds)
     (λ q. (q, rw q at e))
     (λ q. let y : some (c .number) ≡ none = rw q at e in apart (cc))
 
-held-view : (w : View) → isHeld w ≡ true → (k : ℕ) × (w ≡ holds k (heldIn w))
+pub held-view : (w : View) → isHeld w ≡ true → (k : ℕ) × (w ≡ holds k (heldIn w))
 held-view invalid e = apart (cc)
 held-view busy e = apart (cc)
 held-view (holds k h) e = (k, refl)
@@ -128,10 +133,6 @@ module _ (s : State) (t : Table) (route : Route) (bo bk : Option ℕ) where
         stands = n .stands;
         rights = omega (arith, contains-le (h .rights) offered (source .0), contains-le offered (q .rights) (asked .0));
       }
-
-  both-none : (a b : Option ℕ) → firstOf a b ≡ none → (a ≡ none) × (b ≡ none)
-  both-none none b e = (refl, e)
-  both-none (some n) b e = apart (cc)
 
   items-head : (earlier : List ℕ) (q : Item) (qs : List Item) → itemsFault s t route bo bk earlier (q ∷ qs) ≡ none
       → Passed t earlier q × (itemsFault s t route bo bk (q .value ∷ earlier) qs ≡ none)

@@ -42,7 +42,7 @@ pub record Parts (x : Option Body) (r : Option (List Handle)) (hs : List Handle)
   pub after : r ≡ some rest
   pub whole : hs ≡ first ++ rest
 
-parts : (x : Option Body) (r : Option (List Handle)) (hs : List Handle) → joined (asParcel x) r ≡ some hs → Parts x r hs
+pub parts : (x : Option Body) (r : Option (List Handle)) (hs : List Handle) → joined (asParcel x) r ≡ some hs → Parts x r hs
 parts none r hs e = apart (cc)
 parts (some (reservation b ks)) r hs e = apart (cc)
 parts (some (claim b es)) r hs e = apart (cc)

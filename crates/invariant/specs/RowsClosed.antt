@@ -230,7 +230,7 @@ module _ (z : Sizes) (s : State) (w : Good s) where
       (λ o l. (w .fit o l, omega (arith, a o, rows-drop o i x 1 (s .book .next) rs (w .rise) e))))
 
 -- a claim's row and a reservation's are two
-two-rows : (i j b c : ℕ) (es : List Entry) (ks : List ℕ) (rs : List Row) → find i rs ≡ some (claim b es) → find j rs ≡ some (reservation c ks) → j ≡ i
+pub two-rows : (i j b c : ℕ) (es : List Entry) (ks : List ℕ) (rs : List Row) → find i rs ≡ some (claim b es) → find j rs ≡ some (reservation c ks) → j ≡ i
     → ⊥
 two-rows i j b c es ks rs e f y = let e′ : find j rs ≡ some (claim b es) = ap (λ t. find t rs) y ∙ e in apart (cc)
 

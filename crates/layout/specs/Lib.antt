@@ -1,3 +1,5 @@
 pub mod Regions
 pub mod Layout
+pub mod Cells
 pub mod ShapeOf
+pub mod Turns

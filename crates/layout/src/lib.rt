@@ -5,6 +5,7 @@ ghost use Rattle.layout.specs.Regions.{region, size, placeIn};
 ghost use Rattle.layout.specs.Layout.{Addr.reg, layout, total, load as loadAt, save as saveAt};
 ghost use Rattle.layout.specs.Layout.{root, head, entry, owner, cell, object, index, rank, row, item};
 ghost use Rattle.layout.specs.ShapeOf.{shapeOf};
+ghost use Rattle.layout.specs.Cells.{cellAt};
 
 // The counts of a state; pages is the sum of the tables' page limits.
 pub struct Shape {
@@ -21,6 +22,16 @@ pub struct Extent {
     pub x: u64,
     pub y: u64,
     pub w: u64,
+}
+
+// The words of a slot. Words 2 and 3 of a vacant slot are its links, of a marked one its row's place and its position there.
+pub struct CellWords {
+    pub tag: u64,
+    pub generation: u64,
+    pub object: u64,
+    pub rights: u64,
+    pub flags: u64,
+    pub unused: u64,
 }
 
 pub enum ShapeRead {
@@ -275,6 +286,43 @@ pub fn cell_word(s: &[u64], sh: Shape, fr: u64, j: u64, f: u64) -> u64
     ensures { λ r. ⌜ r ≡ loadAt (now (s .entry)) sh (cell fr j f) ⌝ }
 {
     load(s, sh, CELL, fr, j, f)
+}
+
+// All words of slot j of a frame, each with its own test.
+fn cell_each(s: &[u64], sh: Shape, fr: u64, j: u64) -> CellWords
+    ensures { λ r. ⌜ r ≡ cellAt (loadAt (now (s .entry)) sh) fr j ⌝ }
+{
+    CellWords {
+        tag: cell_word(s, sh, fr, j, 0),
+        generation: cell_word(s, sh, fr, j, 1),
+        object: cell_word(s, sh, fr, j, 2),
+        rights: cell_word(s, sh, fr, j, 3),
+        flags: cell_word(s, sh, fr, j, 4),
+        unused: cell_word(s, sh, fr, j, 5),
+    }
+}
+
+// All words of slot j of a frame, with one test where all six are lent.
+pub fn cell_at(s: &[u64], sh: Shape, fr: u64, j: u64) -> CellWords
+    ensures { λ r. ⌜ r ≡ cellAt (loadAt (now (s .entry)) sh) fr j ⌝ }
+{
+    let n = s.len();
+    let e = region_of(sh, CELL);
+    let at = place_in(n, e, fr, j, 0);
+    if n < 6 {
+        return cell_each(s, sh, fr, j);
+    }
+    if at > n - 6 {
+        return cell_each(s, sh, fr, j);
+    }
+    CellWords {
+        tag: s[at],
+        generation: s[at + 1],
+        object: s[at + 2],
+        rights: s[at + 3],
+        flags: s[at + 4],
+        unused: s[at + 5],
+    }
 }
 
 pub fn put_cell(s: &mut [u64], sh: Shape, fr: u64, j: u64, f: u64, v: u64)

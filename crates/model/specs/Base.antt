@@ -5,6 +5,7 @@ use mathlib.Core.List.{List, [], _∷_, _++_}
 use mathlib.Core.Option.{Option, none, some}
 use Prim.Native.Nat.{ℕ, zero, suc, _+_, _-_}
 use lib.Dec.{ltb, eqb}
+pub use Rattle.words.specs.Pick.{pick}
 
 -- 1 for true, 0 for false
 abbrev pub bit : Bool → ℕ
@@ -16,10 +17,6 @@ abbrev pub atMost : ℕ → ℕ → Bool
 atMost a b = not (ltb b a)
 
 module _ {ℓ} {A : Type ℓ} where
-  abbrev pub pick : Bool → A → A → A
-  pick true a b = a
-  pick false a b = b
-
   -- a function with another value at one number
   abbrev pub put : (ℕ → A) → ℕ → A → ℕ → A
   put f k x j = pick (eqb j k) x (f j)

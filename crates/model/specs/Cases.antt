@@ -8,7 +8,7 @@ use lib.ListN.{take, drop}
 use lib.Dec.{eqb, ltb}
 use borrow.Author.Tests.{eqb-true}
 use Rattle.authority.specs.Rights.{contains}
-use Rattle.codec.specs.Codec.{pick as choose, encode, payload, decodes, payloadIn, numberIn, slotIn, generationIn, nextGeneration, maskOf}
+use Rattle.codec.specs.Codec.{encode, payload, decodes, payloadIn, numberIn, slotIn, generationIn, nextGeneration, maskOf}
 use Rattle.model.specs.Base.{pick, put, every, nth, range, pushAll}
 use Rattle.model.specs.State.{till, Slot.absent, Slot.vacant, Slot.occupied, Table, State, Lifecycle.active, Stage.stillNew, Stage.nowActive, Object, maxBatch, maxSlots, knownFlags}
 use Rattle.model.specs.State.{lastId}
@@ -175,7 +175,7 @@ v63 = 0x4800000001000040
 
 -- P1 to P12
 pub papers : List Case
-unfolding fresh choose encode payload decodes payloadIn numberIn slotIn generationIn maskOf nextGeneration contains maxBatch maxSlots knownFlags lastId
+unfolding fresh encode payload decodes payloadIn numberIn slotIn generationIn maskOf nextGeneration contains maxBatch maxSlots knownFlags lastId
     place vacate takeFree pagesFor attach detach decide step usedWords
     newObjectOf reserveOf abortOf publishOf closeOf scanHandlesOf takeEmptyPageOf
 papers =
@@ -241,7 +241,7 @@ down k zero = []
 down k (suc n) = k ∷ down (k - 1) n
 
 pub corners : List Case
-unfolding fresh choose encode payload decodes payloadIn numberIn slotIn generationIn maskOf nextGeneration contains maxBatch maxSlots knownFlags lastId
+unfolding fresh encode payload decodes payloadIn numberIn slotIn generationIn maskOf nextGeneration contains maxBatch maxSlots knownFlags lastId
     place vacate takeFree pagesFor attach detach decide step usedWords
     newObjectOf duplicateOf releaseParcelOf retireObjectOf reserveOf trimOf abortOf publishOf getInfoOf resolveOf replaceOf closeOf scanHandlesOf
     prepareTransferOf prepareConsumptionOf rollbackOf commitOf directCommitOf directRollbackOf removeStoppingOwnerOf teardownStartOf teardownStepOf

@@ -1,14 +1,15 @@
 -- Creation gives a well-formed state.
 use mathlib.Core.Path.{_≡_, refl, _∙_}
-use mathlib.Core.Bool.{Bool, true, false, _&&_}
+use mathlib.Core.Bool.{true}
 use mathlib.Core.List.{_∷_}
 use mathlib.Core.Option.{Option, none, some}
-use Prim.Native.Nat.{ℕ, zero, suc, _+_, _-_, _^_, _%_, _≤_, _<_}
+use Prim.Native.Nat.{ℕ, zero, suc, _+_, _-_, _^_, _%_, _≤_}
 use native.Mathlib.Omega.{arith}
 use lib.ListN.{length}
 use lib.Dec.{ltb}
 use borrow.Author.Tests.{ltb-true, le-ltb}
-use Rattle.codec.specs.Codec.{maskOf}
+use Rattle.words.specs.Pick.{all-six}
+use Rattle.codec.specs.Laws.{mask-below}
 use Rattle.model.specs.Base.{nth, every, between, range, sum}
 use Rattle.model.specs.State.{Sizes, Slot.absent, State, Stage.stillNew, noPage, maxTables, maxFrames, maxObjects, maxRows, maxLimit}
 use Rattle.model.specs.State.{maxSlots}
@@ -18,23 +19,10 @@ use Rattle.model.specs.WellFormed.{TableRange, ObjectRange, Rising, Orde
 use Rattle.model.specs.Tests.{bool, apart, clash, and-left, within, nth-some, nth-past, nth-passes}
 use Rattle.model.specs.Sums.{range-all, sum-zero}
 
-all-six : (a b c d e f : Bool) → (a && (b && (c && (d && (e && f))))) ≡ true
-    → (a ≡ true) × (b ≡ true) × (c ≡ true) × (d ≡ true) × (e ≡ true) × (f ≡ true)
-all-six false b c d e f h = clash h refl
-all-six true false c d e f h = clash h refl
-all-six true true false d e f h = clash h refl
-all-six true true true false e f h = clash h refl
-all-six true true true true false f h = clash h refl
-all-six true true true true true f h = (refl, refl, refl, refl, refl, h)
-
 range-rises : (k n : ℕ) → Rising (range k n)
 range-rises k zero = tt
 range-rises k (suc zero) = tt
 range-rises k (suc (suc n)) = (omega arith, range-rises (suc k) (suc n))
-
-mask-fits : (seed : ℕ) → maskOf seed < 2 ^ 56
-unfolding maskOf
-mask-fits seed = omega arith
 
 -- a new table, whatever its parameters
 slot-new : (o : Option TableParameters) (k : ℕ) → newTable o .slots k ≡ absent
@@ -53,7 +41,7 @@ table-new : (z : Sizes) (s : State) (q : TableParameters) → tablePermitted z q
 table-new z s q e = record {
   limit = within 1 (q .pages) (maxPages z) (and-left (between 1 (q .pages) (maxPages z)) (ltb (q .seed) (2 ^ 64)) e);
   size = omega arith;
-  mask = mask-fits (q .seed);
+  mask = mask-below (q .seed);
   epoch = omega arith;
   life = tt;
   high = λ p h. absurd (omega arith);

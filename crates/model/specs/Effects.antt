@@ -8,7 +8,7 @@ use lib.ListN.{length, take, drop}
 use lib.Dec.{eqb, ltb}
 use borrow.Author.Tests.{eqb-true}
 use Rattle.authority.specs.Rights.{contains}
-use Rattle.codec.specs.Codec.{pick as choose, encode, payload, decodes, payloadIn, numberIn, slotIn, generationIn, nextGeneration, maskOf}
+use Rattle.codec.specs.Codec.{encode, payload, decodes, payloadIn, numberIn, slotIn, generationIn, nextGeneration, maskOf}
 use Rattle.model.specs.Base.{bit, pick, put, every, nth, range, pushAll, isSome, orElse}
 use Rattle.model.specs.State.{Sizes, till, Handle, Slot, Slot.absent, Slot.vacant, Slot.occupied, Page, Table, Object, State, Lifecycle, Lifecycle.active, Lifecycle.tearingDown, Lifecycle.retired, Row, Book, noTable, maxTables, maxFrames, maxObjects, maxRows, maxBatch, maxSlots, maxLimit, knownFlags, lastId}
 use Rattle.model.specs.Storage.{place, vacate, takeFree, pagesFor, attach, detach, slotsOf}
@@ -47,7 +47,7 @@ abbrev permits2 : ℕ → ℕ → ℕ → ℕ → ℕ → ℕ
 permits2 koid kind class exportable limit = bit (permitted till (record { tables = tablesOf 1 1; frames = 0; rows = 1; objects = objectWith koid kind class 0 exportable limit ∷ [] }))
 
 pub effects : List Case
-unfolding fresh permitted choose encode payload decodes payloadIn numberIn slotIn generationIn maskOf nextGeneration contains maxTables maxFrames maxObjects maxRows maxLimit maxBatch maxSlots knownFlags lastId
+unfolding fresh permitted encode payload decodes payloadIn numberIn slotIn generationIn maskOf nextGeneration contains maxTables maxFrames maxObjects maxRows maxLimit maxBatch maxSlots knownFlags lastId
     place vacate takeFree pagesFor attach detach decide step usedWords
     newObjectOf duplicateOf releaseParcelOf retireObjectOf reserveOf trimOf abortOf publishOf getInfoOf resolveOf replaceOf closeOf scanHandlesOf
     prepareTransferOf prepareConsumptionOf rollbackOf commitOf directCommitOf directRollbackOf removeStoppingOwnerOf teardownStartOf teardownStepOf

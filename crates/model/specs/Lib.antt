@@ -14,6 +14,8 @@ pub mod WellFormed
 pub mod Words
 pub mod Tests
 pub mod Sums
+pub mod Counting
+pub mod Bounds
 pub mod Cases
 pub mod Effects
 pub mod WordCases

@@ -175,7 +175,7 @@ scan-bounds z s t c =
     (omega (arith, h .0, h .1), omega (arith, h .2, length-map (walk (t .slots) start n (z .scanEntries) .found) (snapshotAt s t)))
 
 -- the answers with most words are a reservation's and a scan's: both fit
-entry-words : (l : List Snapshot) → length (entryWords l) ≡ 5 * length l
+pub entry-words : (l : List Snapshot) → length (entryWords l) ≡ 5 * length l
 entry-words [] = refl
 entry-words (x ∷ l) = omega (arith, entry-words l)
 
@@ -192,7 +192,7 @@ pub run-length : (z : Sizes) (s : State) (rs : List Request) → length (run z s
 run-length z s [] = refl
 run-length z s (r ∷ rs) = ap suc (run-length z (step z s r .0) rs)
 
-all-length : (l : List Answer) → length (allWords l) ≡ answerWords * length l
+pub all-length : (l : List Answer) → length (allWords l) ≡ answerWords * length l
 all-length [] = refl
 all-length (a ∷ l) = omega (arith, length-append (wordsOf a) (allWords l), words-length a, all-length l)
 

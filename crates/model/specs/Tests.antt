@@ -1,43 +1,25 @@
 -- Splits on tests, what tests say, and stores at one number.
-use mathlib.Core.Path.{_≡_, refl}
-use mathlib.Core.Bool.{Bool, true, false, _&&_, _||_}
+use mathlib.Core.Path.{_≡_, refl, fun-ext}
+use mathlib.Core.Bool.{Bool, true, false, _||_}
+pub use mathlib.Core.Bool.{and-false}
 use mathlib.Core.List.{List, [], _∷_}
-use mathlib.Core.Option.{none, some}
+use mathlib.Core.Option.{Option, none, some}
 use Prim.Native.Nat.{ℕ, zero, suc, _≤_, _<_}
 use native.Mathlib.Omega.{arith}
 use lib.ListN.{length}
 use lib.Dec.{eqb, ltb}
-use borrow.Author.Tests.{ltb-false, eqb-true, eqb-false, eq-eqb, not-true}
-use Rattle.model.specs.Base.{bit, pick, put, nth, every, atMost, between}
-
--- a split on a computed test that keeps the equation
-pub bool {ℓ} : {C : Type ℓ} (b : Bool) → (b ≡ true → C) → (b ≡ false → C) → C
-bool true t f = t refl
-bool false t f = f refl
+use borrow.Author.Tests.{ltb-false, eqb-true, eqb-false, eq-eqb, ne-eqb, not-true}
+pub use Rattle.words.specs.Pick.{bool, clash, and-left, and-right}
+use Rattle.model.specs.Base.{bit, pick, put, also, nth, every, atMost, between}
 
 -- from constructors that differ: `apart (cc)`
 pub apart {ℓ} : {C : Type ℓ} → _≡_ {A = ℕ} 0 1 → C
 apart e = absurd (omega arith)
 
-pub clash {ℓ} : {C : Type ℓ} {b : Bool} → b ≡ true → b ≡ false → C
-clash p q = apart (cc)
-
 -- zero or more
 pub zero-or {ℓ} : {C : Type ℓ} (n : ℕ) → (n ≡ 0 → C) → (0 < n → C) → C
 zero-or zero f g = f refl
 zero-or (suc n) f g = g (omega arith)
-
-pub and-left : (a b : Bool) → (a && b) ≡ true → a ≡ true
-and-left true b e = refl
-and-left false b e = e
-
-pub and-right : (a b : Bool) → (a && b) ≡ true → b ≡ true
-and-right true b e = e
-and-right false b e = clash e refl
-
-pub and-false : (a : Bool) → (a && false) ≡ false
-and-false true = refl
-and-false false = refl
 
 pub or-false : (a b : Bool) → a ≡ false → b ≡ false → (a || b) ≡ false
 or-false a b p q = rw (p, q)
@@ -81,8 +63,22 @@ module _ {ℓ} {A : Type ℓ} (f : ℕ → A) (k : ℕ) (x : A) where
   pub put-same : put f k x k ≡ x
   put-same = rw (same k)
 
+  pub put-other : (j : ℕ) → (j ≡ k → ⊥) → put f k x j ≡ f j
+  put-other j n = rw (ne-eqb j k n)
+
+  pub put-put : (y : A) → put (put f k y) k x ≡ put f k x
+  put-put y = fun-ext λ j. bool (eqb j k) (λ e. rw e) (λ e. rw e)
+
   pub put-at : (C : A → Type 0) (j : ℕ) → (j ≡ k → C x) → ((j ≡ k → ⊥) → C (f j)) → C (put f k x j)
   put-at C j y n = bool (eqb j k) (λ e. rw e (y (eqb-true j k e))) (λ e. rw e (n (eqb-false j k e)))
+
+pub some-same {ℓ} : {A : Type ℓ} (a b : A) → some a ≡ some b → a ≡ b
+some-same a b e = cc
+
+-- what stands behind a list that got one more in front
+pub also-some : (a : ℕ) (x : Option (List ℕ)) (ps : List ℕ) → also a x ≡ some ps → (qs : List ℕ) × (x ≡ some qs) × (ps ≡ a ∷ qs)
+also-some a none ps e = apart (cc)
+also-some a (some qs) ps e = (qs, refl, cc)
 
 -- a list's elements by place
 

@@ -4,8 +4,8 @@ use mathlib.Core.List.{List, [], _∷_, _++_, map}
 use mathlib.Core.Option.{Option, none, some}
 use Prim.Native.Nat.{ℕ, zero, suc}
 use Rattle.authority.specs.Rights.{contains}
-use Rattle.codec.specs.Codec.{pick as choose, encode, payload, maskOf, nextGeneration}
-use Rattle.format.specs.Format.{pick as choice, musts, mays, fieldKinds, fieldFits, knownOp}
+use Rattle.codec.specs.Codec.{encode, payload, maskOf, nextGeneration}
+use Rattle.format.specs.Format.{musts, mays, fieldKinds, fieldFits, knownOp}
 use Rattle.model.specs.Base.{pick, nth, isSome, orElse, range}
 use Rattle.model.specs.State.{till, State, maxBatch, maxSlots, lastId}
 use Rattle.model.specs.Storage.{place, takeFree, pagesFor, attach}
@@ -79,7 +79,7 @@ abbrev readsAs : List ℕ → List ℕ
 readsAs ws = joinAll (map shown (orElse (readList ws) []))
 
 pub readings : List Case
-unfolding fresh choose choice encode payload maskOf nextGeneration contains maxBatch maxSlots lastId place takeFree pagesFor attach decide step usedWords wordsOf answerShort
+unfolding fresh encode payload maskOf nextGeneration contains maxBatch maxSlots lastId place takeFree pagesFor attach decide step usedWords wordsOf answerShort
     readRequest readList call newObjectOf reserveOf musts mays fieldKinds fieldFits knownOp
 readings =
     -- "An empty list is accepted"

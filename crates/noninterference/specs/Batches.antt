@@ -12,31 +12,22 @@ use Rattle.model.specs.Base.{member, orElse, atMost}
 use Rattle.model.specs.State.{Slot.reserved, Table, Body.reservation, Row, State}
 use Rattle.model.specs.State.{isActive, maxBatch}
 use Rattle.model.specs.Storage.{takeFree, pagesFor}
-use Rattle.model.specs.Change.{withTable, withFrames, withBook}
+use Rattle.model.specs.Change.{withTable, withFrames}
 use Rattle.model.specs.Request.{Answer.batch}
-use Rattle.model.specs.Book.{dropId, addRow, dropRow, dropRows}
+use Rattle.model.specs.Book.{addRow}
 use Rattle.model.specs.Decision.{Decision.accept, distinct}
 use Rattle.model.specs.Lookup.{valueAt}
 use Rattle.model.specs.Step.{reserveOf, trimOf, abortOf, publishOf}
 use Rattle.noninterference.specs.Runs.{lowered}
 use Rattle.noninterference.specs.Erase.{eraseTable, erase}
 use Rattle.model.specs.Tests.{bool, clash}
+use Rattle.invariant.specs.Parcels.{dropIds, dropRows-is}
 use Rattle.noninterference.specs.Basics.{map-same}
 use Rattle.noninterference.specs.Tables.{gen-erase}
 use Rattle.noninterference.specs.Marks.{stems-then}
 use Rattle.noninterference.specs.Rows.{handles-erase, distinct-erase}
 use Rattle.noninterference.specs.Alike.{Case, Alike, check, row-left, id-left, somes, reservations}
 use Rattle.noninterference.specs.Effects.{TableTwin, all-vacated, all-filled, grown, reserved-first, BookTwin, with-rows, with-rows₀, same-book, added, dropped, swapped, changes}
-
--- rows dropped one after the other
-abbrev dropIds : List ℕ → List Row → List Row
-dropIds [] rs = rs
-dropIds (i ∷ is) rs = dropIds is (dropId i rs)
-
-dropRows-is : (is : List ℕ) (u : State)
-    → dropRows is u ≡ withBook u (record { rows = dropIds is (u .book .rows); capacity = u .book .capacity; next = u .book .next })
-dropRows-is [] u = refl
-dropRows-is (i ∷ is) u = dropRows-is is (dropRow i u)
 
 module _ (x : Case) where
   abbrev s : State

@@ -22,9 +22,10 @@ use Rattle.model.specs.WellFormed.{WellFormed, All, RowRange, BodyRange, isMovi
 use Rattle.noninterference.specs.Runs.{accepted, lowered, withSlots, lowerTable, lowerRow, lowerState}
 use Rattle.noninterference.specs.Erase.{handleAt, eraseTable, erase}
 use Rattle.model.specs.Tests.{bool}
+use Rattle.invariant.specs.BookLemmas.{find-drop-same, find-swap-same}
 use Rattle.noninterference.specs.Basics.{put-map}
 use Rattle.noninterference.specs.Tables.{vacateAll-erase, restoreAll-erase}
-use Rattle.noninterference.specs.Rows.{find-gone, drop-twice, find-swapped}
+use Rattle.noninterference.specs.Rows.{drop-twice}
 use Rattle.noninterference.specs.Alike.{Held, Open, Case, bare-slot, counted, is-active}
 use Rattle.noninterference.specs.Restore.{restore-idle, agrees-own, stand-erased}
 
@@ -49,11 +50,11 @@ unmarked z u w t n c k = bool (isMovingBy t (u .tables c .slots k))
 -- Closing the values one by one
 
 module _ (z : Sizes) where
-  vacate-life : (y : Table) (k : ℕ) → vacate z y k .life ≡ y .life
+  pub vacate-life : (y : Table) (k : ℕ) → vacate z y k .life ≡ y .life
   unfolding vacate place
   vacate-life y k = refl
 
-  vacate-mask : (y : Table) (k : ℕ) → vacate z y k .mask ≡ y .mask
+  pub vacate-mask : (y : Table) (k : ℕ) → vacate z y k .mask ≡ y .mask
   unfolding vacate place
   vacate-mask y k = refl
 
@@ -88,7 +89,7 @@ module _ (z : Sizes) where
   look-is y v k h d a e = rw (d, a, e, eq-eqb (generationIn (y .mask) v) (generationIn (y .mask) v) refl)
 
   module _ (b : ℕ) where
-    close-is : (p : State) (v k : ℕ) (h : Handle) → ltb b (p .tableCount) ≡ true → isActive (p .tables b .life) ≡ true
+    pub close-is : (p : State) (v k : ℕ) (h : Handle) → ltb b (p .tableCount) ≡ true → isActive (p .tables b .life) ≡ true
         → lookup (p .tables b) v ≡ holds k h
         → step z p (close b v) ≡ (release (withTable p b (vacate z (p .tables b) k)) (h ∷ []), infoOf (infoFor p h))
     unfolding step decide closeOf
@@ -169,7 +170,7 @@ module _ (z : Sizes) (kept : (s : State) → WellFormed z s → (r : Request) �
   }
     where
       none-marked : (c k : ℕ) → isMovingBy t (after-rollback .tables c .slots k) ≡ false
-      none-marked = unmarked z after-rollback (rw rolled at (kept s (o .wf) (rollback t))) t (λ c k. rw (find-gone t (s .book .rows)))
+      none-marked = unmarked z after-rollback (rw rolled at (kept s (o .wf) (rollback t))) t (λ c k. rw (find-drop-same t (s .book .rows)))
 
   pub rollback-done : step z s (rollback t) .1 ≡ done
   rollback-done = rw rolled
@@ -211,5 +212,5 @@ module _ (z : Sizes) (kept : (s : State) → WellFormed z s → (r : Request) �
       ∙ ap (λ (f : ℕ → Table). f c) (put-map (λ d. eraseTable t es) (s .tables) b (vacateAll z (movedOf es) y))
       ∙ bare-table t es (after-commit .tables c)
       (unmarked z after-commit (rw made at (kept s (o .wf) (commit t))) t
-      (λ d k. rw (find-swapped t (parcel (map sentOf es)) (claim b es) (s .book .rows) (o .row))) c)
+      (λ d k. rw (find-swap-same t (parcel (map sentOf es)) (claim b es) (s .book .rows) (o .row))) c)
       ∙ rw made

@@ -8,8 +8,9 @@ use Rattle.model.specs.Base.{every}
 use Rattle.model.specs.State.{State}
 use Rattle.model.specs.Request.{Route.buffered, Route.rendezvous, Operation.asMove, Operation.asCopy, Item, Answer.opened}
 use Rattle.model.specs.Request.{Request, Request.newObject, Request.duplicate, Request.releaseParcel, Request.retireObject, Request.reserve, Request.trim, Request.abort, Request.publish, Request.getInfo, Request.resolve, Request.replace, Request.close, Request.scanHandles, Request.prepareTransfer, Request.prepareConsumption, Request.rollback, Request.commit, Request.directCommit, Request.directRollback, Request.removeStoppingOwner, Request.teardownStart, Request.teardownStep, Request.teardownFinish, Request.takeEmptyPage}
+use Rattle.model.specs.Cases.{item, sameList-equal}
 use Rattle.noninterference.specs.Runs.{valueOf, permitted, wanting, lowerRequest, lowerAnswer, lowerState}
-use Rattle.noninterference.specs.World.{little, ran, numbers, tablesNumbers, stateNumbers, answerNumbers, by-computing, v0, v1, shop, item}
+use Rattle.noninterference.specs.World.{little, ran, numbers, tablesNumbers, stateNumbers, answerNumbers, v0, v1, shop}
 
 -- a list and a transfer t of table b that meet the theorem's conditions; what the held run answers, by number; and that the plain run is the same
 record Pair (s : State) (transfer : Request) (t b : ℕ) (values : List ℕ) (list : List Request) (given : List ℕ) : Type 0 where
@@ -70,9 +71,9 @@ first = record {
   permits = refl;
   wants = refl;
   gives = refl;
-  answers = by-computing _ _ refl;
-  afterRollback = by-computing _ _ refl;
-  afterCommit = by-computing _ _ refl;
+  answers = sameList-equal _ _ refl;
+  afterRollback = sameList-equal _ _ refl;
+  afterCommit = sameList-equal _ _ refl;
 }
 
 -- The second pair: a reservation 7 stays open; objects 1 and 0 are moved out of the slots 2 and 3 of table 0, under the id 8
@@ -123,7 +124,7 @@ second = record {
   permits = refl;
   wants = refl;
   gives = refl;
-  answers = by-computing _ _ refl;
-  afterRollback = by-computing _ _ refl;
-  afterCommit = by-computing _ _ refl;
+  answers = sameList-equal _ _ refl;
+  afterRollback = sameList-equal _ _ refl;
+  afterCommit = sameList-equal _ _ refl;
 }

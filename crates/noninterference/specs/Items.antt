@@ -6,26 +6,14 @@ use mathlib.Core.Option.{Option, none, some}
 use Prim.Native.Nat.{ℕ}
 use native.Mathlib.Omega.{arith}
 use lib.ListN.{drop}
-use lib.Dec.{eqb}
-use borrow.Author.Tests.{eqb-true}
 use Rattle.codec.specs.Codec.{decodes, slotIn, generationIn}
 use Rattle.model.specs.Base.{member}
-use Rattle.model.specs.State.{Handle, Slot, Slot.absent, Slot.vacant, Slot.reserved, Slot.transferReserved, Slot.occupied, Table, State}
+use Rattle.model.specs.State.{Handle, Slot.occupied, Table, State}
 use Rattle.model.specs.Request.{Route, Item}
-use Rattle.model.specs.Lookup.{View, View.invalid, View.busy, View.holds, viewSlot, lookup, handleOr}
-use Rattle.model.specs.Transfer.{firstFault, itemChecks, firstOf, itemsFault}
+use Rattle.model.specs.Lookup.{View, View.invalid, View.busy, View.holds, lookup, handleOr}
+use Rattle.model.specs.Transfer.{firstFault, itemChecks, itemsFault}
 use Rattle.model.specs.Tests.{bool}
-
-view-holds : (k g : ℕ) (x : Slot) (j : ℕ) (h : Handle) → viewSlot k g x ≡ holds j h → (j ≡ k) × (x ≡ occupied g h)
-view-holds k g absent j h e = (cc, cc)
-view-holds k g (vacant n) j h e = (cc, cc)
-view-holds k g (reserved n i) j h e = (cc, cc)
-view-holds k g (transferReserved n i) j h e = bool (eqb g n)
-    (λ q. let p : busy ≡ holds j h = rw q at e in (cc, cc))
-    (λ q. let p : invalid ≡ holds j h = rw q at e in (cc, cc))
-view-holds k g (occupied n y) j h e = bool (eqb g n)
-    (λ q. let p : holds k y ≡ holds j h = rw q at e in let w : g ≡ n = eqb-true g n q in (cc, cc))
-    (λ q. let p : invalid ≡ holds j h = rw q at e in (cc, cc))
+use Rattle.invariant.specs.Items.{view-slot, both-none}
 
 -- a value names a handle in its slot
 pub record Names (x : Table) (v : ℕ) (h : Handle) : Type 0 where
@@ -35,7 +23,7 @@ pub record Names (x : Table) (v : ℕ) (h : Handle) : Type 0 where
 pub look-holds : (x : Table) (v k : ℕ) (h : Handle) → lookup x v ≡ holds k h → (k ≡ slotIn (x .mask) v) × Names x v h
 look-holds x v k h e = bool (decodes (x .mask) v)
     (λ q. let w : (k ≡ slotIn (x .mask) v)
-    × (x .slots (slotIn (x .mask) v) ≡ occupied (generationIn (x .mask) v) h) = view-holds _ _ _ k h (rw q at e) in
+    × (x .slots (slotIn (x .mask) v) ≡ occupied (generationIn (x .mask) v) h) = view-slot _ _ _ k h (rw q at e) in
     (w .0, record { valid = q; there = w .1 }))
     (λ q. let p : invalid ≡ holds k h = rw q at e in let y : _≡_ {A = ℕ} 0 1 = cc in absurd (omega arith))
 
@@ -60,13 +48,9 @@ module _ (s : State) (x : Table) (route : Route) (bannedObject bannedKind : Opti
       go busy p g = absurd (never g)
       go (holds k h) p g = let w : Names x (q .value) h = look-holds x (q .value) k h p .1 in record { valid = w .valid; there = rw (w .there) }
 
-  first-none : (a b : Option ℕ) → firstOf a b ≡ none → (a ≡ none) × (b ≡ none)
-  first-none none b e = (refl, e)
-  first-none (some n) b e = let y : _≡_ {A = ℕ} 0 1 = cc in absurd (omega arith)
-
   pub all-name : (earlier : List ℕ) (qs : List Item) → itemsFault s x route bannedObject bannedKind earlier qs ≡ none → AllName qs
   all-name earlier [] e = tt
   all-name earlier (q ∷ qs) e =
-      let w = first-none (firstFault (itemChecks s route bannedObject bannedKind earlier q (lookup x (q .value))))
+      let w = both-none (firstFault (itemChecks s route bannedObject bannedKind earlier q (lookup x (q .value))))
       (itemsFault s x route bannedObject bannedKind (q .value ∷ earlier) qs) e in
       (item-names earlier q (w .0), all-name (q .value ∷ earlier) qs (w .1))

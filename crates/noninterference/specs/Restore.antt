@@ -18,12 +18,12 @@ use Rattle.model.specs.Tests.{bool}
 use Rattle.noninterference.specs.Tables.{keep-erase}
 use Rattle.noninterference.specs.Alike.{Held}
 
-module _ (z : Sizes) where
-  page-idle : (ps : ℕ → Page) (p g : ℕ) → g ≤ ps p .high → (q : ℕ) → put ps p (raised (ps p) g) q ≡ ps q
-  page-idle ps p g h q = bool (eqb q p)
-      (λ e. let w : max (ps p .high) g ≡ ps p .high = omega arith in rw (e, eqb-true q p e) (λ i. record { frame = ps p .frame; high = w i }))
-      (λ e. rw e)
+pub page-idle : (ps : ℕ → Page) (p g : ℕ) → g ≤ ps p .high → (q : ℕ) → put ps p (raised (ps p) g) q ≡ ps q
+page-idle ps p g h q = bool (eqb q p)
+    (λ e. let w : max (ps p .high) g ≡ ps p .high = omega arith in rw (e, eqb-true q p e) (λ i. record { frame = ps p .frame; high = w i }))
+    (λ e. rw e)
 
+module _ (z : Sizes) where
   slot-idle : (f : ℕ → Slot) (k : ℕ) (y : Slot) → f k ≡ y → (j : ℕ) → put f k y j ≡ f j
   slot-idle f k y e j = bool (eqb j k) (λ q. rw (q, eqb-true j k q) (sym e)) (λ q. rw q)
 

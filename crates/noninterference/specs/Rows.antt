@@ -16,6 +16,7 @@ use Rattle.model.specs.WellFormed.{IdsRise}
 use Rattle.noninterference.specs.Runs.{lowered, lowerRow}
 use Rattle.noninterference.specs.Erase.{eraseRows}
 use Rattle.model.specs.Tests.{bool, clash}
+use Rattle.invariant.specs.BookLemmas.{ids-order, ids-none}
 use Rattle.noninterference.specs.Basics.{lowered-eqb, lowered-below, lowered-member}
 
 module _ (t i : ℕ) (p : i ≡ t → ⊥) where
@@ -87,18 +88,9 @@ module _ (t : ℕ) where
       (λ e. clash refl (rw e at m))
       (λ e. rw (lowered-member t i (λ y. eqb-false t i e (sym y)) is (rw e at m), distinct-erase is (rw e at m)))
 
-  -- the row that goes
-  pub find-gone : (rs : List Row) → find t (dropId t rs) ≡ none
-  find-gone [] = refl
-  find-gone (r ∷ rs) = bool (eqb (r .id) t) (λ e. rw e (find-gone rs)) (λ e. rw (e, e) (find-gone rs))
-
   pub drop-twice : (rs : List Row) → dropId t (dropId t rs) ≡ dropId t rs
   drop-twice [] = refl
   drop-twice (r ∷ rs) = bool (eqb (r .id) t) (λ e. rw e (drop-twice rs)) (λ e. rw (e, e, drop-twice rs))
-
-  pub find-swapped : (b c : Body) (rs : List Row) → find t rs ≡ some c → find t (swapId t b rs) ≡ some b
-  find-swapped b c [] p = cc
-  find-swapped b c (r ∷ rs) p = bool (eqb (r .id) t) (λ e. rw (e, e)) (λ e. rw (e, e) (find-swapped b c rs (rw e at p)))
 
   pub find-new : (b : Body) (rs : List Row) → find t rs ≡ none → find t (rs ++ (record { id = t; body = b } ∷ [])) ≡ some b
   find-new b [] p = rw (eq-eqb t t refl)
@@ -106,25 +98,15 @@ module _ (t : ℕ) where
       (λ e. let z : some (r .body) ≡ none = rw e at p in cc)
       (λ e. rw e (find-new b rs (rw e at p)))
 
--- ids rise, so none stands twice
-pub rise-le : (lo hi : ℕ) (rs : List Row) → IdsRise lo rs hi → lo ≤ hi
-rise-le lo hi [] h = h
-rise-le lo hi (r ∷ rs) h = omega (arith, rise-le (suc (r .id)) hi rs (h .1))
-
-pub rise-none : (lo hi i : ℕ) (rs : List Row) → IdsRise lo rs hi → hi ≤ i → find i rs ≡ none
-rise-none lo hi i [] h p = refl
-rise-none lo hi i (r ∷ rs) h p =
-    rw (ne-eqb (r .id) i (λ z. omega (arith, rise-le (suc (r .id)) hi rs (h .1)))) (rise-none (suc (r .id)) hi i rs (h .1) p)
-
 pub rise-below : (lo hi i : ℕ) (b : Body) (rs : List Row) → IdsRise lo rs hi → find i rs ≡ some b → i < hi
 rise-below lo hi i b rs h e = bool (ltb i hi)
     (λ q. ltb-true i hi q)
-    (λ q. let y : find i rs ≡ none = rise-none lo hi i rs h (ltb-false i hi q) in let z : _≡_ {A = ℕ} 0 1 = cc in absurd (omega arith))
+    (λ q. let y : find i rs ≡ none = ids-none lo hi i rs h (ltb-false i hi q) in let z : _≡_ {A = ℕ} 0 1 = cc in absurd (omega arith))
 
 -- the rows of the state before a claim is made
 pub erase-new : (lo n : ℕ) (b : Body) (rs : List Row) → IdsRise lo rs n → eraseRows n (rs ++ (record { id = n; body = b } ∷ [])) ≡ rs
 erase-new lo n b [] h = rw (eq-eqb n n refl)
-erase-new lo n b (r ∷ rs) h = let p : suc (r .id) ≤ n = rise-le (suc (r .id)) n rs (h .1) in
+erase-new lo n b (r ∷ rs) h = let p : suc (r .id) ≤ n = ids-order (suc (r .id)) n rs (h .1) in
     rw (ne-eqb (r .id) n (λ z. omega arith), lowered-below n (r .id) (omega arith), erase-new (suc (r .id)) n b rs (h .1))
 
 -- ids above the first row's are not t if t is at most that

@@ -25,8 +25,9 @@ use Rattle.model.specs.WellFormed.{WellFormed, isMovingBy}
 use Rattle.noninterference.specs.Runs.{isMove, valueOf, lowered, withSlots}
 use Rattle.noninterference.specs.Erase.{eraseSlot, eraseTable, erase}
 use Rattle.model.specs.Tests.{bool, clash, and-left, and-right}
+use Rattle.invariant.specs.BookLemmas.{ids-none}
 use Rattle.noninterference.specs.Basics.{lowered-above, lowered-below}
-use Rattle.noninterference.specs.Rows.{rise-none, erase-new, find-new}
+use Rattle.noninterference.specs.Rows.{erase-new, find-new}
 use Rattle.noninterference.specs.Items.{AllName, all-name}
 use Rattle.noninterference.specs.Alike.{Held, Open}
 use Rattle.noninterference.specs.Lists.{mark-is}
@@ -63,7 +64,7 @@ module _ (z : Sizes) (s : State) (w : WellFormed z s) where
   n = s .book .next
 
   none-from : (i : ℕ) → n ≤ i → find i (s .book .rows) ≡ none
-  none-from i h = rise-none 1 n i (s .book .rows) (w .ids .rise) h
+  none-from i h = ids-none 1 n i (s .book .rows) (w .ids .rise) h
 
   -- marks are below the next id
   low-slot : (c k : ℕ) (x : Slot) → s .tables c .slots k ≡ x → (es : List Entry) → eraseSlot n es k x ≡ x

@@ -1,12 +1,7 @@
 -- A small state to run lists from, and states and answers in numbers, which the checker compares by computing.
-use mathlib.Core.Path.{_≡_, refl}
-use mathlib.Core.Bool.{Bool, true, false, _&&_}
 use mathlib.Core.List.{List, [], _∷_, _++_, map}
-use mathlib.Core.Option.{none}
 use Prim.Native.Nat.{ℕ, _*_}
 use lib.ListN.{getD, length}
-use lib.Dec.{eqb}
-use borrow.Author.Tests.{eqb-true}
 use Rattle.authority.specs.Rights.{contains}
 use Rattle.codec.specs.Codec.{encode, payload, maskOf, payloadIn, numberIn, slotIn, generationIn, decodes, nextGeneration}
 use Rattle.model.specs.Base.{range, bit, isSome, orElse}
@@ -15,13 +10,12 @@ use Rattle.model.specs.State.{Entry, Entry.moved, Entry.copied, Body, Body.rese
 use Rattle.model.specs.State.{Sizes, Slot, Page, Lifecycle, Table, Object, State, maxBatch, maxSlots, knownFlags, lastId}
 use Rattle.model.specs.Storage.{place, vacate, takeFree, pagesFor, attach, detach}
 use Rattle.model.specs.Create.{Parameters, created}
-use Rattle.model.specs.Request.{Operation, Item, Request, Request.newObject, Request.duplicate, Request.reserve, Request.publish}
+use Rattle.model.specs.Request.{Request, Request.newObject, Request.duplicate, Request.reserve, Request.publish}
 use Rattle.model.specs.Request.{Answer}
 use Rattle.model.specs.Step.{newObjectOf, duplicateOf, releaseParcelOf, retireObjectOf, reserveOf, trimOf, abortOf, publishOf, getInfoOf, closeOf, replaceOf, resolveOf, scanHandlesOf, prepareTransferOf}
 use Rattle.model.specs.Step.{prepareConsumptionOf, rollbackOf, commitOf, directCommitOf, directRollbackOf, removeStoppingOwnerOf, teardownStartOf, teardownStepOf, teardownFinishOf, takeEmptyPageOf, decide, step, run}
 use Rattle.model.specs.Words.{usedWords}
 use Rattle.noninterference.specs.Runs.{permitted, wantsRow, wantsId, lowered}
-use Rattle.model.specs.Tests.{clash, and-left, and-right}
 
 -- pages of 4 slots, scans of at most 2 entries or 8 slots
 abbrev pub little : Sizes
@@ -29,7 +23,7 @@ little = record { pageSlots = 4; scanEntries = 2; scanSlots = 8 }
 
 -- a list run, with all that the checker has to open to compute it
 unfoldable pub ran : State → List Request → State × List Answer
-unfolding contains encode payload maskOf payloadIn numberIn slotIn generationIn decodes nextGeneration Rattle.codec.specs.Codec.pick maxBatch
+unfolding contains encode payload maskOf payloadIn numberIn slotIn generationIn decodes nextGeneration maxBatch
     maxSlots knownFlags lastId place vacate takeFree pagesFor attach detach created newObjectOf duplicateOf releaseParcelOf retireObjectOf reserveOf
     trimOf abortOf publishOf getInfoOf closeOf replaceOf resolveOf scanHandlesOf prepareTransferOf prepareConsumptionOf rollbackOf commitOf
     directCommitOf directRollbackOf removeStoppingOwnerOf teardownStartOf teardownStepOf teardownFinishOf takeEmptyPageOf decide step usedWords
@@ -42,20 +36,6 @@ numberOf a = getD (usedWords a) 0 0
 
 abbrev pub numbers : List Answer → List ℕ
 numbers l = map numberOf l
-
--- lists of numbers compared by computing
-abbrev pub sameNumbers : List ℕ → List ℕ → Bool
-sameNumbers [] [] = true
-sameNumbers [] (y ∷ ys) = false
-sameNumbers (x ∷ xs) [] = false
-sameNumbers (x ∷ xs) (y ∷ ys) = eqb x y && sameNumbers xs ys
-
-pub by-computing : (xs ys : List ℕ) → sameNumbers xs ys ≡ true → xs ≡ ys
-by-computing [] [] e = refl
-by-computing [] (y ∷ ys) e = clash e refl
-by-computing (x ∷ xs) [] e = clash e refl
-by-computing (x ∷ xs) (y ∷ ys) e = λ i. eqb-true x y (and-left (eqb x y) (sameNumbers xs ys) e) i
-    ∷ by-computing xs ys (and-right (eqb x y) (sameNumbers xs ys) e) i
 
 -- a state in numbers: every field in use, each list with its length before it
 abbrev pub each : {A : Type 0} → (A → List ℕ) → List A → List ℕ
@@ -170,7 +150,3 @@ opening =
 
 abbrev pub shop : State
 shop = ran (created parameters) opening .0
-
--- an item without optional fields
-abbrev pub item : Operation → ℕ → ℕ → Item
-item o v r = record { operation = o; value = v; rights = r; offeredRights = none; offeredKind = none; expectedKind = none }

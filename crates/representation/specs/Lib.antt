@@ -1,2 +1,3 @@
 pub mod Represents
 pub mod Unique
+pub mod Told

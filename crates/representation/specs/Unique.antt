@@ -6,11 +6,12 @@ use mathlib.Core.Option.{Option, none, some}
 use Prim.Native.Nat.{ℕ, suc, _≤_, _<_}
 use native.Mathlib.Omega.{arith}
 use lib.ListN.{length}
-use lib.Dec.{eqb, ltb}
-use borrow.Author.Tests.{eq-eqb, ne-eqb, ltb-true, ltb-false}
+use lib.Dec.{ltb}
+use borrow.Author.Tests.{ltb-true, ltb-false}
 use Rattle.words.specs.Pick.{bool}
 use Rattle.model.specs.Base.{bit, occurs, sum}
 use Rattle.model.specs.State.{till, Handle, Slot, Page, Lifecycle, Lifecycle.active, Lifecycle.tearingDown, Lifecycle.retired, Table, Class, Class.leaf, Class.rendezvousOnly, Class.never, Stage, Stage.stillNew, Stage.nowActive, Stage.nowRetired, Object, Entry, Entry.moved, Entry.copied, Body, Body.reservation, Body.claim, Body.parcel, Row, State}
+use Rattle.model.specs.Counting.{bit-same, bit-other}
 use Rattle.model.specs.WellFormed.{Rising, pagesWith, WellFormed}
 use Rattle.layout.specs.declared.Shape.{Shape}
 use Rattle.layout.specs.declared.ShapeRead.the-variants.{Shape as found}
@@ -58,29 +59,24 @@ linked-unique next h (x ∷ l) (y ∷ k) c d =
 
 -- ---- a rising list is known by what stands in it
 
-bit-one : (x y : ℕ) → x ≡ y → bit (eqb x y) ≡ 1
-bit-one x y e = rw (eq-eqb x y e)
-
-bit-none : (x y : ℕ) → (x ≡ y → ⊥) → bit (eqb x y) ≡ 0
-bit-none x y e = rw (ne-eqb x y e)
-
 rising-tail : (x : ℕ) (l : List ℕ) → Rising (x ∷ l) → Rising l
 rising-tail x [] r = tt
 rising-tail x (y ∷ l) r = r .1
 
-rising-above : (z x : ℕ) (l : List ℕ) → Rising (x ∷ l) → z < x → occurs z (x ∷ l) ≡ 0
-rising-above z x [] r h = omega (arith, bit-none z x (λ e. omega arith))
-rising-above z x (y ∷ l) r h = omega (arith, bit-none z x (λ e. omega arith), rising-above z y l (r .1) (omega (arith, r .0)))
+-- none is below the lowest
+pub rising-above : (z x : ℕ) (l : List ℕ) → Rising (x ∷ l) → z < x → occurs z (x ∷ l) ≡ 0
+rising-above z x [] r h = omega (arith, bit-other z x (λ e. omega arith))
+rising-above z x (y ∷ l) r h = omega (arith, bit-other z x (λ e. omega arith), rising-above z y l (r .1) (omega (arith, r .0)))
 
 pub rising-unique : (l k : List ℕ) → Rising l → Rising k → ((z : ℕ) → occurs z l ≡ occurs z k) → l ≡ k
 rising-unique [] [] r q e = refl
-rising-unique [] (y ∷ k) r q e = absurd (omega (arith, e y, bit-one y y refl))
-rising-unique (x ∷ l) [] r q e = absurd (omega (arith, e x, bit-one x x refl))
+rising-unique [] (y ∷ k) r q e = absurd (omega (arith, e y, bit-same y y refl))
+rising-unique (x ∷ l) [] r q e = absurd (omega (arith, e x, bit-same x x refl))
 rising-unique (x ∷ l) (y ∷ k) r q e =
     let same : y ≡ x = bool (ltb x y)
-    (λ h. absurd (omega (arith, e x, bit-one x x refl, rising-above x y k q (ltb-true x y h))))
+    (λ h. absurd (omega (arith, e x, bit-same x x refl, rising-above x y k q (ltb-true x y h))))
     (λ h. bool (ltb y x)
-    (λ g. absurd (omega (arith, e y, bit-one y y refl, rising-above y x l r (ltb-true y x g))))
+    (λ g. absurd (omega (arith, e y, bit-same y y refl, rising-above y x l r (ltb-true y x g))))
     (λ g. omega (arith, ltb-false x y h, ltb-false y x g))) in
     let f : (z : ℕ) → occurs z (x ∷ l) ≡ occurs z (x ∷ k) = rw same at e in
     rw same (ap (λ (t : List ℕ). x ∷ t) (rising-unique l k (rising-tail x l r) (rising-tail y k q) (λ z. omega (arith, f z))))

@@ -2,7 +2,7 @@
 use mathlib.Core.Bool.{Bool, true, false, _&&_}
 use mathlib.Core.List.{List}
 use mathlib.Core.Path.{_≡_, refl}
-use Prim.Native.Nat.{ℕ, _<_, _≤_}
+use Prim.Native.Nat.{ℕ, _^_, _<_, _≤_}
 use native.Mathlib.Omega.{arith}
 use lib.ListN.{length, getD, set, length-set, List·getD-eq-default}
 use lib.Seq.{getD-set-same, getD-set-other, set-out, ext-getD}
@@ -35,3 +35,7 @@ get-other ws i v j h = bool (eqb j i)
 -- lists of one length are equal if all their words are
 pub words-same : (ws vs : List ℕ) → length ws ≡ length vs → ((i : ℕ) → getD ws i 0 ≡ getD vs i 0) → ws ≡ vs
 words-same ws vs l e = ext-getD 0 ws vs l (λ i h. e i)
+
+-- lent words are below 2^64
+abbrev pub Small : List ℕ → Type 0
+Small ws = (i : ℕ) → getD ws i 0 < 2 ^ 64

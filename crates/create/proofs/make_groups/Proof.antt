@@ -1,6 +1,5 @@
-use Rattle.create.specs.Creation.{group-small}
 use borrow.Author.Needs.{needs}
-use Rattle.create.specs.Creation.{rounds, groupP, groupsW, rounds-more, rounds-at}
+use Rattle.create.specs.Creation.{groupP, groupsW}
 use lib.ListN.{length}
 use native.Mathlib.Omega.{arith}
 use Prim.Native.Nat.{_-_, _≤_}
@@ -12,6 +11,8 @@ use Rattle.create.proofs.make_groups.Lts as lts
 use Rattle.create.proofs.left.Reads as left-reads
 use Rattle.layout.proofs.save.Reads as save-reads
 use Rattle.words.proofs.smaller.Reads as smaller-reads
+use Rattle.model.specs.Bounds.{group-small}
+use Rattle.layout.specs.Turns.{turns, turns-at, turns-more}
 
 abbrev Inv-loop : tie.InvT-loop
 Inv-loop s₀ sh region size n frames each k₀ s k = (k ≤ n) × (length s ≡ length s₀) × (s ≡ groupsW s₀ sh region size k)
@@ -25,7 +26,7 @@ cast-frames c = search needs
 
 -- src/lib.rt:238:5
 loop-holds : tie.Need-loop-holds Inv-loop μ-loop
-unfolding rounds
+unfolding turns
 loop-holds c = (search needs, refl, refl)
 
 -- src/lib.rt:239:17
@@ -58,7 +59,7 @@ loop-less c = search needs
 
 -- src/lib.rt:238:5
 loop-again : tie.Need-loop-again Inv-loop μ-loop
-loop-again c = (search needs, search needs, rounds-more _ _ (groupP (c .before .before .before .before .before .before .before .before .before .before .args .sh) (c .before .before .before .before .before .before .before .before .before .before .args .region) (c .before .before .before .before .before .before .before .before .before .before .args .size)) _ _ _ (c .before .before .before .before .before .before .before .loop .inv .2) (cc))
+loop-again c = (search needs, search needs, turns-more _ _ (groupP (c .before .before .before .before .before .before .before .before .before .before .args .sh) (c .before .before .before .before .before .before .before .before .before .before .args .region) (c .before .before .before .before .before .before .before .before .before .before .args .size)) _ _ _ (c .before .before .before .before .before .before .before .loop .inv .2) (cc))
 
 -- src/lib.rt:232:1
 same-length : tie.Need-same-length Inv-loop μ-loop
@@ -66,7 +67,7 @@ same-length c = search needs
 
 -- src/lib.rt:232:1
 returns : tie.Need-returns Inv-loop μ-loop
-returns c = rounds-at _ _ (groupP (c .before .before .before .before .args .sh) (c .before .before .before .before .args .region) (c .before .before .before .before .args .size)) _ _ _ (c .before .loop .inv .2) (omega arith)
+returns c = turns-at _ _ (groupP (c .before .before .before .before .args .sh) (c .before .before .before .before .args .region) (c .before .before .before .before .args .size)) _ _ _ (c .before .loop .inv .2) (omega arith)
 
 pub make-groups-spec : {M : Type 1} → statement M
 make-groups-spec =

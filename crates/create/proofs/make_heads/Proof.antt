@@ -1,9 +1,10 @@
 use borrow.Author.Needs.{needs}
-use Rattle.create.specs.Creation.{rounds, headP, headsW, rounds-more, rounds-at}
+use Rattle.create.specs.Creation.{headP, headsW}
 use lib.ListN.{length}
 use native.Mathlib.Omega.{arith}
 use Prim.Native.Nat.{_-_, _≤_}
 use mathlib.Core.Path.{_≡_, refl}
+use Rattle.layout.specs.Turns.{turns, turns-at, turns-more}
 use Rattle.create.proofs.make_heads.Statement.{statement}
 use Rattle.create.proofs.make_heads.Tie as tie
 use Rattle.create.proofs.make_heads.Reads as reads
@@ -18,7 +19,7 @@ abbrev μ-loop : tie.MeasureT-loop
 
 -- src/lib.rt:194:5
 loop-holds : tie.Need-loop-holds Inv-loop μ-loop
-unfolding rounds
+unfolding turns
 loop-holds c = (search needs, refl, refl)
 
 -- src/lib.rt:195:9
@@ -35,7 +36,7 @@ loop-less c = search needs
 
 -- src/lib.rt:194:5
 loop-again : tie.Need-loop-again Inv-loop μ-loop
-loop-again c = (search needs, search needs, rounds-more _ _ (headP (c .before .before .before .before .before .before .before .before .args .p .now)) _ _ _ (c .before .before .before .before .before .loop .inv .2) (c .before .before .make-head .ensures))
+loop-again c = (search needs, search needs, turns-more _ _ (headP (c .before .before .before .before .before .before .before .before .args .p .now)) _ _ _ (c .before .before .before .before .before .loop .inv .2) (c .before .before .make-head .ensures))
 
 -- src/lib.rt:189:1
 same-length : tie.Need-same-length Inv-loop μ-loop
@@ -43,7 +44,7 @@ same-length c = search needs
 
 -- src/lib.rt:189:1
 returns : tie.Need-returns Inv-loop μ-loop
-returns c = rounds-at _ _ (headP (c .before .before .before .before .args .p .now)) _ _ _ (c .before .loop .inv .2) (omega arith)
+returns c = turns-at _ _ (headP (c .before .before .before .before .args .p .now)) _ _ _ (c .before .loop .inv .2) (omega arith)
 
 pub make-heads-spec : {M : Type 1} → statement M
 make-heads-spec =

@@ -1,5 +1,5 @@
 use borrow.Author.Needs.{needs}
-use Rattle.create.specs.Creation.{rounds, placeP, placesW, rounds-more, rounds-at}
+use Rattle.create.specs.Creation.{placeP, placesW}
 use lib.ListN.{length}
 use native.Mathlib.Omega.{arith}
 use Prim.Native.Nat.{_-_, _≤_}
@@ -10,6 +10,7 @@ use Rattle.create.proofs.make_places.Reads as reads
 use Rattle.create.proofs.make_places.Lts as lts
 use Rattle.layout.proofs.put_index.Reads as put-index-reads
 use Rattle.layout.proofs.put_rank.Reads as put-rank-reads
+use Rattle.layout.specs.Turns.{turns, turns-at, turns-more}
 
 abbrev Inv-loop : tie.InvT-loop
 Inv-loop s₀ sh n k₀ s k = (k ≤ n) × (length s ≡ length s₀) × (s ≡ placesW s₀ sh k)
@@ -23,7 +24,7 @@ cast-n c = search needs
 
 -- src/lib.rt:261:5
 loop-holds : tie.Need-loop-holds Inv-loop μ-loop
-unfolding rounds
+unfolding turns
 loop-holds c = (search needs, refl, refl)
 
 -- src/lib.rt:262:9
@@ -44,7 +45,7 @@ loop-less c = search needs
 
 -- src/lib.rt:261:5
 loop-again : tie.Need-loop-again Inv-loop μ-loop
-loop-again c = (search needs, search needs, rounds-more _ _ placeP _ _ _ (c .before .before .before .before .before .before .before .before .before .loop .inv .2) (cc))
+loop-again c = (search needs, search needs, turns-more _ _ placeP _ _ _ (c .before .before .before .before .before .before .before .before .before .loop .inv .2) (cc))
 
 -- src/lib.rt:256:1
 same-length : tie.Need-same-length Inv-loop μ-loop
@@ -52,7 +53,7 @@ same-length c = search needs
 
 -- src/lib.rt:256:1
 returns : tie.Need-returns Inv-loop μ-loop
-returns c = rounds-at _ _ placeP _ _ _ (c .before .loop .inv .2) (omega arith)
+returns c = turns-at _ _ placeP _ _ _ (c .before .loop .inv .2) (omega arith)
 
 pub make-places-spec : {M : Type 1} → statement M
 make-places-spec =

@@ -1,0 +1,41 @@
+-- All words of a slot at once. Assumes nothing.
+use mathlib.Core.Path.{_≡_, sym, ap, _∙_}
+use mathlib.Core.List.{List}
+use Prim.Native.Nat.{ℕ, _+_, _<_}
+use native.Mathlib.Nat.{add-zero}
+use native.Mathlib.Omega.{arith}
+use lib.ListN.{length, getD}
+use Rattle.words.specs.Pick.{bool}
+use Rattle.layout.specs.declared.Shape.{Shape}
+use Rattle.layout.specs.declared.Extent.{Extent}
+use Rattle.layout.specs.declared.CellWords.{CellWords}
+use Rattle.layout.specs.Regions.{region, inside, placeIn, inside-is, in-place, no-place}
+use Rattle.layout.specs.Layout.{Mem, layout, cell, load, in-cell}
+
+abbrev pub cellAt : Mem → ℕ → ℕ → CellWords
+cellAt m fr j = record { tag = m (cell fr j 0); generation = m (cell fr j 1); object = m (cell fr j 2); rights = m (cell fr j 3); flags = m (cell fr j 4); unused = m (cell fr j 5) }
+
+-- a slot whose first word has a place among the words has its others behind that
+pub cell-by : (ws : List ℕ) (sh : Shape) (fr j : ℕ) (e : Extent) (at k : ℕ) → e ≡ region (layout sh) 7 → at ≡ placeIn (length ws) e fr j 0 → at < length ws → k < 6
+    → getD ws (at + k) 0 ≡ load ws sh (cell fr j k)
+unfolding load
+cell-by ws sh fr j e at k a b l h = bool (inside (region (layout sh) 7) fr j 0)
+    (λ q. let i = inside-is (region (layout sh) 7) fr j 0 q in
+    let p : at ≡ placeIn (length ws) (region (layout sh) 7) fr j 0 = b ∙ ap (λ (d : Extent). placeIn (length ws) d fr j 0) a in
+    ap (λ (x : ℕ). getD ws x 0) (omega (arith, p, in-place (region (layout sh) 7) fr j 0 (length ws) i, in-place (region (layout sh) 7) fr j k (length ws) (in-cell sh fr j k (i .xs) (i .ys) h))))
+    (λ q. absurd (omega (arith, b ∙ ap (λ (d : Extent). placeIn (length ws) d fr j 0) a, no-place (region (layout sh) 7) fr j 0 (length ws) q)))
+
+abbrev words6 : ℕ → ℕ → ℕ → ℕ → ℕ → ℕ → CellWords
+words6 a b c d e f = record { tag = a; generation = b; object = c; rights = d; flags = e; unused = f }
+
+-- word by word
+pub cell-each : (m : Mem) (fr j a b c d e f : ℕ) → a ≡ m (cell fr j 0) → b ≡ m (cell fr j 1) → c ≡ m (cell fr j 2) → d ≡ m (cell fr j 3) → e ≡ m (cell fr j 4) → f ≡ m (cell fr j 5)
+    → words6 a b c d e f ≡ cellAt m fr j
+cell-each m fr j a b c d e f p q r s t u = rw (p, q, r, s, t, u)
+
+-- all six behind the place of the first
+pub cell-read : (ws : List ℕ) (sh : Shape) (fr j : ℕ) (e : Extent) (at : ℕ) → e ≡ region (layout sh) 7 → at ≡ placeIn (length ws) e fr j 0 → at < length ws
+    → words6 (getD ws at 0) (getD ws (at + 1) 0) (getD ws (at + 2) 0) (getD ws (at + 3) 0) (getD ws (at + 4) 0) (getD ws (at + 5) 0) ≡ cellAt (load ws sh) fr j
+cell-read ws sh fr j e at a b l =
+    let by : (k : ℕ) → k < 6 → getD ws (at + k) 0 ≡ load ws sh (cell fr j k) = λ k. cell-by ws sh fr j e at k a b l in
+    cell-each (load ws sh) fr j _ _ _ _ _ _ (ap (λ (x : ℕ). getD ws x 0) (sym (add-zero at)) ∙ by 0 (omega arith)) (by 1 (omega arith)) (by 2 (omega arith)) (by 3 (omega arith)) (by 4 (omega arith)) (by 5 (omega arith))

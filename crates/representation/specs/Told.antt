@@ -1,0 +1,53 @@
+-- What words tell of links, marks, lifecycles, stages and frames. Assumes nothing.
+use mathlib.Core.Path.{_≡_, refl}
+use mathlib.Core.Bool.{Bool, true, false}
+use mathlib.Core.List.{List}
+use mathlib.Core.Option.{Option, none, some}
+use Prim.Native.Nat.{ℕ, suc, _+_, _*_, _/_, _^_, _<_}
+use native.Mathlib.Omega.{arith}
+use lib.Dec.{eqb}
+use borrow.Author.Tests.{eq-eqb, ne-eqb, lt-ltb}
+use Rattle.words.specs.Pick.{clash}
+use Rattle.words.specs.Words.{Small}
+use Rattle.model.specs.State.{till, Lifecycle, Lifecycle.active, Lifecycle.tearingDown, Lifecycle.retired, isActive, Slot, Slot.absent, Slot.vacant, Slot.reserved, Slot.transferReserved, Slot.occupied, isVacant, Stage, Stage.stillNew, Stage.nowActive, Stage.nowRetired, maxSlots}
+use Rattle.model.specs.Objects.{isNowRetired}
+use Rattle.model.specs.Storage.{slotsOf}
+use Rattle.layout.specs.declared.Shape.{Shape}
+use Rattle.layout.specs.Layout.{Addr, Mem, head, entry, load}
+use Rattle.representation.specs.Represents.{entryAt, linkOf, frameOf, LifeIs, stageWord, isMarked}
+
+pub link-some : (x : Option ℕ) (f : ℕ) → linkOf x ≡ suc f → x ≡ some f
+link-some none f e = absurd (omega arith)
+link-some (some g) f e = let y : g ≡ f = omega arith in rw y
+
+-- the tag of a kind of mark: true for Reserved
+abbrev pub tagOf : Bool → ℕ
+tagOf true = 1
+tagOf false = 2
+
+pub marked-full : (x : Slot) → isMarked x ≡ true → isVacant x ≡ false
+marked-full absent e = refl
+marked-full (vacant g) e = clash e refl
+marked-full (reserved g i) e = refl
+marked-full (transferReserved g i) e = refl
+marked-full (occupied g h) e = refl
+
+pub life-tells : (w c : ℕ) (l : Lifecycle) → LifeIs w c l → eqb w 0 ≡ isActive l
+life-tells w c active e = eq-eqb w 0 e
+life-tells w c (tearingDown n) e = ne-eqb w 0 (λ z. omega arith)
+life-tells w c retired e = ne-eqb w 0 (λ z. omega arith)
+
+pub retired-tells : (g : Stage) → eqb (stageWord g) 2 ≡ isNowRetired g
+retired-tells stillNew = refl
+retired-tells nowActive = refl
+retired-tells nowRetired = refl
+
+-- the frame of slot j of page p
+pub frame-at : (m : Mem) (b p j : ℕ) → p < m (head b 5) → j < slotsOf till p → frameOf m b (p * 64 + j) ≡ m (entry (entryAt m b p) 0)
+frame-at m b p j h i =
+    let a : (p * 64 + j) / 64 ≡ p = omega arith in
+    rw (a, lt-ltb (p * 64 + j) maxSlots (omega arith), lt-ltb p (m (head b 5)) h)
+
+pub load-small : (ws : List ℕ) (sh : Shape) → Small ws → (a : Addr) → load ws sh a < 2 ^ 64
+unfolding load
+load-small ws sh h a = h _
