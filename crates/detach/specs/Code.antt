@@ -10,15 +10,19 @@ use borrow.Author.Tests.{eq-eqb, ne-eqb}
 use Rattle.words.specs.Pick.{yes-is, no-is}
 use Rattle.model.specs.State.{till}
 use Rattle.model.specs.Storage.{slotsOf}
+use Rattle.model.specs.Bounds.{slots-max}
 use Rattle.layout.specs.declared.Shape.{Shape}
-use Rattle.layout.specs.Layout.{Mem, head, entry, load, save, writes}
+use Rattle.layout.specs.Layout.{Mem, head, entry, load, save, Write.at, writes}
 use Rattle.representation.specs.Represents.{frameOf, slotWord}
+use Rattle.head.specs.declared.TableHead.{TableHead}
+use Rattle.head.specs.Head.{headAt, takenBy, emptyBy, detachedBy, nextEpoch, freeP, detachedP}
+use Rattle.head.specs.Apart.{save-off, load-other}
 use Rattle.answer.specs.Does.{both, answered}
 use Rattle.storage.specs.Sight.{look, cellP}
 use Rattle.storage.specs.Ops.{up, leaveW}
-use Rattle.storage.specs.Vacate.{slots-max}
+use Rattle.storage.specs.Late.{unlinkedW, firstWithout, unlinked-keeps, leave-by}
 use Rattle.frames.specs.Ops.{giveFrameW}
-use Rattle.detach.specs.Ops.{firstAfter, linkW, unlinkW, unlinkAll, unlinkPageW, nextEpoch, joinDetachedW, detachW, firstEmpty, takePageR}
+use Rattle.detach.specs.Ops.{firstAfter, linkW, unlinkW, unlinkAll, unlinkPageW, joinDetachedW, detachW, firstEmpty, takePageR}
 
 -- `first_after`
 pub after-first : (b n f : ℕ) → b ≡ 0 → n ≡ firstAfter b n f
@@ -39,22 +43,12 @@ link-some ws vs sh b zero f v h q = absurd (h refl)
 link-some ws vs sh b (suc l) f v h q = let y : suc l - 1 ≡ l = omega arith in rw y at q
 
 -- the stores of `unlink_slot`
-pub unlink-is : (ws : List ℕ) (sh : Shape) (b k : ℕ) (n q h d c x : ℕ) (w₁ w₂ w₃ w₄ : List ℕ)
-    → n ≡ slotWord (load ws sh) b k 2 → q ≡ slotWord (load ws sh) b k 3 → h ≡ load ws sh (head b 6) → d ≡ load ws sh (head b 7) → c ≡ d - 1 → x ≡ firstAfter q n h
-    → w₁ ≡ linkW ws sh b q 2 n → w₂ ≡ linkW w₁ sh b n 3 q → w₃ ≡ save w₂ sh (head b 6) x → w₄ ≡ save w₃ sh (head b 7) c
-    → w₄ ≡ unlinkW ws sh b k
-unfolding unlinkW look
-unlink-is ws sh b k n q h d c x w₁ w₂ w₃ w₄ e₁ e₂ e₃ e₄ e₅ e₆ a₁ a₂ a₃ a₄ = rw (a₄, a₃, a₂, a₁, e₆, e₅, e₄, e₃, e₂, e₁)
-
--- `page_slots`
-pub slots-full : (p : ℕ) → p < 262143 → 64 ≡ slotsOf till p
-slots-full p h = omega (arith, slots-max)
-
-pub slots-last : (p : ℕ) → p ≡ 262143 → 63 ≡ slotsOf till p
-slots-last p h = omega (arith, slots-max)
-
-pub slots-none : (p : ℕ) → 262143 ≤ p → (p ≡ 262143 → ⊥) → 0 ≡ slotsOf till p
-slots-none p h k = omega (arith, slots-max)
+pub unlink-is : (ws : List ℕ) (sh : Shape) (b k : ℕ) (h t : TableHead) (n q x : ℕ) (w₁ w₂ w₃ : List ℕ)
+    → h ≡ headAt (load ws sh) b → n ≡ slotWord (load ws sh) b k 2 → q ≡ slotWord (load ws sh) b k 3 → x ≡ firstAfter q n (h .«first_free») → t ≡ takenBy h x
+    → w₁ ≡ linkW ws sh b q 2 n → w₂ ≡ linkW w₁ sh b n 3 q → w₃ ≡ writes w₂ sh (freeP b t)
+    → w₃ ≡ unlinkW ws sh b k
+unfolding unlinkW look headAt
+unlink-is ws sh b k h t n q x w₁ w₂ w₃ e₁ e₂ e₃ e₄ e₅ a₁ a₂ a₃ = rw (a₃, a₂, a₁, e₅, e₄, e₃, e₂, e₁)
 
 -- a page that has a slot
 pub slots-low : (p n j : ℕ) → n ≡ slotsOf till p → j < n → (p < 262144) × (j < 64)
@@ -73,28 +67,40 @@ pub unlink-end : (ws us : List ℕ) (sh : Shape) (b p j n : ℕ) → us ≡ unli
 unfolding unlinkPageW
 unlink-end ws us sh b p j n e q d = rw (← d, ← q) e
 
--- `next_epoch`
-pub epoch-more : (e : ℕ) → e < 0xffff_ffff_ffff_ffff → e + 1 ≡ nextEpoch e
-epoch-more e h = omega arith
-
-pub epoch-wraps : (e : ℕ) → e < 2 ^ 64 → 0xffff_ffff_ffff_ffff ≤ e → 0 ≡ nextEpoch e
-epoch-wraps e h k = omega arith
-
--- the stores of `join_detached`
-pub join-is : (ws : List ℕ) (sh : Shape) (b p : ℕ) (e d n y x : ℕ) (w₁ w₂ w₃ w₄ : List ℕ)
-    → e ≡ load ws sh (head b 10) → d ≡ load ws sh (head b 9) → n ≡ load ws sh (head b 4) → y ≡ up p → x ≡ nextEpoch n
-    → w₁ ≡ save ws sh (entry (e + p) 0) 0 → w₂ ≡ save w₁ sh (entry (e + p) 3) d → w₃ ≡ save w₂ sh (head b 9) y → w₄ ≡ save w₃ sh (head b 4) x
-    → w₄ ≡ joinDetachedW ws sh b p
+-- a page that left the empty pages' order and is detached, with the head's words last
+detached-last : (ws : List ℕ) (sh : Shape) (b e p x d n : ℕ) → load (save ws sh (head b 8) x) sh (head b 10) ≡ e → load (save ws sh (head b 8) x) sh (head b 9) ≡ d
+    → load (save ws sh (head b 8) x) sh (head b 4) ≡ n
+    → joinDetachedW (save ws sh (head b 8) x) sh b p
+    ≡ writes (save (save ws sh (entry (e + p) 0) 0) sh (entry (e + p) 3) d) sh (at (head b 8) x ∷ at (head b 9) (up p) ∷ at (head b 4) (nextEpoch n) ∷ [])
 unfolding joinDetachedW
-join-is ws sh b p e d n y x w₁ w₂ w₃ w₄ e₁ e₂ e₃ e₄ e₅ a₁ a₂ a₃ a₄ = rw (a₄, a₃, a₂, a₁, e₅, e₄, e₃, e₂, e₁)
+detached-last ws sh b e p x d n q i j = rw (q, i, j)
+    (ap (λ (w : List ℕ). save (save w sh (head b 9) (up p)) sh (head b 4) (nextEpoch n)) (save-off ws sh (head b 8) x (at (entry (e + p) 0) 0 ∷ at (entry (e + p) 3) d ∷ []) (refl, (refl, tt))))
+
+-- `join_detached`
+pub join-is : (ws : List ℕ) (sh : Shape) (b p : ℕ) (h t u : TableHead) (x y : ℕ) (w₁ w₂ w₃ w₄ : List ℕ)
+    → h ≡ headAt (load ws sh) b → w₁ ≡ unlinkedW ws sh (h .entry) p → x ≡ firstWithout (load ws sh) (h .entry) p (h .«first_empty») → t ≡ emptyBy h x → y ≡ up p → u ≡ detachedBy t y
+    → w₂ ≡ save w₁ sh (entry (h .entry + p) 0) 0 → w₃ ≡ save w₂ sh (entry (h .entry + p) 3) (h .«first_detached») → w₄ ≡ writes w₃ sh (detachedP b u)
+    → w₄ ≡ joinDetachedW (leaveW ws sh b p) sh b p
+unfolding headAt
+join-is ws sh b p h t u x y w₁ w₂ w₃ w₄ e₁ a₁ e₂ e₃ e₄ e₅ a₂ a₃ a₄ =
+    let m : Mem = load ws sh in
+    let e : ℕ = m (head b 10) in
+    let z : ℕ = firstWithout m e p (m (head b 8)) in
+    let v : List ℕ = unlinkedW ws sh e p in
+    rw (a₄, a₃, a₂, e₅, e₄, e₃, e₂, a₁, e₁)
+    (sym (ap (λ (w : List ℕ). joinDetachedW w sh b p) (leave-by ws sh b e p refl (m (head b 8)) refl)
+    ∙ detached-last v sh b e p z (m (head b 9)) (m (head b 4))
+    (load-other v sh (head b 8) (head b 10) refl z ∙ unlinked-keeps ws sh b 10 e p)
+    (load-other v sh (head b 8) (head b 9) refl z ∙ unlinked-keeps ws sh b 9 e p)
+    (load-other v sh (head b 8) (head b 4) refl z ∙ unlinked-keeps ws sh b 4 e p)))
 
 -- the steps of `detach_page`
-pub detach-is : (ws : List ℕ) (sh : Shape) (b p : ℕ) (e x f : ℕ) (w₁ w₂ w₃ w₄ : List ℕ)
+pub detach-is : (ws : List ℕ) (sh : Shape) (b p : ℕ) (e x f : ℕ) (w₁ w₂ w₃ : List ℕ)
     → e ≡ load ws sh (head b 10) → x ≡ load ws sh (entry (e + p) 0) → f ≡ x - 1
-    → w₁ ≡ unlinkPageW ws sh b p → w₂ ≡ leaveW w₁ sh b p → w₃ ≡ joinDetachedW w₂ sh b p → w₄ ≡ giveFrameW w₃ sh f
-    → w₄ ≡ detachW ws sh b p
+    → w₁ ≡ unlinkPageW ws sh b p → w₂ ≡ joinDetachedW (leaveW w₁ sh b p) sh b p → w₃ ≡ giveFrameW w₂ sh f
+    → w₃ ≡ detachW ws sh b p
 unfolding detachW look
-detach-is ws sh b p e x f w₁ w₂ w₃ w₄ e₁ e₂ e₃ a₁ a₂ a₃ a₄ = rw (a₄, a₃, a₂, a₁, e₃, e₂, e₁)
+detach-is ws sh b p e x f w₁ w₂ w₃ e₁ e₂ e₃ a₁ a₂ a₃ = rw (a₃, a₂, a₁, e₃, e₂, e₁)
 
 -- `first_empty`
 pub first-yes : (m : Mem) (b w h : ℕ) (t : Bool) → w ≡ m (head b 2) → t ≡ eqb w 0 → t ≡ true → h ≡ m (head b 8) → h ≡ firstEmpty m b

@@ -3,41 +3,34 @@ use mathlib.Core.Path.{_≡_, refl, sym, ap, _∙_, fun-ext}
 use mathlib.Core.Bool.{true, false, _&&_, and-false, and-true}
 use mathlib.Core.Logic.{⊎-elim}
 use mathlib.Core.List.{List}
-use Prim.Native.Nat.{ℕ, zero, suc, _+_, _/_, _%_, _≤_, _<_}
+use Prim.Native.Nat.{ℕ, zero, suc, _/_, _%_, _<_}
 use native.Mathlib.Omega.{arith}
-use lib.ListN.{length}
 use lib.Dec.{eqb, ltb}
-use borrow.Author.Tests.{eqb-true, eqb-false, eq-eqb, ne-eqb, lt-ltb}
-use Rattle.words.specs.Pick.{pick, bool, clash}
-use Rattle.model.specs.Base.{pick as choose, occurs, without, dropIf}
+use borrow.Author.Tests.{eqb-true, eq-eqb, ne-eqb, lt-ltb}
+use Rattle.words.specs.Pick.{pick, bool, clash, eqb-add}
+use Rattle.model.specs.Base.{occurs, without, dropIf}
 use Rattle.model.specs.State.{till, Slot.absent, Table, isAbsent, maxSlots}
 use Rattle.model.specs.Storage.{withFree, onPage, detach}
-use Rattle.model.specs.Create.{maxPages}
 use Rattle.model.specs.WellFormed.{isAttached}
 use Rattle.model.specs.Tests.{pick-same}
 use Rattle.model.specs.Sums.{occurs-without, occurs-dropIf}
+use Rattle.model.specs.Bounds.{pages-max}
 use Rattle.invariant.specs.Pages.{till-sane, vacant-there, busy-other}
 use Rattle.invariant.specs.Orders.{Sound, attached-below, below-of, absent-past}
-use Rattle.layout.specs.declared.Shape.{Shape}
-use Rattle.layout.specs.Layout.{Mem, total, head, entry, load, upds}
+use Rattle.layout.specs.Layout.{Mem, head, entry, upds}
 use Rattle.representation.specs.Represents.{entryAt, wordIn, frameOf}
 use Rattle.storage.specs.Order.{chain-frame, chain-without, next-in, prev-in, linked-frame}
-use Rattle.storage.specs.Sight.{Spot, Spot.hd, Spot.pg, Spot.sl, look, Fit, Moves, moves}
+use Rattle.storage.specs.Sight.{Spot, Spot.hd, Spot.pg, Spot.sl, look}
 use Rattle.storage.specs.Slots.{slotV, Seen, free-vacant}
-use Rattle.storage.specs.Ops.{up, leaveP, leaveW}
+use Rattle.storage.specs.Ops.{up, leaveP}
 use Rattle.storage.specs.Take.{leaveV}
-use Rattle.detach.specs.Ops.{nextEpoch, joinDetachedP}
+use Rattle.head.specs.Head.{nextEpoch}
+use Rattle.detach.specs.Ops.{joinDetachedP}
 
 -- ---- the page leaves the empty pages' order
 
 abbrev pub withEmpty : Table → List ℕ → Table
 withEmpty t e = record { limit = t .limit; mask = t .mask; life = t .life; epoch = t .epoch; size = t .size; pages = t .pages; slots = t .slots; free = t .free; empty = e; detached = t .detached }
-
-pub leave-moves : (ws : List ℕ) (sh : Shape) (b : ℕ) (v : Spot → ℕ) (p : ℕ) → total sh ≤ length ws → Fit sh (load ws sh) b → look (load ws sh) b ≡ v
-    → ((q : ℕ) → v (pg p 4) ≡ suc q → q < load ws sh (head b 5)) → ((q : ℕ) → v (pg p 3) ≡ suc q → q < load ws sh (head b 5)) → Moves ws (leaveW ws sh b p) sh b (leaveV v p)
-unfolding leaveW leaveP
-leave-moves ws sh b v p h fit e before after =
-    moves ws sh b v (λ w. leaveP w p) h fit e ((omega arith, omega arith, before), ((omega arith, omega arith, after), ((omega arith, omega arith), tt)))
 
 -- no slot changes
 pub leave-slots : (v : Spot → ℕ) (p i f : ℕ) → leaveV v p (sl i f) ≡ v (sl i f)
@@ -89,11 +82,6 @@ joinDetachedV v p (hd f) = pick (eqb f 4) (nextEpoch (v (hd 4))) (pick (eqb f 9)
 joinDetachedV v p (pg q f) = pick (eqb f 3 && eqb q p) (v (hd 9)) (pick (eqb f 0 && eqb q p) 0 (v (pg q f)))
 joinDetachedV v p (sl k f) = pick (eqb (k / 64) p) 0 (v (sl k f))
 
-eqb-add : (e p q : ℕ) → eqb (e + p) (e + q) ≡ eqb p q
-eqb-add e p q = bool (eqb p q)
-    (λ d. rw d (eq-eqb (e + p) (e + q) (omega (arith, eqb-true p q d))))
-    (λ d. let n : p ≡ q → ⊥ = eqb-false p q d in rw d (ne-eqb (e + p) (e + q) (λ y. n (omega arith))))
-
 module _ (n : Mem) (b p : ℕ) where
   abbrev joined : Mem
   joined = upds n (joinDetachedP n b p)
@@ -101,7 +89,7 @@ module _ (n : Mem) (b p : ℕ) where
   join-page : (q f : ℕ) → joined (entry (entryAt joined b q) f) ≡ pick (eqb f 3 && eqb q p) (n (head b 9)) (pick (eqb f 0 && eqb q p) 0 (n (entry (entryAt n b q) f)))
   join-page q f = rw (eqb-add (n (head b 10)) q p)
 
-  join-frame : (k : ℕ) → frameOf joined b k ≡ choose (eqb (k / 64) p) 0 (frameOf n b k)
+  join-frame : (k : ℕ) → frameOf joined b k ≡ pick (eqb (k / 64) p) 0 (frameOf n b k)
   join-frame k = bool (eqb (k / 64) p)
       (λ e. rw (eqb-add (n (head b 10)) (k / 64) p, e) (bool (ltb k maxSlots) (λ d. rw d (pick-same (ltb (k / 64) (n (head b 5))))) (λ d. rw d)))
       (λ e. rw (eqb-add (n (head b 10)) (k / 64) p, e))
@@ -124,10 +112,6 @@ module _ (n : Mem) (b p : ℕ) where
   pub join-shows : look joined b ≡ joinDetachedV (look n b) p
   join-shows = fun-ext join-look
 
-pages-max : maxPages till ≡ 262144
-unfolding maxSlots
-pages-max = refl
-
 module _ (m : Mem) (v : Spot → ℕ) (t : Table) (p : ℕ) (z : Seen m v (withEmpty (withFree t (dropIf (onPage till p) (t .free))) (without p (t .empty))))
     (o : Sound till t (t .free)) (att : isAttached t p ≡ true) where
   under : p < t .size
@@ -138,7 +122,7 @@ module _ (m : Mem) (v : Spot → ℕ) (t : Table) (p : ℕ) (z : Seen m v (withE
   unfolding joinDetachedV
   join-off k f e = rw (ne-eqb (k / 64) p e)
 
-  join-slots : (k : ℕ) → slotV m (joinDetachedV v p) k ≡ choose (onPage till p k) absent (t .slots k)
+  join-slots : (k : ℕ) → slotV m (joinDetachedV v p) k ≡ pick (onPage till p k) absent (t .slots k)
   unfolding joinDetachedV
   join-slots k = bool (eqb (k / 64) p)
       (λ e. bool (ltb k maxSlots)
@@ -176,7 +160,7 @@ module _ (m : Mem) (v : Spot → ℕ) (t : Table) (p : ℕ) (z : Seen m v (withE
     high = λ q h. bool (eqb q p) (λ e. rw (e, eqb-true q p e) (z .high p under)) (λ e. rw e (z .high q h));
     busy = λ q h a. bool (eqb q p)
         (λ e. clash {b = false} (rw e at a) refl)
-        (λ e. z .busy q h (rw e at a) ∙ busy-other till till-sane (t .slots) (λ k. choose (onPage till p k) absent (t .slots k)) q (λ j i l. rw (i, e)));
+        (λ e. z .busy q h (rw e at a) ∙ busy-other till till-sane (t .slots) (λ k. pick (onPage till p k) absent (t .slots k)) q (λ j i l. rw (i, e)));
     slots = join-slots;
     free = chain-frame (λ k. v (sl k 2)) (λ k. v (sl k 3)) _ _ (v (hd 6)) 0 (dropIf (onPage till p) (t .free)) (z .free) (λ k h. (join-off k 2 (free-off k h), join-off k 3 (free-off k h)));
     freeCount = z .freeCount;

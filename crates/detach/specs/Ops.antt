@@ -1,6 +1,6 @@
 -- A page leaves its table: what stores are made, and the words then. Assumes nothing.
 use mathlib.Core.List.{List, [], _∷_}
-use Prim.Native.Nat.{ℕ, zero, suc, _+_, _-_, _*_, _%_, _^_}
+use Prim.Native.Nat.{ℕ, zero, suc, _+_, _-_, _*_}
 use lib.Dec.{eqb, ltb}
 use Rattle.words.specs.Pick.{pick}
 use Rattle.model.specs.State.{till}
@@ -9,6 +9,7 @@ use Rattle.layout.specs.declared.Shape.{Shape}
 use Rattle.layout.specs.Layout.{Mem, head, entry, load, Write, Write.at, writes}
 use Rattle.representation.specs.Represents.{entryAt}
 use Rattle.answer.specs.Does.{Both, both, answered, refuseR}
+use Rattle.head.specs.Head.{nextEpoch}
 use Rattle.storage.specs.Sight.{Spot.hd, Spot.pg, Spot.sl, Put.toHead, Put.toSlot}
 use Rattle.storage.specs.Ops.{up, done, seen, leaveW}
 use Rattle.frames.specs.Ops.{giveFrameW}
@@ -37,10 +38,6 @@ unlinkAll ws sh b a (suc n) = unlinkW (unlinkAll ws sh b a n) sh b (a + n)
 -- the slots of page p
 unfoldable pub unlinkPageW : List ℕ → Shape → ℕ → ℕ → List ℕ
 unlinkPageW ws sh b p = unlinkAll ws sh b (p * 64) (slotsOf till p)
-
--- "The epoch wraps from 2^64 - 1 to 0"
-abbrev pub nextEpoch : ℕ → ℕ
-nextEpoch e = (e + 1) % 2 ^ 64
 
 -- page p has no frame and goes to the head of the detached pages' order; its high mark stays, and the epoch advances
 abbrev pub joinDetachedP : Mem → ℕ → ℕ → List Write

@@ -10,11 +10,12 @@ use borrow.Author.Tests.{eqb-true, eqb-false, lt-ltb, le-ltb, ltb-true, ltb-fals
 use Rattle.words.specs.Pick.{bool, clash, both}
 use Rattle.model.specs.Base.{pick, occurs, without, dropIf, bit}
 use Rattle.model.specs.State.{till, Slot, Slot.absent, Slot.vacant, Slot.reserved, Slot.transferReserved, Slot.occupied, Table, isVacant, isAbsent, isBusy, maxSlots}
-use Rattle.model.specs.Storage.{withFree, busyIn, busyOf, slotsOf, onPage}
+use Rattle.model.specs.Storage.{withFree, busyOf, slotsOf, onPage}
 use Rattle.model.specs.WellFormed.{isAttached}
 use Rattle.model.specs.Sums.{occurs-dropIf}
 use Rattle.invariant.specs.Pages.{till-sane, vacant-there, page-in, page-of, page-below, on-page}
 use Rattle.invariant.specs.Orders.{Sound}
+use Rattle.invariant.specs.Growth.{busy-nowhere}
 use Rattle.layout.specs.declared.Shape.{Shape}
 use Rattle.layout.specs.Layout.{total, load}
 use Rattle.representation.specs.Represents.{frameOf}
@@ -68,14 +69,6 @@ run-page p x = bool (inRun (p * 64) (slotsOf till p) x)
 
 -- ---- the slots of an empty page are vacant
 
-busyIn-all : (f : ℕ → Slot) (a n : ℕ) → busyIn f a n ≡ 0 → (j : ℕ) → a ≤ j → j < a + n → isBusy (f j) ≡ false
-busyIn-all f a zero h j l k = absurd (omega arith)
-busyIn-all f a (suc n) h j l k = bool (isBusy (f a))
-    (λ e. let z : suc (busyIn f (suc a) n) ≡ 0 = rw e at h in absurd (omega arith))
-    (λ e. let z : busyIn f (suc a) n ≡ 0 = rw e at h in bool (eqb j a)
-    (λ d. rw (eqb-true j a d) e)
-    (λ d. let y : j ≡ a → ⊥ = eqb-false j a d in busyIn-all f (suc a) n z j (omega arith) (omega arith)))
-
 idle-vacant : (x : Slot) → isAbsent x ≡ false → isBusy x ≡ false → isVacant x ≡ true
 idle-vacant absent e d = clash refl e
 idle-vacant (vacant g) e d = refl
@@ -87,7 +80,7 @@ page-vacant : (t : Table) (fr : List ℕ) → Sound till t fr → (p : ℕ) → 
     → (i : ℕ) → p * 64 ≤ i → i < p * 64 + slotsOf till p → isVacant (t .slots i) ≡ true
 page-vacant t fr o p att none i h l = idle-vacant (t .slots i)
     (o .there i ∙ rw (page-of till till-sane p i h l, att, lt-ltb i maxSlots (page-below till till-sane p i h l)))
-    (busyIn-all (t .slots) (p * 64) (slotsOf till p) none i h l)
+    (busy-nowhere (t .slots) (p * 64) (slotsOf till p) none i h l)
 
 -- ---- one slot, in the words
 

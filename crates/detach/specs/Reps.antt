@@ -20,11 +20,12 @@ use Rattle.invariant.specs.Orders.{Sound, below-of, detach-sound}
 use Rattle.layout.specs.declared.Shape.{Shape}
 use Rattle.layout.specs.Layout.{Mem, head, entry, group, load, in-head, in-entry, InAll, length-writes, load-writes, upds, Write.at}
 use Rattle.representation.specs.Represents.{entryAt, linkOf, slotWord, TableIs, isMarked}
+use Rattle.representation.specs.Told.{marked-full}
 use Rattle.storage.specs.Sight.{Spot, Spot.sl, look, OnlyTable, Still, still-only, still-fit, Moves, only-then}
 use Rattle.storage.specs.Slots.{Seen, unsee, empty-attached, empty-below}
 use Rattle.storage.specs.Ops.{leaveW}
 use Rattle.storage.specs.Take.{leaveV}
-use Rattle.storage.specs.Turns.{Ready}
+use Rattle.storage.specs.Turns.{Ready, leave-moves}
 use Rattle.storage.specs.Reps.{Held, ready-of}
 use Rattle.frames.specs.Paged.{OnlyPaged, table-paged, paged-write, paged-row, entry-below}
 use Rattle.frames.specs.Whole.{paged, paged-mark}
@@ -32,14 +33,7 @@ use Rattle.frames.specs.Words.{PoolSame, table-pool}
 use Rattle.frames.specs.Done.{held-given}
 use Rattle.detach.specs.Ops.{unlinkPageW, joinDetachedP, joinDetachedW, detachW}
 use Rattle.detach.specs.Page.{Cleared, page-cleared}
-use Rattle.detach.specs.Detached.{withEmpty, leave-moves, leave-slots, leave-seen, before-empty, after-empty, joinDetachedV, join-shows, join-off, join-seen}
-
-marked-full : (x : Slot) → isMarked x ≡ true → isVacant x ≡ false
-marked-full absent e = refl
-marked-full (vacant g) e = clash e refl
-marked-full (reserved g i) e = refl
-marked-full (transferReserved g i) e = refl
-marked-full (occupied g h) e = refl
+use Rattle.detach.specs.Detached.{withEmpty, leave-slots, leave-seen, before-empty, after-empty, joinDetachedV, join-shows, join-off, join-seen}
 
 marked-there : (x : Slot) → isMarked x ≡ true → isAbsent x ≡ false
 marked-there absent e = clash e refl

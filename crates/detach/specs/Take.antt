@@ -6,10 +6,10 @@ use mathlib.Core.Option.{Option, none, some}
 use Prim.Native.Nat.{ℕ, suc, _-_, _<_}
 use native.Mathlib.Omega.{arith}
 use lib.Dec.{eqb, ltb}
-use borrow.Author.Tests.{eq-eqb, ne-eqb, ltb-true, ltb-false, lt-ltb, le-ltb}
+use borrow.Author.Tests.{ne-eqb, ltb-true, ltb-false, lt-ltb, le-ltb}
 use Rattle.words.specs.Pick.{pick, bool, clash}
 use Rattle.model.specs.Base.{occurs, insert, isSome}
-use Rattle.model.specs.State.{till, Lifecycle, Lifecycle.active, Lifecycle.tearingDown, Lifecycle.retired, Table, State, isActive}
+use Rattle.model.specs.State.{till, Table, State, isActive}
 use Rattle.model.specs.Storage.{detach}
 use Rattle.model.specs.Change.{withTable, withFrames}
 use Rattle.model.specs.Request.{Request.takeEmptyPage, Answer.taken}
@@ -18,19 +18,14 @@ use Rattle.model.specs.Step.{takeAt, takeEmptyPageOf, decide}
 use Rattle.model.specs.Words.{usedWords}
 use Rattle.layout.specs.declared.Shape.{Shape}
 use Rattle.layout.specs.Layout.{Mem, head, entry, load}
-use Rattle.representation.specs.Represents.{entryAt, LifeIs, Chain, TableIs, Rep}
+use Rattle.representation.specs.Represents.{entryAt, Chain, TableIs, Rep}
+use Rattle.representation.specs.Told.{life-tells}
 use Rattle.answer.specs.Does.{both, answered, Does, does-refused, does-accepted}
 use Rattle.storage.specs.Order.{occurs-head}
 use Rattle.storage.specs.Slots.{empty-attached}
-use Rattle.storage.specs.Whole.{placed-of}
-use Rattle.storage.specs.Reps.{Held}
+use Rattle.storage.specs.Reps.{Held, held-of}
 use Rattle.detach.specs.Ops.{detachW, firstEmpty, takePageR}
 use Rattle.detach.specs.Reps.{detach-held}
-
-life-tells : (w c : ℕ) (l : Lifecycle) → LifeIs w c l → eqb w 0 ≡ isActive l
-life-tells w c active e = eq-eqb w 0 e
-life-tells w c (tearingDown n) e = ne-eqb w 0 (λ z. omega arith)
-life-tells w c retired e = ne-eqb w 0 (λ z. omega arith)
 
 module _ (ws os : List ℕ) (sh : Shape) (base : ℕ) (s : State) (i : Rep ws sh s) (b : ℕ) where
   abbrev t : Table
@@ -48,7 +43,7 @@ module _ (ws os : List ℕ) (sh : Shape) (base : ℕ) (s : State) (i : Rep ws sh
     table = i .reps .memory .tables b lb
 
     held : Held ws sh s
-    held = record { reps = i .reps; placed = placed-of s (i .wellFormed) }
+    held = held-of ws sh s i
 
     life-is : eqb (m (head b 2)) 0 ≡ isActive (t .life)
     life-is = life-tells (m (head b 2)) (m (head b 3)) (t .life) (table .life)

@@ -8,7 +8,8 @@ ghost use Rattle.model.specs.State.{till};
 ghost use Rattle.model.specs.Storage.{slotsOf};
 ghost use Rattle.layout.specs.Layout.{load as loadAt};
 ghost use Rattle.answer.specs.Does.{both};
-ghost use Rattle.detach.specs.Ops.{firstAfter, linkW, unlinkW, unlinkPageW, nextEpoch, joinDetachedW, detachW, firstEmpty, takePageR};
+ghost use Rattle.storage.specs.Ops.{leaveW};
+ghost use Rattle.detach.specs.Ops.{firstAfter, linkW, unlinkW, unlinkPageW, joinDetachedW, detachW, firstEmpty, takePageR};
 use layout::Shape;
 
 // Word f of the slot of a link; through 0 nothing.
@@ -32,15 +33,13 @@ fn first_after(before: u64, next: u64, first: u64) -> u64
 fn unlink_slot(s: &mut [u64], sh: Shape, b: u64, k: u64)
     ensures words { λ _. ⌜ now (s .exit) ≡ unlinkW (now (s .entry)) sh b k ⌝ }
 {
+    let h = head::load(s, sh, b);
     let n = storage::slot_word(s, sh, b, k, 2);
     let q = storage::slot_word(s, sh, b, k, 3);
-    let h = layout::head_word(s, sh, b, 6);
-    let c = words::dec(layout::head_word(s, sh, b, 7));
-    let x = first_after(q, n, h);
+    let t = head::take_local(h, first_after(q, n, h.first_free));
     put_link(s, sh, b, q, 2, n);
     put_link(s, sh, b, n, 3, q);
-    layout::put_head(s, sh, b, 6, x);
-    layout::put_head(s, sh, b, 7, c);
+    head::store_free(s, sh, b, t);
 }
 
 // "Page 262,143 has 63 slots".
@@ -68,25 +67,18 @@ fn unlink_page(s: &mut [u64], sh: Shape, b: u64, p: u64)
     }
 }
 
-// "The epoch wraps from 2^64 - 1 to 0".
-fn next_epoch(e: u64) -> u64
-    ensures { λ r. ⌜ r ≡ nextEpoch e ⌝ }
-{
-    if e < 0xffff_ffff_ffff_ffff { e + 1 } else { 0 }
-}
-
-// Page p has no frame and goes to the head of the detached pages' order; its high mark stays, and the epoch advances.
+// Page p has no frame and goes from the empty pages' order to the head of the detached pages' order; its high mark stays, and the epoch advances.
 fn join_detached(s: &mut [u64], sh: Shape, b: u64, p: u64)
-    ensures words { λ _. ⌜ now (s .exit) ≡ joinDetachedW (now (s .entry)) sh b p ⌝ }
+    ensures words { λ _. ⌜ now (s .exit) ≡ joinDetachedW (leaveW (now (s .entry)) sh b p) sh b p ⌝ }
 {
-    let e = layout::head_word(s, sh, b, 10);
-    let d = layout::head_word(s, sh, b, 9);
-    let y = words::inc(p);
-    let x = next_epoch(layout::head_word(s, sh, b, 4));
+    let h = head::load(s, sh, b);
+    let e = h.entry;
+    let x = storage::leave_order(s, sh, e, p, h.first_empty);
+    let t = head::empty_local(h, x);
+    let u = head::detach_local(t, words::inc(p));
     storage::put_page(s, sh, e, p, 0, 0);
-    storage::put_page(s, sh, e, p, 3, d);
-    layout::put_head(s, sh, b, 9, y);
-    layout::put_head(s, sh, b, 4, x);
+    storage::put_page(s, sh, e, p, 3, h.first_detached);
+    head::store_detached(s, sh, b, u);
 }
 
 // Page p, which is empty, is detached and its frame given back.
@@ -96,7 +88,6 @@ pub fn detach_page(s: &mut [u64], sh: Shape, b: u64, p: u64)
     let e = layout::head_word(s, sh, b, 10);
     let f = words::dec(storage::page_word(s, sh, e, p, 0));
     unlink_page(s, sh, b, p);
-    storage::leave_empty(s, sh, b, p);
     join_detached(s, sh, b, p);
     frames::give_frame(s, sh, f);
 }

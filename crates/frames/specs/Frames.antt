@@ -15,11 +15,13 @@ use Rattle.model.specs.State.{Table, State}
 use Rattle.model.specs.WellFormed.{Rising, pagesWith, Frames}
 use Rattle.model.specs.Tests.{apart, bit-true, bit-small}
 use Rattle.model.specs.Sums.{occurs-insert, sum-put, sum-part}
+use Rattle.model.specs.Counting.{bit-same}
 use Rattle.invariant.specs.Frames.{owned, rising-tail, rising-insert}
 use Rattle.layout.specs.declared.Shape.{Shape}
 use Rattle.layout.specs.Layout.{Mem, head, owner}
 use Rattle.representation.specs.Represents.{entryAt, FramesAre, Represents}
-use Rattle.storage.specs.Order.{same?, bit-same, bit-other, occurs-head, length-below}
+use Rattle.representation.specs.Unique.{rising-above}
+use Rattle.storage.specs.Order.{same?, occurs-head, length-below}
 use Rattle.storage.specs.Ops.{up}
 use Rattle.storage.specs.Whole.{Placed}
 use Rattle.frames.specs.Paged.{entries-apart}
@@ -27,11 +29,6 @@ use Rattle.frames.specs.Whole.{paged}
 use Rattle.frames.specs.Pool.{Counted, counted-of, Pooled, down, take-counted, give-counted}
 
 -- ---- lists of free frames
-
--- none is below the lowest
-pub rising-above : (z x : ℕ) (l : List ℕ) → Rising (x ∷ l) → z < x → occurs z (x ∷ l) ≡ 0
-rising-above z x [] r h = omega (arith, bit-other z x (λ e. omega arith))
-rising-above z x (y ∷ l) r h = omega (arith, bit-other z x (λ e. omega arith), rising-above z y l (r .1) (omega (arith, r .0)))
 
 -- and it stands there once
 pub rising-head : (x : ℕ) (l : List ℕ) → Rising (x ∷ l) → occurs x l ≡ 0

@@ -3,26 +3,28 @@ use mathlib.Core.Path.{_≡_, refl, sym, ap, _∙_}
 use mathlib.Core.Bool.{true, false}
 use mathlib.Core.List.{List, _∷_}
 use mathlib.Core.Option.{Option, none, some}
-use Prim.Native.Nat.{ℕ, zero, suc, _+_, _*_, _/_, _≤_, _<_}
+use Prim.Native.Nat.{ℕ, suc, _+_, _*_, _/_, _≤_, _<_}
 use native.Mathlib.Omega.{arith}
 use native.Mathlib.Nat.{div-add-mod', mul-le-mul-right}
 use lib.Dec.{ltb}
-use borrow.Author.Tests.{eq-eqb, ne-eqb, eqb-true, ltb-true, ltb-false, lt-ltb}
-use Rattle.words.specs.Pick.{bool, clash}
+use borrow.Author.Tests.{eq-eqb, ne-eqb, eqb-true, lt-ltb}
+use Rattle.words.specs.Pick.{clash}
 use Rattle.model.specs.Base.{bit, occurs, sum, isSome}
 use Rattle.model.specs.State.{till, State}
 use Rattle.model.specs.WellFormed.{Rising, isFrame, Frames}
 use Rattle.model.specs.Sums.{sum-zero}
 use Rattle.model.specs.Tests.{bit-true}
+use Rattle.model.specs.Counting.{bit-same, sum-some}
 use Rattle.invariant.specs.Orders.{attached-below}
 use Rattle.layout.specs.declared.Shape.{Shape}
 use Rattle.layout.specs.Layout.{Mem, owner, group, load}
 use Rattle.representation.specs.Represents.{FramesAre}
-use Rattle.storage.specs.Order.{bit-same, occurs-head}
+use Rattle.representation.specs.Unique.{rising-above}
+use Rattle.storage.specs.Order.{occurs-head}
 use Rattle.storage.specs.Whole.{Placed}
 use Rattle.storage.specs.Reps.{Held}
 use Rattle.frames.specs.Pool.{span, span-some, inGroup, more-group, Counted, counted-of}
-use Rattle.frames.specs.Frames.{rising-above, free-below}
+use Rattle.frames.specs.Frames.{free-below}
 use Rattle.frames.specs.Ops.{firstOf, hasFree, lowestAt, first-is}
 
 -- what the test says of a count and of an owner
@@ -65,13 +67,6 @@ module _ (m : Mem) (n f : ℕ) (l : List ℕ) (r : Counted m n (f ∷ l)) (up : 
       (owner-has m f (r .free f (occurs-head f l))))
 
 -- ---- in a state
-
--- a sum that is not 0 has a part that is not
-sum-some : (n : ℕ) (f : ℕ → ℕ) → 0 < sum n f → (k : ℕ) × (k < n) × (0 < f k)
-sum-some zero f h = absurd (omega arith)
-sum-some (suc n) f h = bool (ltb 0 (f n))
-    (λ e. (n, omega arith, ltb-true 0 (f n) e))
-    (λ e. let q = sum-some n f (omega (arith, ltb-false 0 (f n) e)) in (q .0, omega (arith, q .1), q .2))
 
 frame-some : (x : Option ℕ) (f : ℕ) → isFrame x f ≡ true → x ≡ some f
 frame-some none f e = clash e refl

@@ -1,18 +1,19 @@
 -- A change of one table's pages, in the state: every other table, the objects and the rows are as they were. Assumes nothing.
 use mathlib.Core.Path.{_≡_, refl, sym, ap, _∙_}
 use mathlib.Core.Logic.{_⊎_, inl, inr, ⊎-elim}
-use mathlib.Core.Option.{Option, none, some}
 use Prim.Native.Nat.{ℕ, zero, suc, _+_, _-_, _/_, _%_, _≤_, _<_}
 use native.Mathlib.Omega.{arith}
 use lib.Dec.{ltb}
-use borrow.Author.Tests.{ltb-true, ltb-false}
+use borrow.Author.Tests.{ltb-true}
 use Rattle.words.specs.Pick.{bool}
-use Rattle.model.specs.Base.{occurs, sum}
+use Rattle.model.specs.Base.{occurs}
 use Rattle.model.specs.State.{Table, State}
+use Rattle.model.specs.Counting.{sum-next, runs-apart}
 use Rattle.layout.specs.declared.Shape.{Shape}
 use Rattle.layout.specs.Layout.{Addr, Addr.reg, Mem, root, head, entry, owner, cell, object, index, rank, row, item, same, same-is, Write.at, upd}
-use Rattle.representation.specs.Represents.{entryAt, linkOf, wordIn, frameOf, slotWord, tagged, TableIs, Represents}
-use Rattle.storage.specs.Order.{same?, chain-frame, linked-frame}
+use Rattle.representation.specs.Represents.{entryAt, wordIn, frameOf, slotWord, tagged, TableIs, Represents}
+use Rattle.representation.specs.Told.{link-some}
+use Rattle.storage.specs.Order.{chain-frame, linked-frame}
 use Rattle.storage.specs.Sight.{Spot.pg, look, OnlyTable, frame-is}
 use Rattle.storage.specs.Slots.{framed, Seen, see, unsee, empty-below, detached-below}
 use Rattle.storage.specs.Whole.{Placed}
@@ -102,24 +103,6 @@ table-paged b fr m n s t = paged-table b fr m m (λ a i. refl) n t s (λ x h. in
 
 -- ---- runs of entries do not meet
 
-sum-up : (n : ℕ) (f : ℕ → ℕ) (b : ℕ) → b < n → sum b f + f b ≤ sum n f
-sum-up zero f b h = absurd (omega arith)
-sum-up (suc n) f b h = ⊎-elim
-    (λ (e : b ≡ n). rw e (omega arith))
-    (λ (e : b ≡ n → ⊥). omega (arith, sum-up n f b (omega arith)))
-    (same? b n)
-
-runs-apart : (f : ℕ → ℕ) (b c p q : ℕ) → p < f b → q < f c → sum b f + p ≡ sum c f + q → b ≡ c
-runs-apart f b c p q h i e = ⊎-elim (λ z. z)
-    (λ (z : b ≡ c → ⊥). bool (ltb b c)
-    (λ l. absurd (omega (arith, sum-up c f b (ltb-true b c l))))
-    (λ l. absurd (omega (arith, sum-up b f c (omega (arith, ltb-false b c l))))))
-    (same? b c)
-
-link-some : (x : Option ℕ) (f : ℕ) → linkOf x ≡ suc f → x ≡ some f
-link-some none f e = absurd (omega arith)
-link-some (some g) f e = let y : g ≡ f = omega arith in rw y
-
 module _ (sh : Shape) (m : Mem) (s : State) (r : Represents sh m s) (pl : Placed s) where
   -- entries below the limits
   pub entries-apart : (b c p q : ℕ) → b < s .tableCount → c < s .tableCount → p < s .tables b .limit → q < s .tables c .limit → entryAt m b p ≡ entryAt m c q → b ≡ c
@@ -127,7 +110,7 @@ module _ (sh : Shape) (m : Mem) (s : State) (r : Represents sh m s) (pl : Placed
 
   -- and they are entries
   pub entry-below : (b p : ℕ) → b < s .tableCount → p < s .tables b .limit → entryAt m b p < sh .pages
-  entry-below b p l h = omega (arith, r .first b l, r .pageCount, sum-up (s .tableCount) (λ x. s .tables x .limit) b l)
+  entry-below b p l h = omega (arith, r .first b l, r .pageCount, sum-next (s .tableCount) (λ x. s .tables x .limit) b l)
 
   -- a frame of table b, by the words
   pub has-owner : (b x : ℕ) → b < s .tableCount → (h : Has m b x) → m (owner x) ≡ suc (entryAt m b (h .0))

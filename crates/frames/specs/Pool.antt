@@ -12,9 +12,10 @@ use Rattle.model.specs.Base.{bit, occurs, insert, sum}
 use Rattle.model.specs.State.{State}
 use Rattle.model.specs.Tests.{bit-small}
 use Rattle.model.specs.Sums.{sum-equal, sum-zero, sum-add, occurs-insert}
+use Rattle.model.specs.Counting.{bit-same, bit-other}
 use Rattle.layout.specs.Layout.{Mem, root, owner, group}
 use Rattle.representation.specs.Represents.{FramesAre}
-use Rattle.storage.specs.Order.{same?, bit-same, bit-other}
+use Rattle.storage.specs.Order.{same?}
 use Rattle.storage.specs.Ops.{up}
 
 -- frames in a group of level i: 16, 256 and 4,096

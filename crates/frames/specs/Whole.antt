@@ -18,7 +18,7 @@ use Rattle.layout.specs.declared.Shape.{Shape}
 use Rattle.layout.specs.Layout.{Mem, object, index, load}
 use Rattle.layout.specs.ShapeOf.{Roots}
 use Rattle.representation.specs.Represents.{slotWord, TableIs, FramesAre, ObjectIs, isMarked, Represents}
-use Rattle.storage.specs.Whole.{Placed, rows-kept, MarkIs, mark-kept}
+use Rattle.storage.specs.Whole.{Placed, rows-kept, MarkIs, mark-kept, put-like}
 use Rattle.storage.specs.Reps.{Held}
 use Rattle.frames.specs.Paged.{OnlyPaged, Alone, paged-root, paged-first, paged-object, paged-index, paged-rank, paged-row, paged-item, other-slot, other-table}
 
@@ -26,10 +26,6 @@ use Rattle.frames.specs.Paged.{OnlyPaged, Alone, paged-root, paged-first
 pub paged-mark : (b fr : ℕ) (m n : Mem) → OnlyPaged b fr m n → (s : State) (k : ℕ) → slotWord n b k 0 ≡ slotWord m b k 0 → slotWord n b k 2 ≡ slotWord m b k 2 → slotWord n b k 3 ≡ slotWord m b k 3
     → MarkIs m s b k → MarkIs n s b k
 paged-mark b fr m n o s k = mark-kept m n s b k (paged-rank b fr m n o) (paged-row b fr m n o) (paged-item b fr m n o)
-
--- a table that is like another in what F shows is so in the state
-put-like : {A : Type 0} (F : Table → A) (f : ℕ → Table) (b : ℕ) (u : Table) → F u ≡ F (f b) → (c : ℕ) → F (put f b u c) ≡ F (f c)
-put-like F f b u e c = bool (eqb c b) (λ q. rw (q, eqb-true c b q) e) (λ q. rw q)
 
 -- the state then
 abbrev pub paged : State → ℕ → Table → List ℕ → State

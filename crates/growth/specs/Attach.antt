@@ -1,6 +1,6 @@
 -- A page is attached in the lowest free frame: the words come to represent the model's state after it. Assumes nothing.
 use mathlib.Core.Path.{_≡_, refl, sym, ap, _∙_, fun-ext}
-use mathlib.Core.Bool.{true, false, _&&_}
+use mathlib.Core.Bool.{true, _&&_}
 use mathlib.Core.Logic.{_⊎_, ⊎-elim}
 use mathlib.Core.List.{List, _∷_}
 use mathlib.Core.Option.{Option, some}
@@ -11,18 +11,21 @@ use lib.Dec.{eqb, ltb}
 use borrow.Author.Tests.{eq-eqb, ne-eqb, eqb-true, eqb-false}
 use Rattle.words.specs.Pick.{bool, clash}
 use Rattle.codec.specs.Codec.{nextGeneration}
-use Rattle.model.specs.Base.{pick, occurs, sum}
-use Rattle.model.specs.State.{till, Slot, Slot.absent, Slot.vacant, Slot.reserved, Slot.transferReserved, Slot.occupied, Table, State, isVacant, maxSlots}
+use Rattle.model.specs.Base.{pick, occurs}
+use Rattle.model.specs.State.{till, Slot, Slot.absent, Slot.vacant, Table, State, maxSlots}
 use Rattle.model.specs.Storage.{slotsOf, onPage, attach}
 use Rattle.model.specs.Change.{withTable, withFrames}
 use Rattle.model.specs.WellFormed.{Frames}
+use Rattle.model.specs.Counting.{sum-next}
 use Rattle.invariant.specs.Pages.{till-sane}
 use Rattle.invariant.specs.Pointwise.{attach-slots, attach-free}
 use Rattle.invariant.specs.Orders.{Room, order-is, absent-past, attach-sound}
 use Rattle.layout.specs.declared.Shape.{Shape}
 use Rattle.layout.specs.Layout.{Addr.reg, Mem, head, entry, load, Write, writes, length-writes}
+use Rattle.layout.specs.Turns.{turns, length-turns}
 use Rattle.representation.specs.Represents.{entryAt, wordIn, frameOf, slotWord, TableIs, FramesAre, isMarked}
-use Rattle.storage.specs.Order.{same?, occurs-head, head-in}
+use Rattle.representation.specs.Told.{marked-full}
+use Rattle.storage.specs.Order.{occurs-head, head-in}
 use Rattle.storage.specs.Sight.{Spot, Spot.hd, Spot.pg, Spot.sl, look, linkFrame, reals, writesAll, length-all}
 use Rattle.storage.specs.Slots.{Seen, see, unsee, free-vacant}
 use Rattle.storage.specs.Ops.{up, joinP, joinW}
@@ -34,18 +37,10 @@ use Rattle.frames.specs.Whole.{paged, placed-paged, held-paged-marks}
 use Rattle.frames.specs.Pool.{Pooled, down}
 use Rattle.frames.specs.Frames.{framesAre-taken, rising-head, free-below}
 use Rattle.frames.specs.Words.{PoolSame, pooled-between, OnlyPool, paged-pool, Steps, take-steps}
-use Rattle.growth.specs.Turns.{turns, length-turns}
 use Rattle.growth.specs.Words.{slotsP, builtW, orderP, entryP, fresh, sizeWith, detachedWith, joinedW, attachW}
 use Rattle.growth.specs.Memory.{mJoined, joined-off}
 use Rattle.growth.specs.Table.{below, joined-seen}
 use Rattle.growth.specs.Joined.{Ripe, load-joined, only-joined, other-slot, joined-is}
-
-sum-up : (n : ℕ) (f : ℕ → ℕ) (b : ℕ) → b < n → sum b f + f b ≤ sum n f
-sum-up zero f b h = absurd (omega arith)
-sum-up (suc n) f b h = ⊎-elim
-    (λ (e : b ≡ n). rw e (omega arith))
-    (λ (e : b ≡ n → ⊥). omega (arith, sum-up n f b (omega arith)))
-    (same? b n)
 
 length-join : (ws : List ℕ) (sh : Shape) (b p : ℕ) → length (joinW ws sh b p) ≡ length ws
 unfolding joinW
@@ -89,13 +84,6 @@ look-pool f b m n o = fun-ext shows
     shows (pg p i) = pages p i
     shows (sl k i) = let e : frameOf n b k ≡ frameOf m b k = rw (heads 5, pages (k / 64) 0) in ap (λ (x : ℕ). wordIn n x (k % 64) i) e ∙ words (frameOf m b k) (k % 64) i
 
-marked-full : (x : Slot) → isMarked x ≡ true → isVacant x ≡ false
-marked-full absent e = refl
-marked-full (vacant g) e = clash e refl
-marked-full (reserved g i) e = refl
-marked-full (transferReserved g i) e = refl
-marked-full (occupied g h) e = refl
-
 marked-here : (x : Slot) (g : ℕ) → x ≡ vacant g → isMarked x ≡ true → ⊥
 marked-here x g e d = clash (sym (ap isMarked e) ∙ d) refl
 
@@ -111,7 +99,7 @@ module _ (ws : List ℕ) (sh : Shape) (s : State) (h : Held ws sh s) (b : ℕ) (
   ripe = let r = h .reps .memory in record {
     ready = ready-of ws sh s h b l;
     room = room;
-    pages = omega (arith, r .first b l, r .pageCount, sum-up (s .tableCount) (λ c. s .tables c .limit) b l);
+    pages = omega (arith, r .first b l, r .pageCount, sum-next (s .tableCount) (λ c. s .tables c .limit) b l);
     frame = omega (arith, frame-low, r .frameCount);
     frames = h .reps .shaped .limits .few-frames;
     out = λ i. omega (arith, has-owner sh (load ws sh) s r (h .placed) b f l i, r .frames .free f free-here);

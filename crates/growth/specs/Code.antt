@@ -13,13 +13,15 @@ use Rattle.model.specs.State.{till}
 use Rattle.model.specs.Storage.{slotsOf}
 use Rattle.layout.specs.declared.Shape.{Shape}
 use Rattle.layout.specs.Layout.{Mem, head, entry, cell, load, save, writes}
-use Rattle.storage.specs.Sight.{linkFrame, slotP, writesAll}
-use Rattle.storage.specs.Ops.{up, joinW}
+use Rattle.layout.specs.Turns.{turns, turns-more}
+use Rattle.head.specs.declared.TableHead.{TableHead}
+use Rattle.head.specs.Head.{headAt, agedBy, nextEpoch, epochP}
+use Rattle.storage.specs.Sight.{linkFrame, slotP}
+use Rattle.storage.specs.Ops.{up}
 use Rattle.storage.specs.Code.{slot-some, cell-none, cell-some}
-use Rattle.storage.specs.Vacate.{slots-max}
 use Rattle.frames.specs.Ops.{takeFrameW, lowestAt}
-use Rattle.growth.specs.Turns.{turns, turns-more}
-use Rattle.growth.specs.Words.{nextWord, prevWord, cellsP, slotsP, builtW, orderP, entryP, fresh, detachedWith, joinedW, attachW, pageAt, linkAfter, sizeAfter, isFull, countFrom, pagesNeeded, attachNextW, attachAllW, advanceW, growW}
+use Rattle.growth.specs.Late.{ownP}
+use Rattle.growth.specs.Words.{nextWord, prevWord, cellsP, slotsP, builtW, joinedW, attachW, pageAt, linkAfter, sizeAfter, isFull, countFrom, pagesNeeded, attachNextW, attachAllW, advanceW, growW}
 
 -- a choice by a test of equality
 pub equal-is : (x y r a b : ℕ) → x ≡ y → r ≡ a → r ≡ pick (eqb x y) a b
@@ -27,16 +29,6 @@ equal-is x y r a b e q = yes-is (eqb x y) r a b (eq-eqb x y e) q
 
 pub other-is : (x y r a b : ℕ) → (x ≡ y → ⊥) → r ≡ b → r ≡ pick (eqb x y) a b
 other-is x y r a b e q = no-is (eqb x y) r a b (ne-eqb x y e) q
-
--- `slots_of`
-pub slots-whole : (p : ℕ) → p < 262143 → 64 ≡ slotsOf till p
-slots-whole p h = omega (arith, slots-max)
-
-pub slots-past : (p : ℕ) → 262143 < p → 0 ≡ slotsOf till p
-slots-past p h = omega (arith, slots-max)
-
-pub slots-last : (p : ℕ) → p ≡ 262143 → 63 ≡ slotsOf till p
-slots-last p h = omega (arith, slots-max)
 
 -- the turns of `build_frame`
 pub built-more : (ws : List ℕ) (sh : Shape) (f p g h j n x y : ℕ) (us vs : List ℕ) → n ≡ slotsOf till p → x ≡ nextWord p h j → y ≡ prevWord p n j
@@ -55,35 +47,6 @@ before-none ws sh fr (suc h) v e = cell-none ws sh fr (h % 64) 3 v e
 
 pub before-some : (ws vs : List ℕ) (sh : Shape) (fr h v : ℕ) → (h ≡ 0 → ⊥) → (fr ≡ 0 → ⊥) → vs ≡ save ws sh (cell (fr - 1) ((h - 1) % 64) 3) v → vs ≡ writes ws sh (slotP fr h 3 v)
 before-some ws vs sh fr h v a b q = slot-some ws vs sh fr h 3 v a (cell-some ws vs sh fr ((h - 1) % 64) 3 v b q)
-
--- the stores of `join_order`
-pub order-is : (ws : List ℕ) (sh : Shape) (b p h fr c n k : ℕ) (w₁ w₂ w₃ : List ℕ) → n ≡ slotsOf till p → k ≡ min c 16777215
-    → w₁ ≡ writes ws sh (slotP fr h 3 (p * 64 + 1)) → w₂ ≡ save w₁ sh (head b 6) (p * 64 + n) → w₃ ≡ save w₂ sh (head b 7) (k + n) → w₃ ≡ writesAll ws sh (orderP b p h fr c)
-order-is ws sh b p h fr c n k w₁ w₂ w₃ e₁ e₂ a₁ a₂ a₃ = rw (a₃, a₂, a₁, e₂, e₁)
-
--- `fresh_generation`
-pub fresh-yes : (m : Mem) (b p n e w r : ℕ) (t : Bool) → n ≡ m (head b 5) → t ≡ ltb p n → t ≡ true → e ≡ m (head b 10) → w ≡ m (entry (e + p) 1) → r ≡ nextGeneration w → r ≡ fresh m b p
-unfolding fresh
-fresh-yes m b p n e w r t a d y q i j = yes-is (ltb p (m (head b 5))) r _ 1 (ap (ltb p) (sym a) ∙ sym d ∙ y) (j ∙ ap nextGeneration (i ∙ ap (λ (x : ℕ). m (entry (x + p) 1)) q))
-
-pub fresh-no : (m : Mem) (b p n : ℕ) (t : Bool) → n ≡ m (head b 5) → t ≡ ltb p n → t ≡ false → 1 ≡ fresh m b p
-unfolding fresh
-fresh-no m b p n t a d y = no-is (ltb p (m (head b 5))) 1 (nextGeneration (m (entry (m (head b 10) + p) 1))) 1 (ap (ltb p) (sym a) ∙ sym d ∙ y) refl
-
--- `detached_with`
-pub detached-yes : (m : Mem) (b p d y e r : ℕ) (t : Bool) → d ≡ m (head b 9) → y ≡ up p → t ≡ eqb d y → t ≡ true → e ≡ m (head b 10) → r ≡ m (entry (e + p) 3) → r ≡ detachedWith m b p
-detached-yes m b p d y e r t a c i j k l = yes-is (eqb (m (head b 9)) (up p)) r _ _ (rw (← a, ← c) (sym i ∙ j)) (l ∙ ap (λ (x : ℕ). m (entry (x + p) 3)) k)
-
-pub detached-no : (m : Mem) (b p d y : ℕ) (t : Bool) → d ≡ m (head b 9) → y ≡ up p → t ≡ eqb d y → t ≡ false → d ≡ detachedWith m b p
-detached-no m b p d y t a c i j = no-is (eqb (m (head b 9)) (up p)) d (m (entry (m (head b 10) + p) 3)) (m (head b 9)) (rw (← a, ← c) (sym i ∙ j)) a
-
--- the stores of `join_page`
-pub page-is : (ws : List ℕ) (sh : Shape) (b p f : ℕ) (e h c n₀ n d g fr : ℕ) (w₁ w₂ w₃ w₄ : List ℕ)
-    → e ≡ load ws sh (head b 10) → h ≡ load ws sh (head b 6) → c ≡ load ws sh (head b 7) → n₀ ≡ load ws sh (head b 5) → n ≡ pick (eqb p n₀) (up p) n₀
-    → d ≡ detachedWith (load ws sh) b p → g ≡ fresh (load ws sh) b p → fr ≡ linkFrame (load ws sh) b h
-    → w₁ ≡ builtW ws sh f p g h → w₂ ≡ writesAll w₁ sh (orderP b p h fr c) → w₃ ≡ writes w₂ sh (entryP b e p f g n d) → w₄ ≡ joinW w₃ sh b p → w₄ ≡ joinedW ws sh b p f
-unfolding joinedW
-page-is ws sh b p f e h c n₀ n d g fr w₁ w₂ w₃ w₄ e₁ e₂ e₃ e₄ e₅ e₆ e₇ e₈ a₁ a₂ a₃ a₄ = rw (a₄, a₃, a₂, a₁, e₈, e₇, e₆, e₅, e₄, e₃, e₂, e₁)
 
 -- `attach_page`
 pub attach-is : (ws : List ℕ) (sh : Shape) (b p f : ℕ) (e₀ e : ℕ) (w₁ w₂ : List ℕ) → e₀ ≡ load ws sh (head b 10) → e ≡ min e₀ 4294967295 → w₁ ≡ joinedW ws sh b p f
@@ -153,6 +116,11 @@ unfolding growW
 grow-none ws sh b n us e d = yes-is (eqb n 0) us (attachAllW ws sh b n) (advanceW (attachAllW ws sh b n) sh b) d e
 
 -- the stores of `put_entry`
-pub entry-is : (ws : List ℕ) (sh : Shape) (b e p f g n d y : ℕ) (w₁ w₂ w₃ w₄ w₅ : List ℕ) → y ≡ up f → w₁ ≡ save ws sh (head b 5) n → w₂ ≡ save w₁ sh (head b 9) d
-    → w₃ ≡ save w₂ sh (entry (e + p) 0) y → w₄ ≡ save w₃ sh (entry (e + p) 1) g → w₅ ≡ save w₄ sh (entry (e + p) 2) 0 → w₅ ≡ writes ws sh (entryP b e p f g n d)
-entry-is ws sh b e p f g n d y w₁ w₂ w₃ w₄ w₅ i a₁ a₂ a₃ a₄ a₅ = rw (a₅, a₄, a₃, a₂, a₁, i)
+pub own-is : (ws : List ℕ) (sh : Shape) (e p f g y : ℕ) (w₁ w₂ w₃ : List ℕ) → y ≡ up f → w₁ ≡ save ws sh (entry (e + p) 0) y → w₂ ≡ save w₁ sh (entry (e + p) 1) g
+    → w₃ ≡ save w₂ sh (entry (e + p) 2) 0 → w₃ ≡ writes ws sh (ownP e p f g)
+own-is ws sh e p f g y w₁ w₂ w₃ i a₁ a₂ a₃ = rw (a₃, a₂, a₁, i)
+
+-- `advance_epoch`
+pub epoch-is : (ws w : List ℕ) (sh : Shape) (b x : ℕ) (h t : TableHead) → h ≡ headAt (load ws sh) b → x ≡ nextEpoch (h .epoch) → t ≡ agedBy h x → w ≡ writes ws sh (epochP b t) → w ≡ advanceW ws sh b
+unfolding advanceW headAt
+epoch-is ws w sh b x h t e₁ e₂ e₃ a = rw (a, e₃, e₂, e₁)

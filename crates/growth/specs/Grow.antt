@@ -3,20 +3,21 @@ use mathlib.Core.Path.{_≡_, refl, sym, ap, _∙_, fun-ext, subst}
 use mathlib.Core.Bool.{Bool, false, not, _&&_}
 use mathlib.Core.Logic.{_⊎_, inl, inr}
 use mathlib.Core.List.{List, [], _∷_}
-use mathlib.Core.Option.{Option, none, some}
+use mathlib.Core.Option.{none, some}
 use Prim.Native.Nat.{ℕ, zero, suc, _+_, _-_, _≤_, _<_, min}
 use native.Mathlib.Omega.{arith}
 use lib.ListN.{length, drop, length-take}
 use lib.Dec.{eqb, ltb}
 use borrow.Author.Tests.{ne-eqb, eqb-true, le-ltb}
 use Rattle.words.specs.Pick.{bool}
-use Rattle.model.specs.Base.{put, bit, occurs, without, also}
+use Rattle.model.specs.Base.{put, bit, occurs, without}
 use Rattle.model.specs.State.{till, Table, State, maxBatch}
 use Rattle.model.specs.Storage.{slotsOf, pagesFrom, pagesFor, attach, attachAll, grow, advance}
 use Rattle.model.specs.Change.{withTable, withFrames}
 use Rattle.model.specs.WellFormed.{isAttached, Frames}
-use Rattle.model.specs.Tests.{apart, bit-small, same}
+use Rattle.model.specs.Tests.{apart, bit-small, same, also-some}
 use Rattle.model.specs.Sums.{without-none}
+use Rattle.model.specs.Bounds.{pages-max, batch-max}
 use Rattle.invariant.specs.Pages.{till-sane}
 use Rattle.invariant.specs.Orders.{Sound, Room, attach-sound}
 use Rattle.invariant.specs.Frames.{Grows, pages-grow, reserve-length, attachAll-owned}
@@ -30,7 +31,6 @@ use Rattle.frames.specs.Frames.{frames-taken}
 use Rattle.frames.specs.Lowest.{lowest-free}
 use Rattle.frames.specs.Ops.{lowestAt}
 use Rattle.growth.specs.Words.{pageAt, attachW, attachNextW, attachAllW, advanceW, growW}
-use Rattle.growth.specs.Joined.{pages-max}
 use Rattle.growth.specs.Attach.{length-attach, only, attach-held}
 use Rattle.growth.specs.Epoch.{length-advance, advance-high, advance-held}
 
@@ -44,10 +44,6 @@ nextPage (d ∷ ds) n = d
 abbrev pub Follows : Table → List ℕ → Type 0
 Follows t [] = Unit {0}
 Follows t (p ∷ ps) = (p ≡ nextPage (t .detached) (t .size)) × Room t p × ((f : ℕ) → Follows (attach till t p f) ps)
-
-also-some : (a : ℕ) (x : Option (List ℕ)) (ps : List ℕ) → also a x ≡ some ps → (qs : List ℕ) × (x ≡ some qs) × (ps ≡ a ∷ qs)
-also-some a none ps e = apart (cc)
-also-some a (some qs) ps e = (qs, refl, cc)
 
 planned : (fuel k : ℕ) (ds : List ℕ) (n l : ℕ) (t : Table) (fr : List ℕ) → Sound till t fr → t .detached ≡ ds → t .size ≡ n → t .limit ≡ l
     → (ps : List ℕ) → pagesFrom till fuel k ds n l ≡ some ps → Grows till t ps → Follows t ps
@@ -81,10 +77,6 @@ planned (suc fuel) (suc k) (p ∷ ds) n l t fr o d c i ps e g =
 pub plan-follows : (t : Table) (fr : List ℕ) → Sound till t fr → (k : ℕ) (ps : List ℕ) → pagesFor till t k ≡ some ps → Follows t ps
 plan-follows t fr o k ps e = unfold pagesFor in
     planned maxBatch (k - length (t .free)) (t .detached) (t .size) (t .limit) t fr o refl refl refl ps e (pages-grow till till-sane t fr o k ps e)
-
-batch-max : maxBatch ≡ 64
-unfolding maxBatch
-batch-max = refl
 
 -- ---- states
 

@@ -1,6 +1,6 @@
 -- Words to which a page of a table was joined: what they show, and that they show all else as before. Assumes nothing.
 use mathlib.Core.Path.{_≡_, refl, sym, ap, _∙_}
-use mathlib.Core.Bool.{Bool, true, false, _&&_}
+use mathlib.Core.Bool.{_&&_}
 use mathlib.Core.Logic.{inl, inr}
 use mathlib.Core.List.{List, [], _∷_}
 use Prim.Native.Nat.{ℕ, zero, suc, _+_, _*_, _/_, _%_, _≤_, _<_, min}
@@ -9,24 +9,24 @@ use lib.ListN.{length}
 use lib.Dec.{eqb, ltb}
 use borrow.Author.Tests.{eqb-true, eqb-false, lt-ltb, le-ltb, ltb-true, ltb-false}
 use Rattle.words.specs.Pick.{pick, bool}
-use Rattle.codec.specs.Codec.{nextGeneration, pick as codecPick}
-use Rattle.model.specs.Base.{pick as choose}
+use Rattle.codec.specs.Codec.{nextGeneration}
 use Rattle.model.specs.State.{till, Table, maxSlots}
 use Rattle.model.specs.Storage.{slotsOf}
 use Rattle.model.specs.Create.{maxPages}
+use Rattle.model.specs.Bounds.{slots-max, pages-max}
 use Rattle.invariant.specs.Pages.{till-sane, page-of, page-below, vacant-there}
 use Rattle.invariant.specs.Orders.{Room}
 use Rattle.layout.specs.declared.Shape.{Shape}
 use Rattle.layout.specs.Layout.{Addr, Mem, head, entry, cell, load, Write, Write.at, writes, upd, upds, In, InAll, in-head, in-entry, in-cell, length-writes, load-writes}
+use Rattle.layout.specs.Turns.{turns, turnsM, length-turns, load-turns}
 use Rattle.representation.specs.Represents.{entryAt, wordIn, frameOf, slotWord}
 use Rattle.storage.specs.Order.{head-in}
 use Rattle.storage.specs.Sight.{Spot.sl, look, Put.toSlot, OnlyTable, Can, frame-is, still-only, still-frame, put-only, put-in, put-shows, linkFrame, cellP, slotP, pageP, writesAll, updsAll, length-all, load-all}
 use Rattle.storage.specs.Slots.{Seen, see, slot-there, free-vacant, empty-below}
 use Rattle.storage.specs.Ops.{up, joinP, joinW}
-use Rattle.storage.specs.Vacate.{slots-max, free-short}
+use Rattle.storage.specs.Vacate.{free-short}
 use Rattle.storage.specs.Turns.{Ready}
 use Rattle.frames.specs.Paged.{Has, Pages, OnlyPaged, paged-write}
-use Rattle.growth.specs.Turns.{turns, turnsM, length-turns, load-turns}
 use Rattle.growth.specs.Words.{slotsP, builtW, orderP, entryP, fresh, sizeWith, detachedWith, joinedW}
 use Rattle.growth.specs.Memory.{mBuilt, built-cell, built-tag, built-generation, built-next, built-prev, slot-cell, mOld, mEntry, mNext, mJoined, joined-head, joined-size, joined-first, joined-count, joined-empty, joined-detached, joined-frame, joined-high, joined-busy, joined-next, joined-prev, joined-page, joined-cell, entry-head}
 use Rattle.growth.specs.Table.{Joined}
@@ -50,22 +50,13 @@ upds-agree : (k l : Mem) (a : Addr) → k a ≡ l a → (xs : List Write) → up
 upds-agree k l a e [] = e
 upds-agree k l a e (at c v ∷ xs) = upds-agree (upd k (at c v)) (upd l (at c v)) a (rw e) xs
 
--- what stands in a choice does not depend on which choice it is
-pub one-choice : (t : Bool) (x y : ℕ) → pick t x y ≡ choose t x y
-one-choice true x y = refl
-one-choice false x y = refl
-
 pub up-small : (x : ℕ) → x < 0xffff_ffff_ffff_ffff → up x ≡ suc x
 up-small x h = omega arith
 
 -- the generation after none
 next-none : nextGeneration 0 ≡ 1
-unfolding nextGeneration codecPick
+unfolding nextGeneration
 next-none = refl
-
-pub pages-max : maxPages till ≡ 262144
-unfolding maxSlots
-pages-max = refl
 
 -- what a page and its frame need: the page may be attached, no page of the table has the frame, and all is in range
 pub record Ripe (ws : List ℕ) (sh : Shape) (b : ℕ) (t : Table) (p f : ℕ) : Type 0 where
@@ -194,7 +185,7 @@ module _ (ws : List ℕ) (sh : Shape) (b : ℕ) (t : Table) (p f : ℕ) (r : Rip
   first-kept : mJoined (load ws sh) b p f (head b 10) ≡ load ws sh (head b 10)
   first-kept = joined-head (load ws sh) b p f b 10 (λ a c. omega arith)
 
-  size-then : mJoined (load ws sh) b p f (head b 5) ≡ choose (eqb p (load ws sh (head b 5))) (suc (load ws sh (head b 5))) (load ws sh (head b 5))
+  size-then : mJoined (load ws sh) b p f (head b 5) ≡ pick (eqb p (load ws sh (head b 5))) (suc (load ws sh (head b 5))) (load ws sh (head b 5))
   size-then = joined-size (load ws sh) b p f ∙ rw up-page (bool (eqb p (load ws sh (head b 5))) (λ e. rw (e, eqb-true p (load ws sh (head b 5)) e)) (λ e. rw e))
 
   -- pages
@@ -202,9 +193,8 @@ module _ (ws : List ℕ) (sh : Shape) (b : ℕ) (t : Table) (p f : ℕ) (r : Rip
   page-then q i = ap (λ (x : ℕ). mJoined (load ws sh) b p f (entry (x + q) i)) first-kept
 
   page-other : (q i : ℕ) → (q ≡ p → ⊥) → mJoined (load ws sh) b p f (entry (entryAt (mJoined (load ws sh) b p f) b q) i)
-      ≡ choose (eqb i 4 && eqb (load ws sh (head b 8)) (suc q)) (suc p) (load ws sh (entry (entryAt (load ws sh) b q) i))
+      ≡ pick (eqb i 4 && eqb (load ws sh (head b 8)) (suc q)) (suc p) (load ws sh (entry (entryAt (load ws sh) b q) i))
   page-other q i n = page-then q i ∙ joined-page (load ws sh) b p f q i n ∙ ap (λ (x : ℕ). pick (eqb i 4 && eqb (load ws sh (head b 8)) (suc q)) x (load ws sh (entry (entryAt (load ws sh) b q) i))) up-page
-      ∙ one-choice (eqb i 4 && eqb (load ws sh (head b 8)) (suc q)) (suc p) (load ws sh (entry (entryAt (load ws sh) b q) i))
 
   -- frames of slots
   frame-on : (k : ℕ) → k / 64 ≡ p → k < maxSlots → frameOf (mJoined (load ws sh) b p f) b k ≡ suc f
@@ -244,7 +234,7 @@ module _ (ws : List ℕ) (sh : Shape) (b : ℕ) (t : Table) (p f : ℕ) (r : Rip
   mSlot = upds (load ws sh) (slotP (linkFrame (load ws sh) b (load ws sh (head b 6))) (load ws sh (head b 6)) 3 (p * 64 + 1))
 
   pub other-slot : (k i : ℕ) → (k / 64 ≡ p → ⊥)
-      → slotWord (mJoined (load ws sh) b p f) b k i ≡ choose (eqb i 3 && eqb (load ws sh (head b 6)) (suc k)) (suc (p * 64)) (slotWord (load ws sh) b k i)
+      → slotWord (mJoined (load ws sh) b p f) b k i ≡ pick (eqb i 3 && eqb (load ws sh (head b 6)) (suc k)) (suc (p * 64)) (slotWord (load ws sh) b k i)
   unfolding look
   other-slot k i n =
       let fit = r .ready .fit in
@@ -255,8 +245,7 @@ module _ (ws : List ℕ) (sh : Shape) (b : ℕ) (t : Table) (p f : ℕ) (r : Rip
       ∙ words (frameOf (load ws sh) b k) refl
       ∙ sym (ap (λ (x : ℕ). wordIn mSlot x (k % 64) i) fr)
       ∙ put-shows sh (load ws sh) b fit (load ws sh) (λ a c. refl) (toSlot (load ws sh (head b 6)) 3 (p * 64 + 1)) can-old (sl k i)
-      ∙ one-choice (eqb i 3 && eqb (load ws sh (head b 6)) (suc k)) (p * 64 + 1) (slotWord (load ws sh) b k i)
-      ∙ ap (λ (x : ℕ). choose (eqb i 3 && eqb (load ws sh (head b 6)) (suc k)) x (slotWord (load ws sh) b k i)) link
+      ∙ ap (λ (x : ℕ). pick (eqb i 3 && eqb (load ws sh (head b 6)) (suc k)) x (slotWord (load ws sh) b k i)) link
     where
       words : (x : ℕ) → frameOf (load ws sh) b k ≡ x → wordIn (mJoined (load ws sh) b p f) x (k % 64) i ≡ wordIn mSlot x (k % 64) i
       words zero e = refl
@@ -286,7 +275,7 @@ module _ (ws : List ℕ) (sh : Shape) (b : ℕ) (t : Table) (p f : ℕ) (r : Rip
         first = joined-first (load ws sh) b p f;
         count = joined-count (load ws sh) b p f ∙ omega (arith, r .ready .table .freeCount, free-short t (r .ready .sound), slots-max);
         empty = joined-empty (load ws sh) b p f ∙ up-page;
-        detached = joined-detached (load ws sh) b p f ∙ rw up-page (one-choice (eqb (load ws sh (head b 9)) (suc p)) (load ws sh (entry (entryAt (load ws sh) b p) 3)) (load ws sh (head b 9)));
+        detached = joined-detached (load ws sh) b p f ∙ rw up-page;
         frame = page-then p 0 ∙ joined-frame (load ws sh) b p f ∙ up-small f (omega (arith, r .frame, r .frames));
         high = page-then p 1 ∙ joined-high (load ws sh) b p f ∙ fresh-is;
         busy = page-then p 2 ∙ joined-busy (load ws sh) b p f;
@@ -295,7 +284,7 @@ module _ (ws : List ℕ) (sh : Shape) (b : ℕ) (t : Table) (p f : ℕ) (r : Rip
         pages = page-other;
         tags = λ j l. own-slot j 0 l ∙ built-tag (load ws sh) f p g h j l;
         generations = λ j l. own-slot j 1 l ∙ built-generation (load ws sh) f p g h j l ∙ fresh-is;
-        nexts = λ j l. own-slot j 2 l ∙ built-next (load ws sh) f p g h j l ∙ one-choice (eqb j 0) h (p * 64 + j);
-        prevs = λ j l. own-slot j 3 l ∙ built-prev (load ws sh) f p g h j l ∙ one-choice (eqb (j + 1) (slotsOf till p)) 0 (p * 64 + j + 2);
+        nexts = λ j l. own-slot j 2 l ∙ built-next (load ws sh) f p g h j l;
+        prevs = λ j l. own-slot j 3 l ∙ built-prev (load ws sh) f p g h j l;
         others = other-slot;
       }

@@ -1,10 +1,10 @@
 pub mod Push
 pub mod Table
-pub mod Turns
 pub mod Words
 pub mod Memory
 pub mod Joined
 pub mod Attach
+pub mod Late
 pub mod Code
 pub mod Plan
 pub mod Epoch

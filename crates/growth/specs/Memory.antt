@@ -6,13 +6,13 @@ use Prim.Native.Nat.{ℕ, zero, suc, _+_, _*_, _%_, _≤_, _<_, min}
 use native.Mathlib.Omega.{arith}
 use lib.Dec.{eqb}
 use borrow.Author.Tests.{eq-eqb, ne-eqb, eqb-true, eqb-false}
-use Rattle.words.specs.Pick.{pick, bool}
+use Rattle.words.specs.Pick.{pick, bool, eqb-add}
 use Rattle.model.specs.State.{till}
 use Rattle.model.specs.Storage.{slotsOf}
 use Rattle.layout.specs.Layout.{Addr.reg, Mem, head, entry, cell, Write.at, upds}
+use Rattle.layout.specs.Turns.{turnsM, miss, hit}
 use Rattle.storage.specs.Sight.{linkFrame, slotP, pageP}
 use Rattle.storage.specs.Ops.{up}
-use Rattle.growth.specs.Turns.{turnsM, miss, hit}
 use Rattle.growth.specs.Words.{nextWord, prevWord, slotsP, entryP, fresh, sizeWith, detachedWith}
 
 -- ---- the frame
@@ -75,9 +75,6 @@ module _ (k : Mem) (fr h i v : ℕ) where
 pub page-off : (k : Mem) (e l i v r x y j : ℕ) → (r ≡ 2 → ⊥) → upds k (pageP e l i v) (reg r x y j) ≡ k (reg r x y j)
 page-off k e zero i v r x y j n = refl
 page-off k e (suc l) i v r x y j n = rw (ne-eqb r 2 n)
-
-eqb-add : (e p q : ℕ) → eqb (e + p) (e + q) ≡ eqb p q
-eqb-add e p q = bool (eqb p q) (λ t. rw t (eq-eqb (e + p) (e + q) (omega (arith, eqb-true p q t)))) (λ t. rw t (ne-eqb (e + p) (e + q) (λ y. eqb-false p q t (omega arith))))
 
 eqb-suc : (p q : ℕ) → eqb p q ≡ eqb (suc q) (suc p)
 eqb-suc p q = bool (eqb p q) (λ t. rw t (sym (eq-eqb (suc q) (suc p) (omega (arith, eqb-true p q t))))) (λ t. rw t (sym (ne-eqb (suc q) (suc p) (λ y. eqb-false p q t (omega arith)))))

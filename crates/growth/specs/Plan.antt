@@ -12,12 +12,13 @@ use Rattle.model.specs.Base.{also}
 use Rattle.model.specs.State.{till, Table, maxBatch}
 use Rattle.model.specs.Storage.{slotsOf, pagesFrom, pagesFor}
 use Rattle.model.specs.Tests.{apart}
+use Rattle.model.specs.Bounds.{pages-max}
 use Rattle.invariant.specs.Orders.{Sound}
 use Rattle.layout.specs.Layout.{Mem, head, entry}
 use Rattle.representation.specs.Represents.{Linked, TableIs}
 use Rattle.storage.specs.Ops.{up}
 use Rattle.growth.specs.Words.{countFrom, pagesNeeded}
-use Rattle.growth.specs.Joined.{up-small, pages-max}
+use Rattle.growth.specs.Joined.{up-small}
 
 -- c pages and those of a plan; 65 where there is none, which is more than any plan has
 abbrev pub counted : ℕ → Option (List ℕ) → ℕ

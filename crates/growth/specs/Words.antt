@@ -9,11 +9,11 @@ use Rattle.model.specs.State.{till}
 use Rattle.model.specs.Storage.{slotsOf}
 use Rattle.layout.specs.declared.Shape.{Shape}
 use Rattle.layout.specs.Layout.{Mem, head, entry, cell, load, save, Write, Write.at, writes}
+use Rattle.layout.specs.Turns.{turns}
 use Rattle.representation.specs.Represents.{entryAt}
 use Rattle.storage.specs.Sight.{linkFrame, slotP, writesAll}
 use Rattle.storage.specs.Ops.{up, joinW}
 use Rattle.frames.specs.Ops.{takeFrameW, lowestAt}
-use Rattle.growth.specs.Turns.{turns}
 
 -- ---- a page in a frame
 

@@ -6,9 +6,12 @@ ghost use Rattle.words.specs.Pick.{pick};
 ghost use Rattle.model.specs.State.{till};
 ghost use Rattle.model.specs.Storage.{slotsOf};
 ghost use Rattle.layout.specs.Layout.{load as loadAt, writes, head};
-ghost use Rattle.storage.specs.Sight.{slotP, linkFrame, writesAll};
+ghost use Rattle.storage.specs.Sight.{slotP};
 ghost use Rattle.storage.specs.Ops.{up};
-ghost use Rattle.growth.specs.Words.{nextWord, prevWord, cellsP, builtW, orderP, entryP, fresh, detachedWith, joinedW, attachW, pageAt, linkAfter, sizeAfter, isFull, pagesNeeded, attachNextW, attachAllW, advanceW, growW};
+ghost use Rattle.head.specs.Head.{attachedBy, drawnBy, emptyBy};
+ghost use Rattle.growth.specs.Late.{freshFrom, detachedFrom, ownP};
+ghost use Rattle.growth.specs.Words.{nextWord, prevWord, cellsP, builtW, joinedW, attachW, pageAt, linkAfter, sizeAfter, isFull, pagesNeeded, attachNextW, attachAllW, advanceW, growW};
+use head::TableHead;
 use layout::Shape;
 
 // How many slots page p has.
@@ -75,16 +78,6 @@ fn build_frame(s: &mut [u64], sh: Shape, f: u64, p: u32, g: u64, h: u64)
     }
 }
 
-// The frame of the slot of a link, plus 1; 0 for none.
-fn old_frame(s: &[u64], sh: Shape, b: u64, h: u64) -> u64
-    ensures { λ r. ⌜ r ≡ linkFrame (loadAt (now (s .entry)) sh) b h ⌝ }
-{
-    if h == 0 {
-        return 0;
-    }
-    storage::frame_link(s, sh, b, h - 1)
-}
-
 // The link before the slot of the link h, which stands in the frame fr.
 fn put_before(s: &mut [u64], sh: Shape, fr: u64, h: u64, v: u64)
     ensures { λ _. ⌜ now (s .exit) ≡ writes (now (s .entry)) sh (slotP fr h 3 v) ⌝ }
@@ -98,62 +91,47 @@ fn put_before(s: &mut [u64], sh: Shape, fr: u64, h: u64, v: u64)
     layout::put_cell(s, sh, fr - 1, (h - 1) % 64, 3, v);
 }
 
-// The slots of page p come to the head of the free order, whose head was the link h, in the frame fr, and which had c slots.
-fn join_order(s: &mut [u64], sh: Shape, b: u64, p: u32, h: u64, fr: u64, c: u64)
-    ensures { λ _. ⌜ now (s .exit) ≡ writesAll (now (s .entry)) sh (orderP b p h fr c) ⌝ }
-{
-    let first = (p as u64) * 64;
-    let n = slots_of(p as u64) as u64;
-    let k = words::smaller(c, 16777215);
-    put_before(s, sh, fr, h, first + 1);
-    layout::put_head(s, sh, b, 6, first + n);
-    layout::put_head(s, sh, b, 7, k + n);
-}
-
 // The generation of a page that is attached: after its last; a new page has had none.
-fn fresh_generation(s: &[u64], sh: Shape, b: u64, p: u64) -> u64
-    ensures { λ r. ⌜ r ≡ fresh (loadAt (now (s .entry)) sh) b p ⌝ }
+fn fresh_generation(s: &[u64], sh: Shape, h: TableHead, p: u64) -> u64
+    ensures { λ r. ⌜ r ≡ freshFrom (loadAt (now (s .entry)) sh) h p ⌝ }
 {
-    let n = layout::head_word(s, sh, b, 5);
+    let n = h.pages;
+    let e = h.entry;
     if words::lt(p, n) {
-        let e = layout::head_word(s, sh, b, 10);
         return codec::next_generation(storage::page_word(s, sh, e, p, 1));
     }
     1
 }
 
-// How many pages there are with page p, of n.
-fn size_with(n: u64, p: u64) -> u64
-    ensures { λ r. ⌜ r ≡ pick (eqb p n) (up p) n ⌝ }
-{
-    if p == n {
-        return words::inc(p);
-    }
-    n
-}
-
 // The link of the first detached page without page p.
-fn detached_with(s: &[u64], sh: Shape, b: u64, p: u64) -> u64
-    ensures { λ r. ⌜ r ≡ detachedWith (loadAt (now (s .entry)) sh) b p ⌝ }
+fn detached_with(s: &[u64], sh: Shape, h: TableHead, p: u64) -> u64
+    ensures { λ r. ⌜ r ≡ detachedFrom (loadAt (now (s .entry)) sh) h p ⌝ }
 {
-    let d = layout::head_word(s, sh, b, 9);
+    let d = h.first_detached;
+    let e = h.entry;
     if words::eq(d, words::inc(p)) {
-        let e = layout::head_word(s, sh, b, 10);
         return storage::page_word(s, sh, e, p, 3);
     }
     d
 }
 
-// Page p is attached in frame f with the generation g; there are n pages, and d is the link of the first detached one.
-fn put_entry(s: &mut [u64], sh: Shape, b: u64, e: u64, p: u64, f: u64, g: u64, n: u64, d: u64)
-    ensures { λ _. ⌜ now (s .exit) ≡ writes (now (s .entry)) sh (entryP b e p f g n d) ⌝ }
+// Page p, of the table whose first entry is e, is attached in frame f with the generation g.
+fn put_entry(s: &mut [u64], sh: Shape, e: u64, p: u64, f: u64, g: u64)
+    ensures { λ _. ⌜ now (s .exit) ≡ writes (now (s .entry)) sh (ownP e p f g) ⌝ }
 {
     let y = words::inc(f);
-    layout::put_head(s, sh, b, 5, n);
-    layout::put_head(s, sh, b, 9, d);
     storage::put_page(s, sh, e, p, 0, y);
     storage::put_page(s, sh, e, p, 1, g);
     storage::put_page(s, sh, e, p, 2, 0);
+}
+
+// The head with page p attached; d is the link of the first detached page then.
+fn attached_head(h: TableHead, p: u64, d: u64) -> TableHead
+    ensures { λ r. ⌜ r ≡ emptyBy (drawnBy (attachedBy h p) d) (up p) ⌝ }
+{
+    let t = head::attach_local(h, p);
+    let u = head::draw_local(t, d);
+    head::empty_local(u, words::inc(p))
 }
 
 // Page p of table b stands in frame f, but for the frame's owner.
@@ -161,17 +139,17 @@ fn join_page(s: &mut [u64], sh: Shape, b: u64, p: u32, f: u64)
     ensures { λ _. ⌜ now (s .exit) ≡ joinedW (now (s .entry)) sh b p f ⌝ }
 {
     let q = p as u64;
-    let e = layout::head_word(s, sh, b, 10);
-    let h = layout::head_word(s, sh, b, 6);
-    let c = layout::head_word(s, sh, b, 7);
-    let n = size_with(layout::head_word(s, sh, b, 5), q);
-    let d = detached_with(s, sh, b, q);
-    let g = fresh_generation(s, sh, b, q);
-    let fr = old_frame(s, sh, b, h);
-    build_frame(s, sh, f, p, g, h);
-    join_order(s, sh, b, p, h, fr, c);
-    put_entry(s, sh, b, e, q, f, g, n, d);
-    storage::join_empty(s, sh, b, q);
+    let h = head::load(s, sh, b);
+    let x = h.first_free;
+    let e = h.entry;
+    let g = fresh_generation(s, sh, h, q);
+    let fr = storage::link_frame(s, sh, h, x);
+    let t = attached_head(h, q, detached_with(s, sh, h, q));
+    build_frame(s, sh, f, p, g, x);
+    put_before(s, sh, fr, x, q * 64 + 1);
+    put_entry(s, sh, e, q, f, g);
+    storage::link_page(s, sh, e, q, h.first_empty);
+    head::store_pages(s, sh, b, t);
 }
 
 // Attaches page p of table b, the first detached one or a new one, in the free frame f.
@@ -271,22 +249,13 @@ fn attach_all(s: &mut [u64], sh: Shape, b: u64, n: u64)
     }
 }
 
-// The epoch after one: it wraps from the largest word to 0.
-fn next_epoch(x: u64) -> u64
-    ensures { λ r. ⌜ r ≡ (x + 1) % 2 ^ 64 ⌝ }
-{
-    if x < 0xffff_ffff_ffff_ffff {
-        return x + 1;
-    }
-    0
-}
-
 // The table's epoch advances.
 pub fn advance_epoch(s: &mut [u64], sh: Shape, b: u64)
     ensures words { λ _. ⌜ now (s .exit) ≡ advanceW (now (s .entry)) sh b ⌝ }
 {
-    let x = next_epoch(layout::head_word(s, sh, b, 4));
-    layout::put_head(s, sh, b, 4, x);
+    let h = head::load(s, sh, b);
+    let t = head::age_local(h, head::next_epoch(h.epoch));
+    head::store_epoch(s, sh, b, t);
 }
 
 // Table b grows by n pages: detached ones first, then new ones, each in the lowest free frame.

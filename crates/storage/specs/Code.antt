@@ -10,11 +10,14 @@ use Rattle.model.specs.State.{maxSlots}
 use Rattle.layout.specs.declared.Shape.{Shape}
 use Rattle.layout.specs.Layout.{Mem, Addr, head, entry, cell, isIn, in-no, load, save, load-out, save-out, writes}
 use Rattle.representation.specs.Represents.{wordIn, frameOf}
+use Rattle.head.specs.declared.TableHead.{TableHead}
+use Rattle.head.specs.Head.{headAt, emptyBy}
 use Rattle.words.specs.Pick.{pick, yes-is, no-is}
 use Rattle.codec.specs.Codec.{nextGeneration}
-use Rattle.storage.specs.Sight.{look, cellP, slotP, pageP, linkFrame, Spot.pg, Spot.hd, Spot.sl}
-use Rattle.storage.specs.Ops.{up, publishP, leaveP, reserveP, moveP, occupyP, publishW, markW, joinW, leaveW, reserveW, moveW, occupyW, lowerW, raiseW}
-use Rattle.storage.specs.Vacate.{slots-max}
+use Rattle.model.specs.Bounds.{slots-max}
+use Rattle.storage.specs.Sight.{cellP, slotP, pageP, linkFrame}
+use Rattle.storage.specs.Ops.{up, moveP, occupyP, moveW, occupyW}
+use Rattle.storage.specs.Late.{frameFrom, linkFrom, frame-of, vacantW, heldW, markedW, linkedW, unlinkedW, firstWithout, fewerW, fewerBy, moreW, moreBy}
 
 -- an entry past the last stands nowhere
 entry-out : (sh : Shape) (e f : ℕ) → sh .pages ≤ e → isIn sh (entry e f) ≡ false
@@ -59,50 +62,64 @@ pub word-some : (m : Mem) (r fr j f : ℕ) → (fr ≡ 0 → ⊥) → r ≡ m (c
 word-some m r zero j f h q = absurd (h refl)
 word-some m r (suc fr) j f h q = let y : suc fr - 1 ≡ fr = omega arith in rw y at q
 
-pub link-none : (m : Mem) (b l : ℕ) → l ≡ 0 → 0 ≡ linkFrame m b l
-link-none m b zero h = refl
-link-none m b (suc l) h = absurd (omega arith)
-
-pub link-some : (m : Mem) (r b l : ℕ) → (l ≡ 0 → ⊥) → r ≡ frameOf m b (l - 1) → r ≡ linkFrame m b l
-link-some m r b zero h q = absurd (h refl)
-link-some m r b (suc l) h q = let y : suc l - 1 ≡ l = omega arith in rw y at q
-
 -- the frame of a slot
-pub frame-far : (m : Mem) (b k : ℕ) → 16777215 ≤ k → 0 ≡ frameOf m b k
-frame-far m b k h = rw (le-ltb k maxSlots (omega (arith, slots-max)))
+pub frame-far : (m : Mem) (h : TableHead) (k : ℕ) → 16777215 ≤ k → 0 ≡ frameFrom m h k
+unfolding frameFrom
+frame-far m h k l = rw (le-ltb k maxSlots (omega (arith, slots-max)))
 
-pub frame-past : (m : Mem) (b k n : ℕ) → k < 16777215 → n ≡ m (head b 5) → n ≤ k / 64 → 0 ≡ frameOf m b k
-frame-past m b k n h q l = rw (lt-ltb k maxSlots (omega (arith, slots-max)), le-ltb (k / 64) (m (head b 5)) (omega arith))
+pub frame-past : (m : Mem) (h : TableHead) (k : ℕ) → k < 16777215 → h .pages ≤ k / 64 → 0 ≡ frameFrom m h k
+unfolding frameFrom
+frame-past m h k l q = rw (lt-ltb k maxSlots (omega (arith, slots-max)), le-ltb (k / 64) (h .pages) q)
 
-pub frame-read : (m : Mem) (b k n e r : ℕ) → k < 16777215 → n ≡ m (head b 5) → k / 64 < n → e ≡ m (head b 10) → r ≡ m (entry (e + k / 64) 0) → r ≡ frameOf m b k
-frame-read m b k n e r h q l d i = rw (lt-ltb k maxSlots (omega (arith, slots-max)), lt-ltb (k / 64) (m (head b 5)) (omega arith)) (i ∙ ap (λ (x : ℕ). m (entry (x + k / 64) 0)) d)
+pub frame-read : (m : Mem) (h : TableHead) (k r : ℕ) → k < 16777215 → k / 64 < h .pages → r ≡ m (entry (h .entry + k / 64) 0) → r ≡ frameFrom m h k
+unfolding frameFrom
+frame-read m h k r l q i = rw (lt-ltb k maxSlots (omega (arith, slots-max)), lt-ltb (k / 64) (h .pages) q) i
+
+pub frame-is : (m : Mem) (b k : ℕ) (h : TableHead) (r : ℕ) → h ≡ headAt m b → r ≡ frameFrom m h k → r ≡ frameOf m b k
+frame-is m b k h r e q = q ∙ ap (λ (z : TableHead). frameFrom m z k) e ∙ frame-of m b k
+
+-- of the slot of a link
+pub from-none : (m : Mem) (h : TableHead) (l : ℕ) → l ≡ 0 → 0 ≡ linkFrom m h l
+unfolding linkFrom
+from-none m h zero e = refl
+from-none m h (suc l) e = absurd (omega arith)
+
+pub from-some : (m : Mem) (r : ℕ) (h : TableHead) (l : ℕ) → (l ≡ 0 → ⊥) → r ≡ frameFrom m h (l - 1) → r ≡ linkFrom m h l
+unfolding linkFrom
+from-some m r h zero e q = absurd (e refl)
+from-some m r h (suc l) e q = let y : suc l - 1 ≡ l = omega arith in rw y at q
 
 -- the stores of `publish_vacant_slot`
-pub publish-is : (ws : List ℕ) (sh : Shape) (b k g : ℕ) (fr h hf n y c : ℕ) (w₁ w₂ w₃ w₄ w₅ w₆ w₇ : List ℕ)
-    → fr ≡ frameOf (load ws sh) b k → h ≡ load ws sh (head b 6) → hf ≡ linkFrame (load ws sh) b h → n ≡ load ws sh (head b 7) → y ≡ up k → c ≡ up n
-    → w₁ ≡ writes ws sh (slotP hf h 3 y) → w₂ ≡ writes w₁ sh (cellP fr (k % 64) 0 0) → w₃ ≡ writes w₂ sh (cellP fr (k % 64) 1 g)
-    → w₄ ≡ writes w₃ sh (cellP fr (k % 64) 2 h) → w₅ ≡ writes w₄ sh (cellP fr (k % 64) 3 0) → w₆ ≡ save w₅ sh (head b 6) y → w₇ ≡ save w₆ sh (head b 7) c
-    → w₇ ≡ publishW ws sh b k g
-unfolding publishW publishP look
-publish-is ws sh b k g fr h hf n y c w₁ w₂ w₃ w₄ w₅ w₆ w₇ e₁ e₂ e₃ e₄ e₅ e₆ a₁ a₂ a₃ a₄ a₅ a₆ a₇ =
-    rw (a₇, a₆, a₅, a₄, a₃, a₂, a₁, e₆, e₅, e₄, e₃, e₂, e₁)
+pub vacant-is : (ws : List ℕ) (sh : Shape) (fr k g xf x : ℕ) (y : ℕ) (w₁ w₂ w₃ w₄ w₅ : List ℕ) → y ≡ up k
+    → w₁ ≡ writes ws sh (slotP xf x 3 y) → w₂ ≡ writes w₁ sh (cellP fr (k % 64) 0 0) → w₃ ≡ writes w₂ sh (cellP fr (k % 64) 1 g)
+    → w₄ ≡ writes w₃ sh (cellP fr (k % 64) 2 x) → w₅ ≡ writes w₄ sh (cellP fr (k % 64) 3 0)
+    → w₅ ≡ vacantW ws sh fr k g xf x
+unfolding vacantW
+vacant-is ws sh fr k g xf x y w₁ w₂ w₃ w₄ w₅ e a₁ a₂ a₃ a₄ a₅ = rw (a₅, a₄, a₃, a₂, a₁, e)
 
 -- the branch of `lower_busy`
-module _ (ws ws₁ : List ℕ) (sh : Shape) (b p g e w n : ℕ) (t : Bool) (h₁ : e ≡ load ws sh (head b 10)) (h₂ : w ≡ load ws sh (entry (e + p) 2)) (h₃ : n ≡ w - 1)
-    (h₄ : ws₁ ≡ markW ws sh b p g n) (h₅ : t ≡ eqb n 0) where
-  lower-count : n ≡ look (load ws sh) b (pg p 2) - 1
-  unfolding look
-  lower-count = rw (h₃, h₂, h₁)
+module _ (ws ws₁ : List ℕ) (sh : Shape) (h : TableHead) (p g w n : ℕ) (t : Bool) (h₂ : w ≡ load ws sh (entry (h .entry + p) 2)) (h₃ : n ≡ w - 1)
+    (h₄ : ws₁ ≡ markedW ws sh (h .entry) p g n) (h₅ : t ≡ eqb n 0) where
+  fewer-count : n ≡ load ws sh (entry (h .entry + p) 2) - 1
+  fewer-count = rw (h₃, h₂)
 
-  pub lower-yes : (ws₂ : List ℕ) → t ≡ true → ws₂ ≡ joinW ws₁ sh b p → ws₂ ≡ lowerW ws sh b p g
-  unfolding lowerW
-  lower-yes ws₂ y q = yes-is (eqb (look (load ws sh) b (pg p 2) - 1) 0) ws₂ _ _ (ap (λ (x : ℕ). eqb x 0) (sym lower-count) ∙ sym h₅ ∙ y)
-      (q ∙ ap (λ (x : List ℕ). joinW x sh b p) (h₄ ∙ ap (λ (x : ℕ). markW ws sh b p g x) lower-count))
+  pub fewer-yes : (ws₂ : List ℕ) (y : ℕ) (u : TableHead) → t ≡ true → ws₂ ≡ linkedW ws₁ sh (h .entry) p (h .«first_empty») → y ≡ up p → u ≡ emptyBy h y
+      → (ws₂ ≡ fewerW ws sh h p g) × (u ≡ fewerBy (load ws sh) h p)
+  unfolding fewerW fewerBy
+  fewer-yes ws₂ y u z q e f =
+      let c : eqb (load ws sh (entry (h .entry + p) 2) - 1) 0 ≡ true = ap (λ (x : ℕ). eqb x 0) (sym fewer-count) ∙ sym h₅ ∙ z in (
+        yes-is (eqb (load ws sh (entry (h .entry + p) 2) - 1) 0) ws₂ _ _ c
+            (q ∙ ap (λ (x : List ℕ). linkedW x sh (h .entry) p (h .«first_empty»)) (h₄ ∙ ap (markedW ws sh (h .entry) p g) fewer-count)),
+        yes-is (eqb (load ws sh (entry (h .entry + p) 2) - 1) 0) u _ _ c (f ∙ ap (emptyBy h) e),
+      )
 
-  pub lower-no : t ≡ false → ws₁ ≡ lowerW ws sh b p g
-  unfolding lowerW
-  lower-no y = no-is (eqb (look (load ws sh) b (pg p 2) - 1) 0) ws₁ _ _ (ap (λ (x : ℕ). eqb x 0) (sym lower-count) ∙ sym h₅ ∙ y)
-      (h₄ ∙ ap (λ (x : ℕ). markW ws sh b p g x) lower-count)
+  pub fewer-no : t ≡ false → (ws₁ ≡ fewerW ws sh h p g) × (h ≡ fewerBy (load ws sh) h p)
+  unfolding fewerW fewerBy
+  fewer-no z =
+      let c : eqb (load ws sh (entry (h .entry + p) 2) - 1) 0 ≡ false = ap (λ (x : ℕ). eqb x 0) (sym fewer-count) ∙ sym h₅ ∙ z in (
+        no-is (eqb (load ws sh (entry (h .entry + p) 2) - 1) 0) ws₁ _ _ c (h₄ ∙ ap (markedW ws sh (h .entry) p g) fewer-count),
+        no-is (eqb (load ws sh (entry (h .entry + p) 2) - 1) 0) h (emptyBy h (up p)) h c refl,
+      )
 
 -- `head_after`
 pub head-first : (b n f : ℕ) → b ≡ 0 → n ≡ pick (eqb b 0) n f
@@ -111,22 +128,12 @@ head-first b n f e = yes-is (eqb b 0) n n f (eq-eqb b 0 e) refl
 pub head-later : (b n f : ℕ) → (b ≡ 0 → ⊥) → f ≡ pick (eqb b 0) n f
 head-later b n f e = no-is (eqb b 0) f n f (ne-eqb b 0 e) refl
 
--- the stores of `leave_empty`
-pub leave-is : (ws : List ℕ) (sh : Shape) (b p : ℕ) (e n q h x : ℕ) (w₁ w₂ w₃ : List ℕ)
-    → e ≡ load ws sh (head b 10) → n ≡ load ws sh (entry (e + p) 3) → q ≡ load ws sh (entry (e + p) 4) → h ≡ load ws sh (head b 8) → x ≡ pick (eqb q 0) n h
-    → w₁ ≡ writes ws sh (pageP e q 3 n) → w₂ ≡ writes w₁ sh (pageP e n 4 q) → w₃ ≡ save w₂ sh (head b 8) x
-    → w₃ ≡ leaveW ws sh b p
-unfolding leaveW leaveP look
-leave-is ws sh b p e n q h x w₁ w₂ w₃ e₁ e₂ e₃ e₄ e₅ a₁ a₂ a₃ = rw (a₃, a₂, a₁, e₅, e₄, e₃, e₂, e₁)
-
--- of `reserve_free_slot`
-pub reserve-is : (ws : List ℕ) (sh : Shape) (b k r j : ℕ) (fr n nf h c : ℕ) (w₁ w₂ w₃ w₄ w₅ w₆ : List ℕ)
-    → fr ≡ frameOf (load ws sh) b k → n ≡ wordIn (load ws sh) fr (k % 64) 2 → nf ≡ linkFrame (load ws sh) b n → h ≡ load ws sh (head b 7) → c ≡ h - 1
-    → w₁ ≡ writes ws sh (slotP nf n 3 0) → w₂ ≡ save w₁ sh (head b 6) n → w₃ ≡ save w₂ sh (head b 7) c → w₄ ≡ writes w₃ sh (cellP fr (k % 64) 0 1)
-    → w₅ ≡ writes w₄ sh (cellP fr (k % 64) 2 r) → w₆ ≡ writes w₅ sh (cellP fr (k % 64) 3 j)
-    → w₆ ≡ reserveW ws sh b k r j
-unfolding reserveW reserveP look
-reserve-is ws sh b k r j fr n nf h c w₁ w₂ w₃ w₄ w₅ w₆ e₁ e₂ e₃ e₄ e₅ a₁ a₂ a₃ a₄ a₅ a₆ = rw (a₆, a₅, a₄, a₃, a₂, a₁, e₅, e₄, e₃, e₂, e₁)
+-- the stores of `reserve_free_slot`
+pub held-is : (ws : List ℕ) (sh : Shape) (fr k nf n r j : ℕ) (w₁ w₂ w₃ w₄ : List ℕ)
+    → w₁ ≡ writes ws sh (slotP nf n 3 0) → w₂ ≡ writes w₁ sh (cellP fr (k % 64) 0 1) → w₃ ≡ writes w₂ sh (cellP fr (k % 64) 2 r) → w₄ ≡ writes w₃ sh (cellP fr (k % 64) 3 j)
+    → w₄ ≡ heldW ws sh fr k nf n r j
+unfolding heldW
+held-is ws sh fr k nf n r j w₁ w₂ w₃ w₄ a₁ a₂ a₃ a₄ = rw (a₄, a₃, a₂, a₁)
 
 -- of `mark_moving` and `occupy`
 pub move-is : (ws : List ℕ) (sh : Shape) (b k r j : ℕ) (fr : ℕ) (w₁ w₂ w₃ : List ℕ) → fr ≡ frameOf (load ws sh) b k
@@ -142,18 +149,22 @@ unfolding occupyW occupyP
 occupy-is ws sh b k o r f fr w₁ w₂ w₃ w₄ e a₁ a₂ a₃ a₄ = rw (a₄, a₃, a₂, a₁, e)
 
 -- the branch of `raise_busy`
-module _ (ws ws₁ : List ℕ) (sh : Shape) (b p g e n c : ℕ) (t : Bool) (h₁ : e ≡ load ws sh (head b 10)) (h₂ : n ≡ load ws sh (entry (e + p) 2)) (h₃ : c ≡ up n)
-    (h₄ : ws₁ ≡ markW ws sh b p g c) (h₅ : t ≡ eqb n 0) where
-  raise-count : n ≡ look (load ws sh) b (pg p 2)
-  unfolding look
-  raise-count = rw (h₂, h₁)
+module _ (ws ws₁ : List ℕ) (sh : Shape) (h : TableHead) (p g n c : ℕ) (t : Bool) (h₂ : n ≡ load ws sh (entry (h .entry + p) 2)) (h₃ : c ≡ up n)
+    (h₄ : ws₁ ≡ markedW ws sh (h .entry) p g c) (h₅ : t ≡ eqb n 0) where
+  more-marked : ws₁ ≡ markedW ws sh (h .entry) p g (up (load ws sh (entry (h .entry + p) 2)))
+  more-marked = h₄ ∙ ap (markedW ws sh (h .entry) p g) (h₃ ∙ ap up h₂)
 
-  pub raise-yes : (ws₂ : List ℕ) → t ≡ true → ws₂ ≡ leaveW ws₁ sh b p → ws₂ ≡ raiseW ws sh b p g
-  unfolding raiseW
-  raise-yes ws₂ y q = yes-is (eqb (look (load ws sh) b (pg p 2)) 0) ws₂ _ _ (ap (λ (x : ℕ). eqb x 0) (sym raise-count) ∙ sym h₅ ∙ y)
-      (q ∙ ap (λ (x : List ℕ). leaveW x sh b p) (h₄ ∙ ap (λ (x : ℕ). markW ws sh b p g x) (h₃ ∙ ap up raise-count)))
+  pub more-yes : (ws₂ : List ℕ) (x : ℕ) (u : TableHead) → t ≡ true → ws₂ ≡ unlinkedW ws₁ sh (h .entry) p → x ≡ firstWithout (load ws₁ sh) (h .entry) p (h .«first_empty») → u ≡ emptyBy h x
+      → (ws₂ ≡ moreW ws sh h p g) × (u ≡ moreBy ws sh h p g)
+  unfolding moreW moreBy
+  more-yes ws₂ x u z q e f =
+      let y : eqb (load ws sh (entry (h .entry + p) 2)) 0 ≡ true = ap (λ (x : ℕ). eqb x 0) (sym h₂) ∙ sym h₅ ∙ z in (
+        yes-is (eqb (load ws sh (entry (h .entry + p) 2)) 0) ws₂ _ _ y (q ∙ ap (λ (v : List ℕ). unlinkedW v sh (h .entry) p) more-marked),
+        yes-is (eqb (load ws sh (entry (h .entry + p) 2)) 0) u _ _ y (f ∙ ap (emptyBy h) (e ∙ ap (λ (v : List ℕ). firstWithout (load v sh) (h .entry) p (h .«first_empty»)) more-marked)),
+      )
 
-  pub raise-no : t ≡ false → ws₁ ≡ raiseW ws sh b p g
-  unfolding raiseW
-  raise-no y = no-is (eqb (look (load ws sh) b (pg p 2)) 0) ws₁ _ _ (ap (λ (x : ℕ). eqb x 0) (sym raise-count) ∙ sym h₅ ∙ y)
-      (h₄ ∙ ap (λ (x : ℕ). markW ws sh b p g x) (h₃ ∙ ap up raise-count))
+  pub more-no : t ≡ false → (ws₁ ≡ moreW ws sh h p g) × (h ≡ moreBy ws sh h p g)
+  unfolding moreW moreBy
+  more-no z =
+      let y : eqb (load ws sh (entry (h .entry + p) 2)) 0 ≡ false = ap (λ (x : ℕ). eqb x 0) (sym h₂) ∙ sym h₅ ∙ z in
+      (no-is (eqb (load ws sh (entry (h .entry + p) 2)) 0) ws₁ _ _ y more-marked, no-is (eqb (load ws sh (entry (h .entry + p) 2)) 0) h _ h y refl)

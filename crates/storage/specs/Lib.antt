@@ -6,6 +6,8 @@ pub mod Vacate
 pub mod Take
 pub mod Keep
 pub mod Turns
+pub mod Late
+pub mod Cells
 pub mod Code
 pub mod Whole
 pub mod Reps

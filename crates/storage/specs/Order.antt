@@ -3,7 +3,7 @@ use mathlib.Core.Path.{_≡_, refl, sym, ap, _∙_}
 use mathlib.Core.Logic.{_⊎_, inl, inr, ⊎-elim}
 use mathlib.Core.Bool.{Bool, true, false}
 use mathlib.Core.List.{List, [], _∷_, _++_}
-use Prim.Native.Nat.{ℕ, zero, suc, _+_, _-_, _≤_, _<_}
+use Prim.Native.Nat.{ℕ, zero, suc, _-_, _≤_, _<_}
 use native.Mathlib.Omega.{arith}
 use native.Mathlib.Nat.{suc-inj}
 use lib.ListN.{length}
@@ -11,12 +11,9 @@ use lib.Dec.{eqb}
 use borrow.Author.Tests.{eq-eqb, ne-eqb, eqb-true, eqb-false}
 use Rattle.model.specs.Base.{bit, pick, occurs, without, sum}
 use Rattle.representation.specs.Represents.{Chain, Linked}
-use Rattle.model.specs.Sums.{without-none, sum-equal}
+use Rattle.model.specs.Sums.{without-none, sum-equal, sum-add}
 use Rattle.model.specs.Tests.{bit-small}
-
-occurs-append : (k : ℕ) (xs ys : List ℕ) → occurs k (xs ++ ys) ≡ occurs k xs + occurs k ys
-occurs-append k [] ys = omega arith
-occurs-append k (x ∷ xs) ys = omega (arith, occurs-append k xs ys)
+use Rattle.model.specs.Counting.{occurs-append, bit-same, bit-other}
 
 -- two numbers are equal or not
 pub same? : (a b : ℕ) → (a ≡ b) ⊎ (a ≡ b → ⊥)
@@ -25,12 +22,6 @@ same? a b = go (eqb a b) refl
     go : (t : Bool) → eqb a b ≡ t → (a ≡ b) ⊎ (a ≡ b → ⊥)
     go true e = inl (eqb-true a b e)
     go false e = inr (eqb-false a b e)
-
-pub bit-same : (x y : ℕ) → x ≡ y → bit (eqb x y) ≡ 1
-bit-same x y e = ap bit (eq-eqb x y e)
-
-pub bit-other : (x y : ℕ) → (x ≡ y → ⊥) → bit (eqb x y) ≡ 0
-bit-other x y e = ap bit (ne-eqb x y e)
 
 pub occurs-head : (x : ℕ) (l : List ℕ) → 0 < occurs x (x ∷ l)
 occurs-head x l = omega (arith, bit-same x x refl)
@@ -250,10 +241,6 @@ linked-frame next next′ h (x ∷ l) c s = (c .0, rw (s x (occurs-head x l)) (l
 
 -- ---- a list of numbers below n, each once, is no longer than n
 
-sum-plus : (n : ℕ) (f g : ℕ → ℕ) → (sum n λ k. f k + g k) ≡ sum n f + sum n g
-sum-plus zero f g = refl
-sum-plus (suc n) f g = omega (arith, sum-plus n f g)
-
 sum-hit : (n x : ℕ) → x < n → 1 ≤ (sum n λ k. bit (eqb k x))
 sum-hit zero x h = absurd (omega arith)
 sum-hit (suc n) x h = ⊎-elim (λ (e : n ≡ x). omega (arith, bit-same n x e)) (λ (e : n ≡ x → ⊥). omega (arith, sum-hit n x (omega arith))) (same? n x)
@@ -264,7 +251,7 @@ sum-once (suc n) f h = omega (arith, sum-once n f h, h n)
 
 length-sum : (n : ℕ) (l : List ℕ) → ((k : ℕ) → 0 < occurs k l → k < n) → length l ≤ (sum n λ k. occurs k l)
 length-sum n [] h = omega arith
-length-sum n (x ∷ l) h = omega (arith, sum-plus n (λ k. bit (eqb k x)) (λ k. occurs k l), sum-hit n x (h x (occurs-head x l)), length-sum n l (λ k i. h k (omega arith)))
+length-sum n (x ∷ l) h = omega (arith, sum-add n (λ k. bit (eqb k x)) (λ k. occurs k l), sum-hit n x (h x (occurs-head x l)), length-sum n l (λ k i. h k (omega arith)))
 
 pub length-below : (n : ℕ) (l : List ℕ) → NoDup l → ((k : ℕ) → 0 < occurs k l → k < n) → length l ≤ n
 length-below n l d h = omega (arith, length-sum n l h, sum-once n (λ k. occurs k l) d)

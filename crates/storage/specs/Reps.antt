@@ -7,20 +7,22 @@ use Prim.Native.Nat.{ℕ, suc, _+_, _-_, _/_, _≤_, _<_}
 use native.Mathlib.Omega.{arith}
 use lib.ListN.{length}
 use lib.Dec.{eqb}
-use borrow.Author.Tests.{eqb-true, eqb-false, eq-eqb, ne-eqb}
+use borrow.Author.Tests.{eqb-true, eqb-false}
 use Rattle.words.specs.Pick.{bool, clash}
 use Rattle.codec.specs.Codec.{nextGeneration, generationLimit}
-use Rattle.model.specs.Base.{put, pick}
-use Rattle.model.specs.State.{till, Handle, Slot, Slot.absent, Slot.vacant, Slot.reserved, Slot.transferReserved, Slot.occupied, Table, State, generation, isBusy, isVacant, isAbsent}
+use Rattle.model.specs.Base.{pick}
+use Rattle.model.specs.State.{till, Handle, Slot, Slot.vacant, Slot.reserved, Slot.transferReserved, Slot.occupied, Table, State, generation, isBusy, isAbsent}
 use Rattle.model.specs.Storage.{withFree, place, keep, vacate}
 use Rattle.model.specs.Change.{withTable}
+use Rattle.model.specs.Tests.{put-other, put-same}
 use Rattle.invariant.specs.Pointwise.{Alike, place-alike, place-slots, vacate-alike, vacate-slots}
 use Rattle.invariant.specs.Pages.{till-sane, vacant-there}
 use Rattle.invariant.specs.Orders.{Sound, order-is, good-of, with-order, place-taken, keep-sound, vacate-good}
 use Rattle.layout.specs.declared.Shape.{Shape}
 use Rattle.layout.specs.Layout.{Addr.reg, Mem, total, root, head, rank, row, item, load}
 use Rattle.layout.specs.ShapeOf.{Shaped, Roots, roots-kept}
-use Rattle.representation.specs.Represents.{slotWord, isMarked, TableIs, Represents, Reps}
+use Rattle.representation.specs.Represents.{slotWord, isMarked, TableIs, Represents, Reps, Rep}
+use Rattle.representation.specs.Told.{marked-full}
 use Rattle.storage.specs.Order.{same?, occurs-head}
 use Rattle.storage.specs.Sight.{Spot, Spot.hd, Spot.pg, Spot.sl, look, OnlyTable}
 use Rattle.storage.specs.Slots.{see, free-vacant}
@@ -28,12 +30,15 @@ use Rattle.storage.specs.Ops.{vacateW, takeW, moveW, occupyW}
 use Rattle.storage.specs.Take.{taken, reserved-mark}
 use Rattle.storage.specs.Keep.{moving-mark}
 use Rattle.storage.specs.Turns.{Turns, Ready, vacate-turns, take-turns, move-turns, occupy-turns}
-use Rattle.storage.specs.Whole.{Placed, placed-with, fit-of, off-table, MarkIs, mark-kept, with-table}
+use Rattle.storage.specs.Whole.{Placed, placed-of, placed-with, fit-of, off-table, MarkIs, mark-kept, with-table}
 
 -- words that represent a state whose tables are in place: what each operation keeps
 pub record Held (ws : List ℕ) (sh : Shape) (s : State) : Type 0 where
   pub reps : Reps ws sh s
   pub placed : Placed s
+
+pub held-of : (ws : List ℕ) (sh : Shape) (s : State) → Rep ws sh s → Held ws sh s
+held-of ws sh s r = record { reps = r .reps; placed = placed-of s (r .wellFormed) }
 
 pub ready-of : (ws : List ℕ) (sh : Shape) (s : State) → Held ws sh s → (b : ℕ) → b < s .tableCount → Ready ws sh b (s .tables b)
 ready-of ws sh s h b l = record {
@@ -42,13 +47,6 @@ ready-of ws sh s h b l = record {
   table = h .reps .memory .tables b l;
   sound = h .placed .sound b l;
 }
-
-marked-full : (x : Slot) → isMarked x ≡ true → isVacant x ≡ false
-marked-full absent e = refl
-marked-full (vacant g) e = clash e refl
-marked-full (reserved g i) e = refl
-marked-full (transferReserved g i) e = refl
-marked-full (occupied g h) e = refl
 
 -- position j of the row in place x names slot k of table b; field f of the item does
 pub record Names (m : Mem) (s : State) (b k x j f : ℕ) : Type 0 where
@@ -111,12 +109,6 @@ module _ (ws ws′ : List ℕ) (sh : Shape) (s : State) (h : Held ws sh s) (b : 
     placed = placed-with s b u (h .placed) sound al;
   }
 
-put-off : (f : ℕ → Slot) (k : ℕ) (x : Slot) (j : ℕ) → (j ≡ k → ⊥) → put f k x j ≡ f j
-put-off f k x j n = rw (ne-eqb j k n)
-
-put-on : (f : ℕ → Slot) (k : ℕ) (x : Slot) → put f k x k ≡ x
-put-on f k x = rw (eq-eqb k k refl)
-
 take-sound : (t : Table) (k : ℕ) (ks : List ℕ) → t .free ≡ k ∷ ks → Sound till t (t .free) → (y : Slot)
     → (1 ≤ generation y) × (generation y ≤ generationLimit) → isBusy y ≡ true → Sound till (place till (withFree t ks) k y) (place till (withFree t ks) k y .free)
 unfolding place
@@ -133,9 +125,9 @@ module _ (ws : List ℕ) (sh : Shape) (s : State) (h : Held ws sh s) (b : ℕ) (
   vacate-held k was = let t : Table = s .tables b in
       turned ws (vacateW ws sh b k) sh s h b l k _ (vacate till t k) (vacate-turns ws sh b t (ready-of ws sh s h b l) k was)
       (vacate-alike till t k) (vacate-good till till-sane t k (h .placed .sound b l) was)
-      (λ j n. ap (λ (f : ℕ → Slot). f j) (vacate-slots till t k) ∙ put-off (t .slots) k (vacant (nextGeneration (generation (t .slots k)))) j n)
+      (λ j n. ap (λ (f : ℕ → Slot). f j) (vacate-slots till t k) ∙ put-other (t .slots) k (vacant (nextGeneration (generation (t .slots k)))) j n)
       (λ e. let q : vacate till t k .slots k ≡ vacant (nextGeneration (generation (t .slots k)))
-      = ap (λ (f : ℕ → Slot). f k) (vacate-slots till t k) ∙ put-on (t .slots) k (vacant (nextGeneration (generation (t .slots k)))) in
+      = ap (λ (f : ℕ → Slot). f k) (vacate-slots till t k) ∙ put-same (t .slots) k (vacant (nextGeneration (generation (t .slots k)))) in
       clash (sym (ap isMarked q) ∙ e) refl)
 
   -- TAKE: the row in place x names the slot
@@ -152,7 +144,7 @@ module _ (ws : List ℕ) (sh : Shape) (s : State) (h : Held ws sh s) (b : ℕ) (
       turned ws (takeW ws sh b k x j) sh s h b l k _ u turn
       (record { limit = a .limit; mask = a .mask; life = a .life; epoch = a .epoch; size = a .size; detached = a .detached; frame = a .frame })
       (take-sound t k ks first o y (good-of till till-sane t (t .free) o k here) refl)
-      (λ i n. ap (λ (f : ℕ → Slot). f i) (place-slots till (withFree t ks) k y) ∙ put-off (t .slots) k y i n)
+      (λ i n. ap (λ (f : ℕ → Slot). f i) (place-slots till (withFree t ks) k y) ∙ put-other (t .slots) k y i n)
       (λ e. mark-is ws (takeW ws sh b k x j) sh s h b l k _ u turn x j 0 1 (mk .0) (mk .1) (mk .2) (omega arith) p)
 
   -- MOVE: the row in place x names the slot
@@ -164,7 +156,7 @@ module _ (ws : List ℕ) (sh : Shape) (s : State) (h : Held ws sh s) (b : ℕ) (
       let mk = moving-mark (look (load ws sh) b) k x j in
       turned ws (moveW ws sh b k x j) sh s h b l k _ (place till t k y) turn (place-alike till t k y)
       (keep-good (λ g. transferReserved g (load ws sh (row x 0))) (λ g. refl) (λ g. refl) t k (h .placed .sound b l) was)
-      (λ i n. ap (λ (f : ℕ → Slot). f i) (place-slots till t k y) ∙ put-off (t .slots) k y i n)
+      (λ i n. ap (λ (f : ℕ → Slot). f i) (place-slots till t k y) ∙ put-other (t .slots) k y i n)
       (λ e. mark-is ws (moveW ws sh b k x j) sh s h b l k _ (place till t k y) turn x j 1 2 (mk .0) (mk .1) (mk .2) (omega arith) p)
 
   -- OCCUPY
@@ -175,5 +167,5 @@ module _ (ws : List ℕ) (sh : Shape) (s : State) (h : Held ws sh s) (b : ℕ) (
       turned ws (occupyW ws sh b k (x .object) (x .rights) (x .flags)) sh s h b l k _ (place till t k y)
       (occupy-turns ws sh b t (ready-of ws sh s h b l) k was (x .object) (x .rights) (x .flags)) (place-alike till t k y)
       (keep-good (λ g. occupied g x) (λ g. refl) (λ g. refl) t k (h .placed .sound b l) was)
-      (λ i n. ap (λ (f : ℕ → Slot). f i) (place-slots till t k y) ∙ put-off (t .slots) k y i n)
-      (λ e. clash (sym (ap isMarked (ap (λ (f : ℕ → Slot). f k) (place-slots till t k y) ∙ put-on (t .slots) k y)) ∙ e) refl)
+      (λ i n. ap (λ (f : ℕ → Slot). f i) (place-slots till t k y) ∙ put-other (t .slots) k y i n)
+      (λ e. clash (sym (ap isMarked (ap (λ (f : ℕ → Slot). f k) (place-slots till t k y) ∙ put-same (t .slots) k y)) ∙ e) refl)

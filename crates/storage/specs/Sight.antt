@@ -10,7 +10,6 @@ use lib.ListN.{length}
 use lib.Dec.{eqb, ltb}
 use borrow.Author.Tests.{eq-eqb, ne-eqb, eqb-true, eqb-false, ltb-true, ltb-false, lt-ltb, le-ltb}
 use Rattle.words.specs.Pick.{pick, bool, clash, both}
-use Rattle.model.specs.Base.{pick as choose}
 use Rattle.model.specs.State.{maxSlots}
 use Rattle.layout.specs.declared.Shape.{Shape}
 use Rattle.layout.specs.Layout.{Addr, Addr.reg, Mem, total, root, head, entry, owner, group, cell, object, index, rank, row, item, load, save, same, same-is, same-all, In, in-head, in-entry, in-cell, Write, Write.at, writes, upd, upds, InW, InAll, load-writes, length-writes}
@@ -146,14 +145,14 @@ iff : (a b : Bool) → (a ≡ true → b ≡ true) → (b ≡ true → a ≡ tru
 iff true b p q = sym (p refl)
 iff false b p q = bool b (λ e. clash (q e) refl) (λ e. sym e)
 
-pick-suc : (c : Bool) (x n : ℕ) → choose c x 0 ≡ suc n → (c ≡ true) × (x ≡ suc n)
+pick-suc : (c : Bool) (x n : ℕ) → pick c x 0 ≡ suc n → (c ≡ true) × (x ≡ suc n)
 pick-suc true x n e = (refl, e)
 pick-suc false x n e = absurd (omega arith)
 
 -- a slot with a frame
 pub frame-is : (m : Mem) (b k fr : ℕ) → frameOf m b k ≡ suc fr → (k < maxSlots) × (k / 64 < m (head b 5)) × (m (entry (entryAt m b (k / 64)) 0) ≡ suc fr)
 frame-is m b k fr e =
-    let u = pick-suc (ltb k maxSlots) (choose (ltb (k / 64) (m (head b 5))) (m (entry (entryAt m b (k / 64)) 0)) 0) fr e in
+    let u = pick-suc (ltb k maxSlots) (pick (ltb (k / 64) (m (head b 5))) (m (entry (entryAt m b (k / 64)) 0)) 0) fr e in
     let w = pick-suc (ltb (k / 64) (m (head b 5))) (m (entry (entryAt m b (k / 64)) 0)) fr (u .1) in
     (ltb-true k maxSlots (u .0), ltb-true (k / 64) (m (head b 5)) (w .0), w .1)
 

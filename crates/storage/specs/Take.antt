@@ -10,13 +10,13 @@ use lib.Dec.{eqb, ltb}
 use borrow.Author.Tests.{ltb-true, eqb-true, eqb-false, eq-eqb, ne-eqb}
 use Rattle.words.specs.Pick.{pick, bool, clash}
 use Rattle.model.specs.Base.{put, bit, occurs, without, isSome}
-use Rattle.model.specs.State.{till, Slot, Slot.absent, Slot.vacant, Slot.reserved, Slot.transferReserved, Slot.occupied, Table, generation, isBusy, isVacant, isAbsent, maxSlots}
+use Rattle.model.specs.State.{till, Slot, Slot.reserved, Table, generation, isBusy, isVacant, isAbsent, maxSlots}
 use Rattle.model.specs.Storage.{withFree, busyIn, busyOf, slotsOf, pageOf, place, keep, keepAll, takeFree}
 use Rattle.model.specs.WellFormed.{isAttached}
 use Rattle.model.specs.Tests.{and-false, bit-true, bit-small}
 use Rattle.model.specs.Sums.{without-none}
 use Rattle.invariant.specs.Pointwise.{place-alike, place-slots}
-use Rattle.invariant.specs.Pages.{till-sane, busy-there, busy-vacant, vacant-there, busy-own, busy-other}
+use Rattle.invariant.specs.Pages.{till-sane, busy-there, busy-vacant, vacant-there, busy-own, busy-other, vacant-idle}
 use Rattle.invariant.specs.Orders.{Sound, attached-below, attached-of, below-of}
 use Rattle.layout.specs.Layout.{Mem, row}
 use Rattle.representation.specs.Represents.{linkOf, tagged, Chain, Linked}
@@ -24,20 +24,13 @@ use Rattle.storage.specs.Order.{occurs-head, chain-unlink, chain-without
 use Rattle.storage.specs.Sight.{Spot, Spot.hd, Spot.pg, Spot.sl, puts}
 use Rattle.storage.specs.Slots.{frameV, framed, slotV, Seen, framed-is, slot-there, slot-gen, vacant-tag, free-vacant, empty-attached, empty-below}
 use Rattle.storage.specs.Ops.{up, reserveP, markP, leaveP}
-use Rattle.storage.specs.Vacate.{markV, slots-max}
+use Rattle.storage.specs.Vacate.{markV}
 
 abbrev pub reserveV : (Spot → ℕ) → ℕ → ℕ → ℕ → Spot → ℕ
 reserveV v k r j = puts v (reserveP v k r j)
 
 abbrev pub leaveV : (Spot → ℕ) → ℕ → Spot → ℕ
 leaveV v p = puts v (leaveP v p)
-
-vacant-idle : (x : Slot) → isVacant x ≡ true → isBusy x ≡ false
-vacant-idle absent e = refl
-vacant-idle (vacant g) e = refl
-vacant-idle (reserved g i) e = clash e refl
-vacant-idle (transferReserved g i) e = clash e refl
-vacant-idle (occupied g h) e = clash e refl
 
 busyIn-le : (f : ℕ → Slot) (k n : ℕ) → busyIn f k n ≤ n
 busyIn-le f k zero = omega arith

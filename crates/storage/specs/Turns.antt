@@ -152,7 +152,7 @@ module _ (ws : List ℕ) (sh : Shape) (b : ℕ) (t : Table) (r : Ready ws sh b t
 
 -- ---- take
 
-leave-moves : (ws : List ℕ) (sh : Shape) (b : ℕ) (v : Spot → ℕ) (p : ℕ) → total sh ≤ length ws → Fit sh (load ws sh) b → look (load ws sh) b ≡ v
+pub leave-moves : (ws : List ℕ) (sh : Shape) (b : ℕ) (v : Spot → ℕ) (p : ℕ) → total sh ≤ length ws → Fit sh (load ws sh) b → look (load ws sh) b ≡ v
     → ((q : ℕ) → v (pg p 4) ≡ suc q → q < load ws sh (head b 5)) → ((q : ℕ) → v (pg p 3) ≡ suc q → q < load ws sh (head b 5)) → Moves ws (leaveW ws sh b p) sh b (leaveV v p)
 unfolding leaveW leaveP
 leave-moves ws sh b v p h fit e before after =

@@ -15,6 +15,7 @@ use Rattle.model.specs.State.{till, Slot, Slot.vacant, Table, generation, isBus
 use Rattle.model.specs.Storage.{busyOf, pageOf, place, vacate}
 use Rattle.model.specs.WellFormed.{isAttached}
 use Rattle.model.specs.Tests.{and-false, bit-false, bit-small}
+use Rattle.model.specs.Bounds.{slots-max}
 use Rattle.invariant.specs.Pointwise.{place-alike, vacate-slots}
 use Rattle.invariant.specs.Pages.{till-sane, busy-there, busy-vacant, vacant-there, busy-own, busy-other}
 use Rattle.invariant.specs.Orders.{Sound, attached-below, attached-of, below-of}
@@ -49,10 +50,6 @@ pub vacate-own : (v : Spot → ℕ) (k f : ℕ)
     × (joinV (markV (publishV v k (nextGeneration (v (sl k 1)))) (k / 64) (nextGeneration (v (sl k 1))) (publishV v k (nextGeneration (v (sl k 1))) (pg (k / 64) 2) - 1)) (k / 64) (sl k f) ≡ vacatedWords v k f)
 unfolding publishP markP joinP
 vacate-own v k f = (refl, refl)
-
-pub slots-max : maxSlots ≡ 16777215
-unfolding maxSlots
-slots-max = refl
 
 -- the free order is not longer than the table may be
 pub free-short : (t : Table) → Sound till t (t .free) → length (t .free) ≤ maxSlots

@@ -3,12 +3,12 @@ use mathlib.Core.Path.{_≡_, refl, sym, ap, _∙_}
 use mathlib.Core.Bool.{Bool, true, false, not, _&&_}
 use mathlib.Core.Logic.{_⊎_, inl, inr, ⊎-elim}
 use mathlib.Core.List.{List, [], _∷_}
-use mathlib.Core.Option.{Option, none, some}
-use Prim.Native.Nat.{ℕ, zero, suc, _+_, _-_, _*_, _/_, _%_, _≤_, _<_}
+use mathlib.Core.Option.{Option, some}
+use Prim.Native.Nat.{ℕ, zero, suc, _+_, _-_, _*_, _/_, _%_, _<_}
 use native.Mathlib.Omega.{arith}
 use lib.ListN.{length}
 use lib.Dec.{eqb, ltb}
-use borrow.Author.Tests.{eq-eqb, ne-eqb, eqb-true, eqb-false, ltb-true, ltb-false, lt-ltb}
+use borrow.Author.Tests.{eq-eqb, ne-eqb, eqb-true, eqb-false, ltb-true, lt-ltb}
 use Rattle.words.specs.Pick.{bool, clash}
 use Rattle.model.specs.Base.{put, bit, occurs, sum}
 use Rattle.model.specs.State.{till, Handle, Entry, Entry.moved, Entry.copied, Body, Body.reservation, Body.claim, Body.parcel, Row, Table, State}
@@ -16,13 +16,15 @@ use Rattle.model.specs.Change.{withTable}
 use Rattle.model.specs.WellFormed.{isAttached, isFrame, pagesWith, Frames, WellFormed}
 use Rattle.model.specs.Tests.{bit-true, bit-small, and-left, same}
 use Rattle.model.specs.Sums.{sum-part, sum-equal}
+use Rattle.model.specs.Counting.{runs-apart, sum-next}
 use Rattle.invariant.specs.Pointwise.{Alike}
 use Rattle.invariant.specs.Orders.{Sound, attached-below}
 use Rattle.invariant.specs.StorageState.{storage-of, sound-of}
 use Rattle.layout.specs.declared.Shape.{Shape}
 use Rattle.layout.specs.Layout.{Addr, Addr.reg, Mem, root, head, entry, owner, group, cell, object, index, rank, row, item}
-use Rattle.representation.specs.Represents.{entryAt, linkOf, wordIn, frameOf, slotWord, tagged, LifeIs, TableIs, FramesAre, ObjectIs, HandleIs, EntryIs, Items, BodyIs, RowsAre, isMarked, BookIs, Represents}
-use Rattle.storage.specs.Order.{same?, chain-frame, linked-frame}
+use Rattle.representation.specs.Represents.{entryAt, wordIn, frameOf, slotWord, tagged, LifeIs, TableIs, FramesAre, ObjectIs, HandleIs, EntryIs, Items, BodyIs, RowsAre, isMarked, BookIs, Represents}
+use Rattle.representation.specs.Told.{link-some}
+use Rattle.storage.specs.Order.{chain-frame, linked-frame}
 use Rattle.storage.specs.Sight.{Spot, Spot.hd, Spot.pg, Spot.sl, look, Fit, Still, Foot, OnlyTable, frame-is, still-only, still-frame}
 use Rattle.storage.specs.Slots.{frameV, framed, slotV, Seen, see, unsee, empty-below, detached-below}
 
@@ -52,25 +54,6 @@ placed-with s b u p o a = record {
       (λ e. p .frames c q f l (rw e at h) (rw e at i));
 }
 
-pub sum-up : (n : ℕ) (f : ℕ → ℕ) (b : ℕ) → b < n → sum b f + f b ≤ sum n f
-sum-up zero f b h = absurd (omega arith)
-sum-up (suc n) f b h = ⊎-elim
-    (λ (e : b ≡ n). rw e (omega arith))
-    (λ (e : b ≡ n → ⊥). omega (arith, sum-up n f b (omega arith)))
-    (same? b n)
-
--- runs that stand one after the other do not meet
-pub runs-apart : (f : ℕ → ℕ) (b c p q : ℕ) → p < f b → q < f c → sum b f + p ≡ sum c f + q → b ≡ c
-runs-apart f b c p q h i e = ⊎-elim (λ z. z)
-    (λ (z : b ≡ c → ⊥). bool (ltb b c)
-    (λ l. absurd (omega (arith, sum-up c f b (ltb-true b c l))))
-    (λ l. absurd (omega (arith, sum-up b f c (omega (arith, ltb-false b c l))))))
-    (same? b c)
-
-pub link-some : (x : Option ℕ) (f : ℕ) → linkOf x ≡ suc f → x ≡ some f
-link-some none f e = absurd (omega arith)
-link-some (some g) f e = let y : g ≡ f = omega arith in rw y
-
 module _ (sh : Shape) (m : Mem) (s : State) (r : Represents sh m s) (pl : Placed s) where
   -- pages below a table's size are its own
   frame-at : (b p f : ℕ) → b < s .tableCount → p < m (head b 5) → m (entry (entryAt m b p) 0) ≡ suc f → s .tables b .pages p .frame ≡ some f
@@ -89,7 +72,7 @@ module _ (sh : Shape) (m : Mem) (s : State) (r : Represents sh m s) (pl : Placed
   pub fit-of : (b : ℕ) → b < s .tableCount → Fit sh m b
   fit-of b l = record {
     table = omega (arith, r .tableCount);
-    pages = omega (arith, r .first b l, r .tables b l .size, pl .sound b l .size, r .pageCount, sum-up (s .tableCount) (λ x. s .tables x .limit) b l);
+    pages = omega (arith, r .first b l, r .tables b l .size, pl .sound b l .size, r .pageCount, sum-next (s .tableCount) (λ x. s .tables x .limit) b l);
     frames = λ p f h e. omega (arith, r .frameCount, pl .frames b p f l (omega (arith, r .tables b l .size)) (frame-at b p f l h e));
     own = λ p q f h i e d. omega (arith, owned-by b p f l h e, owned-by b q f l i d);
   }

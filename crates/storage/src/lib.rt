@@ -5,8 +5,12 @@ ghost use lib.Dec.{eqb};
 ghost use Rattle.words.specs.Pick.{pick};
 ghost use Rattle.layout.specs.Layout.{load as loadAt, save as saveAt, writes, head, entry};
 ghost use Rattle.representation.specs.Represents.{wordIn, frameOf, slotWord};
-ghost use Rattle.storage.specs.Sight.{Spot.hd, cellP, slotP, pageP, linkFrame};
-ghost use Rattle.storage.specs.Ops.{seen, publishW, markW, joinW, leaveW, reserveW, moveW, occupyW, lowerW, raiseW, vacateW, takeW};
+ghost use Rattle.storage.specs.Sight.{Spot.hd, cellP, slotP, pageP};
+ghost use Rattle.storage.specs.Cells.{cellIn, slotAt};
+ghost use Rattle.storage.specs.Ops.{seen, moveW, occupyW, vacateW, takeW};
+ghost use Rattle.storage.specs.Late.{frameFrom, linkFrom, vacantW, heldW, markedW, linkedW, unlinkedW, firstWithout, fewerW, fewerBy, moreW, moreBy};
+use head::TableHead;
+use layout::CellWords;
 use layout::Shape;
 
 // Word f of page p, of the table whose first entry is e.
@@ -44,29 +48,36 @@ fn put_page_link(s: &mut [u64], sh: Shape, e: u64, l: u64, f: u64, v: u64)
     put_page(s, sh, e, l - 1, f, v);
 }
 
-// The frame of the page that slot k of table b stands on, plus 1; 0 for none.
-pub fn frame_link(s: &[u64], sh: Shape, b: u64, k: u64) -> u64
-    ensures { λ r. ⌜ r ≡ frameOf (loadAt (now (s .entry)) sh) b k ⌝ }
+// The frame of the page that slot k of the table of a head stands on, plus 1; 0 for none.
+fn frame_of(s: &[u64], sh: Shape, h: TableHead, k: u64) -> u64
+    ensures { λ r. ⌜ r ≡ frameFrom (loadAt (now (s .entry)) sh) h k ⌝ }
 {
     if k >= 16777215 {
         return 0;
     }
-    let n = layout::head_word(s, sh, b, 5);
+    let n = h.pages;
     if k / 64 >= n {
         return 0;
     }
-    let e = layout::head_word(s, sh, b, 10);
-    page_word(s, sh, e, k / 64, 0)
+    page_word(s, sh, h.entry, k / 64, 0)
+}
+
+// Of table b.
+pub fn frame_link(s: &[u64], sh: Shape, b: u64, k: u64) -> u64
+    ensures { λ r. ⌜ r ≡ frameOf (loadAt (now (s .entry)) sh) b k ⌝ }
+{
+    let h = head::load(s, sh, b);
+    frame_of(s, sh, h, k)
 }
 
 // Of the slot of a link.
-fn link_frame(s: &[u64], sh: Shape, b: u64, l: u64) -> u64
-    ensures { λ r. ⌜ r ≡ linkFrame (loadAt (now (s .entry)) sh) b l ⌝ }
+pub fn link_frame(s: &[u64], sh: Shape, h: TableHead, l: u64) -> u64
+    ensures { λ r. ⌜ r ≡ linkFrom (loadAt (now (s .entry)) sh) h l ⌝ }
 {
     if l == 0 {
         return 0;
     }
-    frame_link(s, sh, b, l - 1)
+    frame_of(s, sh, h, l - 1)
 }
 
 // Word f of slot j of a frame, given plus 1; 0 where there is none.
@@ -113,69 +124,67 @@ pub fn put_slot_word(s: &mut [u64], sh: Shape, b: u64, k: u64, f: u64, v: u64)
     put_frame(s, sh, fr, k % 64, f, v);
 }
 
-// Slot k is vacant, with the generation g, at the head of the free order.
-pub fn publish_vacant_slot(s: &mut [u64], sh: Shape, b: u64, k: u64, g: u64)
-    ensures words { λ _. ⌜ now (s .exit) ≡ publishW (now (s .entry)) sh b k g ⌝ }
+// Slot k, in the frame fr, is vacant with the generation g, before the slot of the link x, which stands in the frame xf.
+fn publish_vacant_slot(s: &mut [u64], sh: Shape, fr: u64, k: u64, g: u64, xf: u64, x: u64)
+    ensures { λ _. ⌜ now (s .exit) ≡ vacantW (now (s .entry)) sh fr k g xf x ⌝ }
 {
-    let fr = frame_link(s, sh, b, k);
-    let h = layout::head_word(s, sh, b, 6);
-    let hf = link_frame(s, sh, b, h);
-    let n = layout::head_word(s, sh, b, 7);
     let y = words::inc(k);
-    let c = words::inc(n);
-    put_slot_link(s, sh, hf, h, 3, y);
+    put_slot_link(s, sh, xf, x, 3, y);
     put_frame(s, sh, fr, k % 64, 0, 0);
     put_frame(s, sh, fr, k % 64, 1, g);
-    put_frame(s, sh, fr, k % 64, 2, h);
+    put_frame(s, sh, fr, k % 64, 2, x);
     put_frame(s, sh, fr, k % 64, 3, 0);
-    layout::put_head(s, sh, b, 6, y);
-    layout::put_head(s, sh, b, 7, c);
 }
 
-// Page p has n busy slots and has had the generation g.
-fn mark_page(s: &mut [u64], sh: Shape, b: u64, p: u64, g: u64, n: u64)
-    ensures words { λ _. ⌜ now (s .exit) ≡ markW (now (s .entry)) sh b p g n ⌝ }
+// Page p, of the table whose first entry is e, has n busy slots and has had the generation g.
+fn mark_page(s: &mut [u64], sh: Shape, e: u64, p: u64, g: u64, n: u64)
+    ensures { λ _. ⌜ now (s .exit) ≡ markedW (now (s .entry)) sh e p g n ⌝ }
 {
-    let e = layout::head_word(s, sh, b, 10);
     let high = page_word(s, sh, e, p, 1);
     let g2 = words::larger(high, g);
     put_page(s, sh, e, p, 1, g2);
     put_page(s, sh, e, p, 2, n);
 }
 
-// Page p comes to the head of the empty pages' order.
-pub fn join_empty(s: &mut [u64], sh: Shape, b: u64, p: u64)
-    ensures words { λ _. ⌜ now (s .exit) ≡ joinW (now (s .entry)) sh b p ⌝ }
+// Page p stands before the page of the link x.
+pub fn link_page(s: &mut [u64], sh: Shape, e: u64, p: u64, x: u64)
+    ensures { λ _. ⌜ now (s .exit) ≡ linkedW (now (s .entry)) sh e p x ⌝ }
 {
-    let e = layout::head_word(s, sh, b, 10);
-    let h = layout::head_word(s, sh, b, 8);
     let y = words::inc(p);
-    put_page_link(s, sh, e, h, 4, y);
-    put_page(s, sh, e, p, 3, h);
+    put_page_link(s, sh, e, x, 4, y);
+    put_page(s, sh, e, p, 3, x);
     put_page(s, sh, e, p, 4, 0);
-    layout::put_head(s, sh, b, 8, y);
 }
 
-// A busy slot of page p fell vacant with the generation g.
-fn lower_busy(s: &mut [u64], sh: Shape, b: u64, p: u64, g: u64)
-    ensures words { λ _. ⌜ now (s .exit) ≡ lowerW (now (s .entry)) sh b p g ⌝ }
+// A busy slot of page p fell vacant with the generation g: the head then, where a page with none is the first of the empty pages' order.
+fn lower_busy(s: &mut [u64], sh: Shape, h: TableHead, p: u64, g: u64) -> TableHead
+    ensures words { λ _. ⌜ now (s .exit) ≡ fewerW (now (s .entry)) sh h p g ⌝ }
+    ensures head { λ r. ⌜ r ≡ fewerBy (loadAt (now (s .entry)) sh) h p ⌝ }
 {
-    let e = layout::head_word(s, sh, b, 10);
+    let e = h.entry;
     let w = page_word(s, sh, e, p, 2);
     let n = words::dec(w);
-    mark_page(s, sh, b, p, g, n);
+    mark_page(s, sh, e, p, g, n);
     if words::eq(n, 0) {
-        join_empty(s, sh, b, p);
+        link_page(s, sh, e, p, h.first_empty);
+        return head::empty_local(h, words::inc(p));
     }
+    h
 }
 
 // Slot k falls vacant: its generation advances and it goes to the head of the free order.
 pub fn vacate(s: &mut [u64], sh: Shape, b: u64, k: u64)
     ensures words { λ _. ⌜ now (s .exit) ≡ vacateW (now (s .entry)) sh b k ⌝ }
 {
-    let g = codec::next_generation(slot_word(s, sh, b, k, 1));
-    publish_vacant_slot(s, sh, b, k, g);
-    lower_busy(s, sh, b, k / 64, g);
+    let h = head::load(s, sh, b);
+    let x = h.first_free;
+    let fr = frame_of(s, sh, h, k);
+    let xf = link_frame(s, sh, h, x);
+    let g = codec::next_generation(frame_word(s, sh, fr, k % 64, 1));
+    publish_vacant_slot(s, sh, fr, k, g, xf, x);
+    let t = head::free_local(h, words::inc(k));
+    let u = lower_busy(s, sh, t, k / 64, g);
+    head::store_orders(s, sh, b, u);
 }
 
 // The head of an order after a page left it: its next, if it was the first.
@@ -185,56 +194,42 @@ fn head_after(before: u64, next: u64, first: u64) -> u64
     if before == 0 { next } else { first }
 }
 
-// Page p leaves the empty pages' order.
-pub fn leave_empty(s: &mut [u64], sh: Shape, b: u64, p: u64)
-    ensures words { λ _. ⌜ now (s .exit) ≡ leaveW (now (s .entry)) sh b p ⌝ }
+// Page p leaves its order, whose first is then the link that is given; it was x.
+pub fn leave_order(s: &mut [u64], sh: Shape, e: u64, p: u64, x: u64) -> u64
+    ensures words { λ _. ⌜ now (s .exit) ≡ unlinkedW (now (s .entry)) sh e p ⌝ }
+    ensures first { λ r. ⌜ r ≡ firstWithout (loadAt (now (s .entry)) sh) e p x ⌝ }
 {
-    let e = layout::head_word(s, sh, b, 10);
     let n = page_word(s, sh, e, p, 3);
     let q = page_word(s, sh, e, p, 4);
-    let h = layout::head_word(s, sh, b, 8);
-    let x = head_after(q, n, h);
     put_page_link(s, sh, e, q, 3, n);
     put_page_link(s, sh, e, n, 4, q);
-    layout::put_head(s, sh, b, 8, x);
+    head_after(q, n, x)
 }
 
-// A slot of page p with the generation g got busy.
-fn raise_busy(s: &mut [u64], sh: Shape, b: u64, p: u64, g: u64)
-    ensures words { λ _. ⌜ now (s .exit) ≡ raiseW (now (s .entry)) sh b p g ⌝ }
+// A slot of page p with the generation g got busy: the head then, where the page is not empty any more.
+fn raise_busy(s: &mut [u64], sh: Shape, h: TableHead, p: u64, g: u64) -> TableHead
+    ensures words { λ _. ⌜ now (s .exit) ≡ moreW (now (s .entry)) sh h p g ⌝ }
+    ensures head { λ r. ⌜ r ≡ moreBy (now (s .entry)) sh h p g ⌝ }
 {
-    let e = layout::head_word(s, sh, b, 10);
+    let e = h.entry;
     let n = page_word(s, sh, e, p, 2);
     let c = words::inc(n);
-    mark_page(s, sh, b, p, g, c);
+    mark_page(s, sh, e, p, g, c);
     if words::eq(n, 0) {
-        leave_empty(s, sh, b, p);
+        let x = leave_order(s, sh, e, p, h.first_empty);
+        return head::empty_local(h, x);
     }
+    h
 }
 
-// Slot k, the head of the free order, leaves it and is Reserved by position j of the row in place r.
-fn reserve_free_slot(s: &mut [u64], sh: Shape, b: u64, k: u64, r: u64, j: u64)
-    ensures words { λ _. ⌜ now (s .exit) ≡ reserveW (now (s .entry)) sh b k r j ⌝ }
+// Slot k, the head of the free order, in the frame fr, is Reserved by position j of the row in place r; the slot of the link n, in the frame nf, comes first then.
+fn reserve_free_slot(s: &mut [u64], sh: Shape, fr: u64, k: u64, nf: u64, n: u64, r: u64, j: u64)
+    ensures { λ _. ⌜ now (s .exit) ≡ heldW (now (s .entry)) sh fr k nf n r j ⌝ }
 {
-    let fr = frame_link(s, sh, b, k);
-    let n = frame_word(s, sh, fr, k % 64, 2);
-    let nf = link_frame(s, sh, b, n);
-    let c = words::dec(layout::head_word(s, sh, b, 7));
     put_slot_link(s, sh, nf, n, 3, 0);
-    layout::put_head(s, sh, b, 6, n);
-    layout::put_head(s, sh, b, 7, c);
     put_frame(s, sh, fr, k % 64, 0, 1);
     put_frame(s, sh, fr, k % 64, 2, r);
     put_frame(s, sh, fr, k % 64, 3, j);
-}
-
-// Slot k, the head of the free order, is taken.
-fn take_slot(s: &mut [u64], sh: Shape, b: u64, k: u64, r: u64, j: u64)
-    ensures words { λ _. ⌜ now (s .exit) ≡ takeW (now (s .entry)) sh b k r j ⌝ }
-{
-    let g = slot_word(s, sh, b, k, 1);
-    reserve_free_slot(s, sh, b, k, r, j);
-    raise_busy(s, sh, b, k / 64, g);
 }
 
 // Takes the head of the free order for position j of the row in place r, and gives its number.
@@ -242,8 +237,16 @@ pub fn take_free(s: &mut [u64], sh: Shape, b: u64, r: u64, j: u64) -> u64
     ensures slot { λ k. ⌜ k ≡ seen (now (s .entry)) sh b (hd 6) - 1 ⌝ }
     ensures words { λ k. ⌜ now (s .exit) ≡ takeW (now (s .entry)) sh b k r j ⌝ }
 {
-    let k = words::dec(layout::head_word(s, sh, b, 6));
-    take_slot(s, sh, b, k, r, j);
+    let h = head::load(s, sh, b);
+    let k = words::dec(h.first_free);
+    let fr = frame_of(s, sh, h, k);
+    let g = frame_word(s, sh, fr, k % 64, 1);
+    let n = frame_word(s, sh, fr, k % 64, 2);
+    let nf = link_frame(s, sh, h, n);
+    reserve_free_slot(s, sh, fr, k, nf, n, r, j);
+    let t = head::take_local(h, n);
+    let u = raise_busy(s, sh, t, k / 64, g);
+    head::store_orders(s, sh, b, u);
     k
 }
 
@@ -266,4 +269,29 @@ pub fn occupy(s: &mut [u64], sh: Shape, b: u64, k: u64, object: u64, rights: u64
     put_frame(s, sh, fr, k % 64, 2, object);
     put_frame(s, sh, fr, k % 64, 3, rights);
     put_frame(s, sh, fr, k % 64, 4, flags);
+}
+
+// All words of slot j of a frame, given plus 1; zeros where there is none.
+pub fn cell_in(s: &[u64], sh: Shape, fr: u64, j: u64) -> CellWords
+    ensures { λ r. ⌜ r ≡ cellIn (loadAt (now (s .entry)) sh) fr j ⌝ }
+{
+    if fr == 0 {
+        return CellWords {
+            tag: 0,
+            generation: 0,
+            object: 0,
+            rights: 0,
+            flags: 0,
+            unused: 0,
+        };
+    }
+    layout::cell_at(s, sh, fr - 1, j)
+}
+
+// All words of slot k of table b; zeros where there is none.
+pub fn slot_at(s: &[u64], sh: Shape, b: u64, k: u64) -> CellWords
+    ensures { λ r. ⌜ r ≡ slotAt (loadAt (now (s .entry)) sh) b k ⌝ }
+{
+    let fr = frame_link(s, sh, b, k);
+    cell_in(s, sh, fr, k % 64)
 }

@@ -7,7 +7,9 @@ use native.Mathlib.Omega.{arith}
 use lib.Dec.{eqb, ltb}
 use Rattle.words.specs.Pick.{pick, yes-is, no-is}
 use Rattle.layout.specs.declared.Shape.{Shape}
-use Rattle.layout.specs.Layout.{Mem, root, head, index, row, load, save}
+use Rattle.layout.specs.Layout.{Mem, root, head, index, row, load, writes}
+use Rattle.head.specs.declared.TableHead.{TableHead}
+use Rattle.head.specs.Head.{headAt, withLife, lifeP}
 use Rattle.representation.specs.Represents.{slotWord}
 use Rattle.storage.specs.Ops.{vacateW}
 use Rattle.object.specs.Words.{lowerW}
@@ -26,10 +28,10 @@ pub remove-by : (ws w₁ w₂ : List ℕ) (sh : Shape) (b k o : ℕ) → o ≡ s
 unfolding removeW
 remove-by ws w₁ w₂ sh b k o e p q = rw (q, p, e)
 
--- `put_life`
-pub life-by : (ws w₁ w₂ : List ℕ) (sh : Shape) (b w c : ℕ) → w₁ ≡ save ws sh (head b 2) w → w₂ ≡ save w₁ sh (head b 3) c → w₂ ≡ lifeW ws sh b w c
+-- `put_tearing` and `put_retired`: a step that sets the lifecycle and the cursor
+pub life-by : (ws vs : List ℕ) (sh : Shape) (b w c : ℕ) (h t : TableHead) → h ≡ headAt (load ws sh) b → t ≡ withLife h w c → vs ≡ writes ws sh (lifeP b t) → vs ≡ lifeW ws sh b w c
 unfolding lifeW
-life-by ws w₁ w₂ sh b w c p q = rw (q, p)
+life-by ws vs sh b w c h t d e q = rw (q, e)
 
 -- a test on a word that was read
 read-test : (x w n : ℕ) (t : Bool) → w ≡ x → t ≡ eqb w n → eqb x n ≡ t

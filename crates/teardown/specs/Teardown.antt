@@ -23,9 +23,9 @@ use Rattle.invariant.specs.StorageViews.{next-occupied}
 use Rattle.layout.specs.declared.Shape.{Shape}
 use Rattle.layout.specs.Layout.{Mem, head, load}
 use Rattle.representation.specs.Represents.{linkOf, slotWord, LifeIs, TableIs, Rep}
+use Rattle.representation.specs.Told.{life-tells}
 use Rattle.storage.specs.Ops.{vacateW}
-use Rattle.storage.specs.Whole.{placed-of}
-use Rattle.storage.specs.Reps.{Held, vacate-held}
+use Rattle.storage.specs.Reps.{Held, vacate-held, held-of}
 use Rattle.object.specs.Reps.{lower-held}
 use Rattle.book.specs.Find.{fits-of}
 use Rattle.answer.specs.Does.{both, answered, refuseR, Does, does-refused, does-accepted}
@@ -39,11 +39,6 @@ use Rattle.teardown.specs.Life.{life-held}
 use Rattle.teardown.specs.Open.{open-is}
 
 -- ---- what a head's word 2 tells
-
-life-active : (w c : ℕ) (x : Lifecycle) → LifeIs w c x → eqb w 0 ≡ isActive x
-life-active w c active e = eq-eqb w 0 e
-life-active w c (tearingDown n) e = ne-eqb w 0 (λ z. omega arith)
-life-active w c retired e = ne-eqb w 0 (λ z. omega arith)
 
 -- 1 with the cursor in word 3
 life-tearing : (w c : ℕ) (x : Lifecycle) → LifeIs w c x → eqb w 1 ≡ true → x ≡ tearingDown c
@@ -68,9 +63,6 @@ life-after s b u x hs =
 -- ---- a handle goes
 
 module _ (ws : List ℕ) (sh : Shape) (s : State) (i : Rep ws sh s) where
-  held : Held ws sh s
-  held = record { reps = i .reps; placed = placed-of s (i .wellFormed) }
-
   module _ (b : ℕ) (l : b < s .tableCount) where
     table : TableIs (load ws sh) b (s .tables b)
     table = i .reps .memory .tables b l
@@ -86,7 +78,7 @@ module _ (ws : List ℕ) (sh : Shape) (s : State) (i : Rep ws sh s) where
       remove-held : Held (removeW ws sh b k) sh (release (withTable s b (vacate till (s .tables b) k)) (handleOr (s .tables b .slots k) ∷ []))
       unfolding removeW
       remove-held = rw slot-is (lower-held (vacateW ws sh b k) sh (withTable s b (vacate till (s .tables b) k))
-          (vacate-held ws sh s held b l k (ap isBusy slot-is)) (slotWord (load ws sh) b k 2) known)
+          (vacate-held ws sh s (held-of ws sh s i) b l k (ap isBusy slot-is)) (slotWord (load ws sh) b k 2) known)
 
       info-tells : infoList (infoAt (load ws sh) (handleAt (load ws sh) b k)) ≡ infoWords (infoFor s (handleOr (s .tables b .slots k)))
       info-tells = rw slot-is (info-is sh (load ws sh) s (i .reps .memory) (handleAt (load ws sh) b k) known)
@@ -155,7 +147,7 @@ module _ (ws : List ℕ) (sh : Shape) (s : State) (i : Rep ws sh s) (os : List �
   unfolding stoppingR decide removeStoppingOwnerOf usedWords
   removeStoppingOwner-does c = bool (ltb b (sh .tables))
       (λ e. let l : b < s .tableCount = omega (arith, ltb-true b (sh .tables) e, i .reps .memory .tableCount) in
-      let d : eqb (m (head b 2)) 0 ≡ isActive (t .life) = life-active (m (head b 2)) (m (head b 3)) (t .life) (table ws sh s i b l .life) in
+      let d : eqb (m (head b 2)) 0 ≡ isActive (t .life) = life-tells (m (head b 2)) (m (head b 3)) (t .life) (table ws sh s i b l .life) in
       bool (isActive (t .life))
       (λ a. rw (e, d, a) (stopped-does c (record { known = l; active = a })))
       (λ a. rw (e, d, a) (does-accepted os sh base s (removeStoppingOwner b c) ws s (removed none c) (i .reps) (rw (lt-ltb b (s .tableCount) l, a)))))
@@ -173,7 +165,7 @@ module _ (ws : List ℕ) (sh : Shape) (s : State) (i : Rep ws sh s) (os : List �
       bool (anyOpen b (s .book .rows))
       (λ q. rw (e, o, q) (does-refused os sh base s (teardownStart b) ws 14 (i .reps) (active-on s b a f ∙ rw q)))
       (λ q. rw (e, o, q) (does-accepted os sh base s (teardownStart b) (lifeW ws sh b 1 0) (withTable s b (withLife t (tearingDown 0))) done
-      (life-held ws sh s (held ws sh s i) b (a .known) 1 0 (tearingDown 0) (refl, refl) .reps) (active-on s b a f ∙ rw q))))
+      (life-held ws sh s (held-of ws sh s i) b (a .known) 1 0 (tearingDown 0) (refl, refl) .reps) (active-on s b a f ∙ rw q))))
       (λ e. rw e (does-refused os sh base s (teardownStart b) ws (tableRefusal m sh b) (i .reps)
       (table-refused sh m s (i .reps .memory) b (tableRefusal m sh b) refl (eqb-false (tableRefusal m sh b) 0 e) f)))
 
@@ -220,7 +212,7 @@ module _ (ws : List ℕ) (sh : Shape) (s : State) (i : Rep ws sh s) (os : List �
       go y none e = let l = tears ws sh s i b y .0 in
           rw (next-none ws sh s i b l 0 e)
           (does-accepted os sh base s (teardownFinish b) (lifeW ws sh b 2 0) (withTable s b (withLife t retired)) done
-          (life-held ws sh s (held ws sh s i) b l 2 0 retired refl .reps) (tears-on ws sh s i b y rest ∙ rw e))
+          (life-held ws sh s (held-of ws sh s i) b l 2 0 retired refl .reps) (tears-on ws sh s i b y rest ∙ rw e))
       go y (some k) e = let q = next-some ws sh s i b (tears ws sh s i b y .0) 0 k e in
           rw (q .0, ne-eqb (k + 1) 0 (λ d. omega arith))
           (does-refused os sh base s (teardownFinish b) ws 18 (i .reps) (tears-on ws sh s i b y rest ∙ rw e))

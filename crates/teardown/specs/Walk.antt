@@ -8,7 +8,7 @@ use native.Mathlib.Omega.{arith}
 use lib.Dec.{eqb, ltb}
 use borrow.Author.Tests.{eqb-true, eqb-false, lt-ltb}
 use Rattle.words.specs.Pick.{bool}
-use Rattle.model.specs.Base.{pick as choose}
+use Rattle.model.specs.Base.{pick}
 use Rattle.model.specs.State.{till, Slot, Table, isOccupied, maxSlots}
 use Rattle.model.specs.Storage.{firstOccupied}
 use Rattle.model.specs.Step.{nextOccupied}
@@ -45,7 +45,7 @@ module _ (f : ℕ → Slot) where
 -- slots of one page, below the last slot: one without frame, all without
 page-empty : (m : Mem) (b k j : ℕ) → k < maxSlots → frameOf m b k ≡ 0 → j / 64 ≡ k / 64 → frameOf m b j ≡ 0
 page-empty m b k j l e q =
-    let z : choose (ltb (k / 64) (m (head b 5))) (m (entry (entryAt m b (k / 64)) 0)) 0 ≡ 0 = rw (lt-ltb k maxSlots l) at e in
+    let z : pick (ltb (k / 64) (m (head b 5))) (m (entry (entryAt m b (k / 64)) 0)) 0 ≡ 0 = rw (lt-ltb k maxSlots l) at e in
     rw q (bool (ltb j maxSlots) (λ p. rw p z) (λ p. rw p))
 
 -- a slot without frame is not occupied

@@ -9,16 +9,6 @@ ghost use Rattle.answer.specs.Does.{both};
 ghost use Rattle.teardown.specs.Ops.{nextLink, removeW, lifeW, opensAt, openIn, tearing, stoppedR, stoppingR, teardownStartR, tornR, teardownStepR, teardownFinishR};
 use layout::Shape;
 
-// Word 2 of a table's head; an active table has 0.
-pub const TEARING_DOWN: u64 = 1;
-
-pub const RETIRED: u64 = 2;
-
-// Word 1 of a row.
-pub const RESERVATION: u64 = 1;
-
-pub const CLAIM: u64 = 2;
-
 // The first occupied slot of table b from a slot on, plus 1; 0 for none. A page without frame is passed over as a whole.
 pub fn next_occupied(s: &[u64], sh: Shape, b: u64, start: u64) -> u64
     ensures { λ r. ⌜ r ≡ nextLink (loadAt (now (s .entry)) sh) b start ⌝ }
@@ -49,12 +39,22 @@ fn remove_slot(s: &mut [u64], sh: Shape, b: u64, k: u64)
     object::lower_object(s, sh, object);
 }
 
-// The lifecycle of table b, with teardown's cursor.
-fn put_life(s: &mut [u64], sh: Shape, b: u64, life: u64, cursor: u64)
-    ensures { λ _. ⌜ now (s .exit) ≡ lifeW (now (s .entry)) sh b life cursor ⌝ }
+// Table b is tearing down, from a cursor on.
+fn put_tearing(s: &mut [u64], sh: Shape, b: u64, cursor: u64)
+    ensures { λ _. ⌜ now (s .exit) ≡ lifeW (now (s .entry)) sh b 1 cursor ⌝ }
 {
-    layout::put_head(s, sh, b, 2, life);
-    layout::put_head(s, sh, b, 3, cursor);
+    let h = head::load(s, sh, b);
+    let t = head::tear_local(h, cursor);
+    head::store_life(s, sh, b, t);
+}
+
+// Table b is retired.
+fn put_retired(s: &mut [u64], sh: Shape, b: u64)
+    ensures { λ _. ⌜ now (s .exit) ≡ lifeW (now (s .entry)) sh b 2 0 ⌝ }
+{
+    let h = head::load(s, sh, b);
+    let t = head::retire_local(h, 0);
+    head::store_life(s, sh, b, t);
 }
 
 // The rest of `remove_stopping_owner`, on an active table.
@@ -111,10 +111,10 @@ fn opens_in(s: &[u64], sh: Shape, b: u64, x: u64) -> bool
 {
     let what = layout::row_word(s, sh, x, 1);
     let table = layout::row_word(s, sh, x, 2);
-    if words::eq(what, RESERVATION) {
+    if words::eq(what, book::RESERVATION) {
         return words::eq(b, table);
     }
-    if words::eq(what, CLAIM) {
+    if words::eq(what, book::CLAIM) {
         return words::eq(b, table);
     }
     false
@@ -147,7 +147,7 @@ pub fn begin_teardown(s: &mut [u64], sh: Shape, b: u64, out: &mut [u64], base: u
             answer::refuse(out, base, format::refusal::OUTSTANDING_RESERVATION);
             return;
         }
-        put_life(s, sh, b, TEARING_DOWN, 0);
+        put_tearing(s, sh, b, 0);
         answer::say(out, base);
         return;
     }
@@ -159,7 +159,7 @@ fn is_tearing(s: &[u64], sh: Shape, b: u64) -> bool
     ensures { λ r. ⌜ r ≡ tearing (loadAt (now (s .entry)) sh) sh b ⌝ }
 {
     if words::lt(b, sh.tables as u64) {
-        return words::eq(layout::head_word(s, sh, b, 2), TEARING_DOWN);
+        return words::eq(layout::head_word(s, sh, b, 2), head::TEARING_DOWN);
     }
     false
 }
@@ -177,7 +177,7 @@ fn remove_tearing(s: &mut [u64], sh: Shape, b: u64, out: &mut [u64], base: usize
     let k = words::dec(next);
     let info = lookup::info_of(s, sh, lookup::handle_at(s, sh, b, k));
     remove_slot(s, sh, b, k);
-    put_life(s, sh, b, TEARING_DOWN, next);
+    put_tearing(s, sh, b, next);
     answer::say5(
         out,
         base,
@@ -207,7 +207,7 @@ pub fn finish_teardown(s: &mut [u64], sh: Shape, b: u64, out: &mut [u64], base: 
     if is_tearing(s, sh, b) {
         let next = next_occupied(s, sh, b, 0);
         if words::eq(next, 0) {
-            put_life(s, sh, b, RETIRED, 0);
+            put_retired(s, sh, b);
             answer::say(out, base);
             return;
         }

@@ -1,9 +1,9 @@
 use borrow.Author.Needs.{needs}
-use Rattle.growth.specs.Turns.{turns, turns-none}
 use Rattle.growth.specs.Words.{slotsP}
 use lib.ListN.{length}
 use Prim.Native.Nat.{_-_, _≤_}
 use mathlib.Core.Path.{_≡_, refl, sym}
+use Rattle.layout.specs.Turns.{turns, turns-none}
 use Rattle.growth.specs.Code.{built-more, built-end}
 use Rattle.growth.proofs.build_frame.Statement.{statement}
 use Rattle.growth.proofs.build_frame.Tie as tie

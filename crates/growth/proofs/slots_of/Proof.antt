@@ -1,5 +1,5 @@
 use native.Mathlib.Omega.{arith}
-use Rattle.growth.specs.Code.{slots-whole, slots-past, slots-last}
+use Rattle.model.specs.Bounds.{slots-full, slots-none, slots-last}
 use Rattle.growth.proofs.slots_of.Statement.{statement}
 use Rattle.growth.proofs.slots_of.Tie as tie
 use Rattle.growth.proofs.slots_of.Reads as reads
@@ -7,11 +7,11 @@ use Rattle.growth.proofs.slots_of.Lts as lts
 
 -- src/lib.rt:19:9
 returns : tie.Need-returns
-returns c = slots-whole (c .before .args .p) (omega arith)
+returns c = slots-full (c .before .args .p) (omega arith)
 
 -- src/lib.rt:22:9
 returns-2 : tie.Need-returns-2
-returns-2 c = slots-past (c .before .before .args .p) (omega arith)
+returns-2 c = slots-none (c .before .before .args .p) (omega arith)
 
 -- src/lib.rt:15:1
 returns-3 : tie.Need-returns-3

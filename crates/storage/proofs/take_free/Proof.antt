@@ -1,34 +1,43 @@
-use Rattle.storage.specs.Sight.{look}
+use Rattle.storage.specs.Late.{take-is, free-first}
 use borrow.Author.Needs.{needs}
 use Rattle.storage.proofs.take_free.Statement.{statement}
 use Rattle.storage.proofs.take_free.Tie as tie
-use Rattle.storage.proofs.take_free.Reads as reads
-use Rattle.storage.proofs.take_free.Lts as lts
-use Rattle.layout.proofs.head_word.Reads as head-word-reads
-use Rattle.storage.proofs.take_slot.Reads as take-slot-reads
-use Rattle.words.proofs.dec.Reads as dec-reads
 
--- src/lib.rt:244:24
-head-word-requires : tie.Need-head-word-requires
-head-word-requires c κs = tt
+load-requires : tie.Need-load-requires
+load-requires c κs = tt
 
--- src/lib.rt:244:9
 dec-requires : tie.Need-dec-requires
 dec-requires c κs = tt
 
--- src/lib.rt:245:5
-take-slot-requires : tie.Need-take-slot-requires
-take-slot-requires c κs = tt
+frame-of-requires : tie.Need-frame-of-requires
+frame-of-requires c κs = tt
 
--- src/lib.rt:240:1
+frame-word-requires : tie.Need-frame-word-requires
+frame-word-requires c κs = tt
+
+frame-word-requires-2 : tie.Need-frame-word-requires-2
+frame-word-requires-2 c κs = tt
+
+link-frame-requires : tie.Need-link-frame-requires
+link-frame-requires c κs = tt
+
+reserve-free-slot-requires : tie.Need-reserve-free-slot-requires
+reserve-free-slot-requires c κs = tt
+
+take-local-requires : tie.Need-take-local-requires
+take-local-requires c κs = tt
+
+raise-busy-requires : tie.Need-raise-busy-requires
+raise-busy-requires c κs = tt
+
+store-orders-requires : tie.Need-store-orders-requires
+store-orders-requires c κs = tt
+
 same-length : tie.Need-same-length
 same-length c = search needs
 
--- src/lib.rt:240:1
 returns : tie.Need-returns
-unfolding look
-returns c = (cc, cc)
+returns c = (free-first (c .before .before .before .before .before .before .before .before .before .before .before .before .before .before .before .before .before .before .before .before .before .before .before .before .before .args .s .now) (c .before .before .before .before .before .before .before .before .before .before .before .before .before .before .before .before .before .before .before .before .before .before .before .before .before .args .sh) (c .before .before .before .before .before .before .before .before .before .before .before .before .before .before .before .before .before .before .before .before .before .before .before .before .before .args .b) _ _ (c .before .before .before .before .before .before .before .before .before .before .before .before .before .before .before .before .before .before .before .before .before .before .load .ensures) (c .before .before .before .before .before .before .before .before .before .before .before .before .before .before .before .before .before .before .before .before .before .dec .ensures), take-is (c .before .before .before .before .before .before .before .before .before .before .before .before .before .before .before .before .before .before .before .before .before .before .before .before .before .args .s .now) (c .before .before .before .before .before .before .before .before .before .before .before .before .before .before .before .before .before .before .before .before .before .before .before .before .before .args .sh) (c .before .before .before .before .before .before .before .before .before .before .before .before .before .before .before .before .before .before .before .before .before .before .before .before .before .args .b) _ (c .before .before .before .before .before .before .before .before .before .before .before .before .before .before .before .before .before .before .before .before .before .before .before .before .before .args .r) (c .before .before .before .before .before .before .before .before .before .before .before .before .before .before .before .before .before .before .before .before .before .before .before .before .before .args .j) _ _ _ _ _ _ _ _ _ _ (c .before .before .before .before .before .before .before .before .before .before .before .before .before .before .before .before .before .before .before .before .before .before .load .ensures) (c .before .before .before .before .before .before .before .before .before .before .before .before .before .before .before .before .before .before .before .frame-of .ensures) (c .before .before .before .before .before .before .before .before .before .before .before .before .before .before .before .before .before .frame-word .ensures) (c .before .before .before .before .before .before .before .before .before .before .before .before .before .before .before .frame-word2 .ensures) (c .before .before .before .before .before .before .before .before .before .before .before .before .before .link-frame .ensures) (c .before .before .before .before .before .before .before .before .before .before .before .reserve-free-slot .ensures) (c .before .before .before .before .before .before .before .before .take-local .ensures) (c .before .before .before .before .before .before .raise-busy .ensures .0) (c .before .before .before .before .before .before .raise-busy .ensures .1) (c .before .before .store-orders .ensures))
 
 pub take-free-spec : {M : Type 1} → statement M
-take-free-spec =
-    tie.close (tie.spec head-word-requires dec-requires take-slot-requires same-length returns)
+take-free-spec = tie.close (tie.spec load-requires dec-requires frame-of-requires frame-word-requires frame-word-requires-2 link-frame-requires reserve-free-slot-requires take-local-requires raise-busy-requires store-orders-requires same-length returns)

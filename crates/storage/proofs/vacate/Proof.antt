@@ -1,47 +1,43 @@
-use Rattle.storage.specs.Sight.{look}
-use Rattle.storage.specs.Ops.{vacateW}
+use Rattle.storage.specs.Late.{vacate-is}
 use borrow.Author.Needs.{needs}
 use Rattle.storage.proofs.vacate.Statement.{statement}
 use Rattle.storage.proofs.vacate.Tie as tie
-use Rattle.storage.proofs.vacate.Reads as reads
-use Rattle.storage.proofs.vacate.Lts as lts
-use Rattle.codec.proofs.next_generation.Reads as next-generation-reads
-use Rattle.storage.proofs.lower_busy.Reads as lower-busy-reads
-use Rattle.storage.proofs.publish_vacant_slot.Reads as publish-vacant-slot-reads
-use Rattle.storage.proofs.slot_word.Reads as slot-word-reads
 
--- src/lib.rt:175:36
-slot-word-requires : tie.Need-slot-word-requires
-slot-word-requires c κs = tt
+load-requires : tie.Need-load-requires
+load-requires c κs = tt
 
--- src/lib.rt:175:9
+frame-of-requires : tie.Need-frame-of-requires
+frame-of-requires c κs = tt
+
+link-frame-requires : tie.Need-link-frame-requires
+link-frame-requires c κs = tt
+
+frame-word-requires : tie.Need-frame-word-requires
+frame-word-requires c κs = tt
+
 next-generation-requires : tie.Need-next-generation-requires
 next-generation-requires c κs = tt
 
--- src/lib.rt:176:5
 publish-vacant-slot-requires : tie.Need-publish-vacant-slot-requires
 publish-vacant-slot-requires c κs = tt
 
--- src/lib.rt:177:5
+inc-requires : tie.Need-inc-requires
+inc-requires c κs = tt
+
+free-local-requires : tie.Need-free-local-requires
+free-local-requires c κs = tt
+
 lower-busy-requires : tie.Need-lower-busy-requires
 lower-busy-requires c κs = tt
 
--- src/lib.rt:172:1
+store-orders-requires : tie.Need-store-orders-requires
+store-orders-requires c κs = tt
+
 same-length : tie.Need-same-length
 same-length c = search needs
 
--- src/lib.rt:172:1
 returns : tie.Need-returns
-unfolding vacateW look
-returns c = cc
+returns c = vacate-is (c .before .before .before .before .before .before .before .before .before .before .before .before .before .before .before .before .before .before .before .before .before .before .before .before .args .s .now) (c .before .before .before .before .before .before .before .before .before .before .before .before .before .before .before .before .before .before .before .before .before .before .before .before .args .sh) (c .before .before .before .before .before .before .before .before .before .before .before .before .before .before .before .before .before .before .before .before .before .before .before .before .args .b) (c .before .before .before .before .before .before .before .before .before .before .before .before .before .before .before .before .before .before .before .before .before .before .before .before .args .k) _ _ _ _ _ _ _ _ _ _ _ (c .before .before .before .before .before .before .before .before .before .before .before .before .before .before .before .before .before .before .before .before .before .load .ensures) (c .before .before .before .before .before .before .before .before .before .before .before .before .before .before .before .before .before .before .before .frame-of .ensures) (c .before .before .before .before .before .before .before .before .before .before .before .before .before .before .before .before .before .link-frame .ensures) (c .before .before .before .before .before .before .before .before .before .before .before .before .before .before .before .frame-word .ensures) (c .before .before .before .before .before .before .before .before .before .before .before .before .before .before .next-generation .ensures) (c .before .before .before .before .before .before .before .before .before .before .before .before .publish-vacant-slot .ensures) (c .before .before .before .before .before .before .before .before .before .inc .ensures) (c .before .before .before .before .before .before .before .before .free-local .ensures) (c .before .before .before .before .before .before .lower-busy .ensures .0) (c .before .before .before .before .before .before .lower-busy .ensures .1) (c .before .before .store-orders .ensures)
 
 pub vacate-spec : {M : Type 1} → statement M
-vacate-spec =
-    tie.close
-    (tie.spec
-    slot-word-requires
-    next-generation-requires
-    publish-vacant-slot-requires
-    lower-busy-requires
-    same-length
-    returns)
+vacate-spec = tie.close (tie.spec load-requires frame-of-requires link-frame-requires frame-word-requires next-generation-requires publish-vacant-slot-requires inc-requires free-local-requires lower-busy-requires store-orders-requires same-length returns)

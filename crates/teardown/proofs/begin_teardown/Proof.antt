@@ -24,8 +24,8 @@ same-length-2 c = search needs
 returns : tie.Need-returns
 returns c = start-open (c .before .before .before .before .before .before .before .before .before .before .before .before .before .args .s .now) (c .before .before .before .before .before .before .before .before .before .before .before .before .before .args .out .now) (c .before .before .before .before .before .before .before .before .before .before .before .before .before .args .sh) (c .before .before .before .before .before .before .before .before .before .before .before .before .before .args .base) (c .before .before .before .before .before .before .before .before .before .before .before .before .before .args .b) _ (c .before .before .before .before .before .before .before .before .before .table-refusal .ensures) _ (c .before .before .before .before .before .before .before .before .eq .ensures) (c .before .before .before .before .before .before .before .if1 .taken) _ (c .before .before .before .before .before .any-open .ensures) _ (c .before .before .before .before .if2 .taken) (c .before .before .refuse .ensures)
 
-put-life-requires : tie.Need-put-life-requires
-put-life-requires c κs = tt
+put-tearing-requires : tie.Need-put-tearing-requires
+put-tearing-requires c κs = tt
 
 say-requires : tie.Need-say-requires
 say-requires c κs = tt
@@ -37,7 +37,7 @@ same-length-4 : tie.Need-same-length-4
 same-length-4 c = search needs
 
 returns-2 : tie.Need-returns-2
-returns-2 c = start-begun (c .before .before .before .before .before .before .before .before .before .before .before .before .before .before .before .before .before .args .s .now) (c .before .before .before .before .before .before .before .before .before .before .before .before .before .before .before .before .before .args .out .now) (c .before .before .before .before .before .before .before .before .before .before .before .before .before .before .before .before .before .args .sh) (c .before .before .before .before .before .before .before .before .before .before .before .before .before .before .before .before .before .args .base) (c .before .before .before .before .before .before .before .before .before .before .before .before .before .before .before .before .before .args .b) _ (c .before .before .before .before .before .before .before .before .before .before .before .before .before .table-refusal .ensures) _ (c .before .before .before .before .before .before .before .before .before .before .before .before .eq .ensures) (c .before .before .before .before .before .before .before .before .before .before .before .if1 .taken) _ (c .before .before .before .before .before .before .before .before .before .any-open .ensures) _ _ (c .before .before .before .before .before .before .before .before .if2 .left) (c .before .before .before .before .before .before .put-life .ensures) (c .before .before .say .ensures)
+returns-2 c = start-begun (c .before .before .before .before .before .before .before .before .before .before .before .before .before .before .before .before .before .args .s .now) (c .before .before .before .before .before .before .before .before .before .before .before .before .before .before .before .before .before .args .out .now) (c .before .before .before .before .before .before .before .before .before .before .before .before .before .before .before .before .before .args .sh) (c .before .before .before .before .before .before .before .before .before .before .before .before .before .before .before .before .before .args .base) (c .before .before .before .before .before .before .before .before .before .before .before .before .before .before .before .before .before .args .b) _ (c .before .before .before .before .before .before .before .before .before .before .before .before .before .table-refusal .ensures) _ (c .before .before .before .before .before .before .before .before .before .before .before .before .eq .ensures) (c .before .before .before .before .before .before .before .before .before .before .before .if1 .taken) _ (c .before .before .before .before .before .before .before .before .before .any-open .ensures) _ _ (c .before .before .before .before .before .before .before .before .if2 .left) (c .before .before .before .before .before .before .put-tearing .ensures) (c .before .before .say .ensures)
 
 refuse-requires-2 : tie.Need-refuse-requires-2
 refuse-requires-2 c κs = tt
@@ -62,7 +62,7 @@ begin-teardown-spec =
     same-length
     same-length-2
     returns
-    put-life-requires
+    put-tearing-requires
     say-requires
     same-length-3
     same-length-4

@@ -12,8 +12,8 @@ next-occupied-requires c κs = tt
 eq-requires : tie.Need-eq-requires
 eq-requires c κs = tt
 
-put-life-requires : tie.Need-put-life-requires
-put-life-requires c κs = tt
+put-retired-requires : tie.Need-put-retired-requires
+put-retired-requires c κs = tt
 
 say-requires : tie.Need-say-requires
 say-requires c κs = tt
@@ -25,7 +25,7 @@ same-length-2 : tie.Need-same-length-2
 same-length-2 c = search needs
 
 returns : tie.Need-returns
-returns c = finish-done (c .before .before .before .before .before .before .before .before .before .before .before .before .before .before .before .before .before .args .s .now) (c .before .before .before .before .before .before .before .before .before .before .before .before .before .before .before .before .before .args .out .now) (c .before .before .before .before .before .before .before .before .before .before .before .before .before .before .before .before .before .args .sh) (c .before .before .before .before .before .before .before .before .before .before .before .before .before .before .before .before .before .args .base) (c .before .before .before .before .before .before .before .before .before .before .before .before .before .before .before .before .before .args .b) _ (c .before .before .before .before .before .before .before .before .before .before .before .before .before .is-tearing .ensures) (c .before .before .before .before .before .before .before .before .before .before .before .before .if1 .taken) _ (c .before .before .before .before .before .before .before .before .before .before .next-occupied .ensures) _ (c .before .before .before .before .before .before .before .before .before .eq .ensures) _ _ (c .before .before .before .before .before .before .before .before .if2 .taken) (c .before .before .before .before .before .before .put-life .ensures) (c .before .before .say .ensures)
+returns c = finish-done (c .before .before .before .before .before .before .before .before .before .before .before .before .before .before .before .before .before .args .s .now) (c .before .before .before .before .before .before .before .before .before .before .before .before .before .before .before .before .before .args .out .now) (c .before .before .before .before .before .before .before .before .before .before .before .before .before .before .before .before .before .args .sh) (c .before .before .before .before .before .before .before .before .before .before .before .before .before .before .before .before .before .args .base) (c .before .before .before .before .before .before .before .before .before .before .before .before .before .before .before .before .before .args .b) _ (c .before .before .before .before .before .before .before .before .before .before .before .before .before .is-tearing .ensures) (c .before .before .before .before .before .before .before .before .before .before .before .before .if1 .taken) _ (c .before .before .before .before .before .before .before .before .before .before .next-occupied .ensures) _ (c .before .before .before .before .before .before .before .before .before .eq .ensures) _ _ (c .before .before .before .before .before .before .before .before .if2 .taken) (c .before .before .before .before .before .before .put-retired .ensures) (c .before .before .say .ensures)
 
 refuse-requires : tie.Need-refuse-requires
 refuse-requires c κs = tt
@@ -58,7 +58,7 @@ finish-teardown-spec =
     is-tearing-requires
     next-occupied-requires
     eq-requires
-    put-life-requires
+    put-retired-requires
     say-requires
     same-length
     same-length-2

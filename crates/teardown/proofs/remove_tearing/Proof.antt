@@ -36,8 +36,8 @@ info-of-requires c κs = tt
 remove-slot-requires : tie.Need-remove-slot-requires
 remove-slot-requires c κs = tt
 
-put-life-requires : tie.Need-put-life-requires
-put-life-requires c κs = tt
+put-tearing-requires : tie.Need-put-tearing-requires
+put-tearing-requires c κs = tt
 
 say5-requires : tie.Need-say5-requires
 say5-requires c κs = tt
@@ -49,7 +49,7 @@ same-length-4 : tie.Need-same-length-4
 same-length-4 c = search needs
 
 returns-2 : tie.Need-returns-2
-returns-2 c = torn-found (c .before .before .before .before .before .before .before .before .before .before .before .before .before .before .before .before .before .before .before .before .before .before .before .before .args .s .now) (c .before .before .before .before .before .before .before .before .before .before .before .before .before .before .before .before .before .before .before .before .before .before .before .before .args .out .now) (c .before .before .before .before .before .before .before .before .before .before .before .before .before .before .before .before .before .before .before .before .before .before .before .before .args .sh) (c .before .before .before .before .before .before .before .before .before .before .before .before .before .before .before .before .before .before .before .before .before .before .before .before .args .base) (c .before .before .before .before .before .before .before .before .before .before .before .before .before .before .before .before .before .before .before .before .before .before .before .before .args .b) _ _ (c .before .before .before .before .before .before .before .before .before .before .before .before .before .before .before .before .before .before .before .before .head-word .ensures) (c .before .before .before .before .before .before .before .before .before .before .before .before .before .before .before .before .before .before .next-occupied .ensures) _ (c .before .before .before .before .before .before .before .before .before .before .before .before .before .before .before .before .before .eq .ensures) _ _ _ _ _ _ (c .before .before .before .before .before .before .before .before .before .before .before .before .before .before .before .before .if1 .left) (c .before .before .before .before .before .before .before .before .before .before .before .before .before .before .before .dec .ensures) (c .before .before .before .before .before .before .before .before .before .before .before .before .before .handle-at .ensures) (c .before .before .before .before .before .before .before .before .before .before .before .before .info-of .ensures) (c .before .before .before .before .before .before .before .before .before .before .remove-slot .ensures) (c .before .before .before .before .before .before .put-life .ensures) (c .before .before .say5 .ensures)
+returns-2 c = torn-found (c .before .before .before .before .before .before .before .before .before .before .before .before .before .before .before .before .before .before .before .before .before .before .before .before .args .s .now) (c .before .before .before .before .before .before .before .before .before .before .before .before .before .before .before .before .before .before .before .before .before .before .before .before .args .out .now) (c .before .before .before .before .before .before .before .before .before .before .before .before .before .before .before .before .before .before .before .before .before .before .before .before .args .sh) (c .before .before .before .before .before .before .before .before .before .before .before .before .before .before .before .before .before .before .before .before .before .before .before .before .args .base) (c .before .before .before .before .before .before .before .before .before .before .before .before .before .before .before .before .before .before .before .before .before .before .before .before .args .b) _ _ (c .before .before .before .before .before .before .before .before .before .before .before .before .before .before .before .before .before .before .before .before .head-word .ensures) (c .before .before .before .before .before .before .before .before .before .before .before .before .before .before .before .before .before .before .next-occupied .ensures) _ (c .before .before .before .before .before .before .before .before .before .before .before .before .before .before .before .before .before .eq .ensures) _ _ _ _ _ _ (c .before .before .before .before .before .before .before .before .before .before .before .before .before .before .before .before .if1 .left) (c .before .before .before .before .before .before .before .before .before .before .before .before .before .before .before .dec .ensures) (c .before .before .before .before .before .before .before .before .before .before .before .before .before .handle-at .ensures) (c .before .before .before .before .before .before .before .before .before .before .before .before .info-of .ensures) (c .before .before .before .before .before .before .before .before .before .before .remove-slot .ensures) (c .before .before .before .before .before .before .put-tearing .ensures) (c .before .before .say5 .ensures)
 
 pub remove-tearing-spec : {M : Type 1} → statement M
 remove-tearing-spec =
@@ -66,7 +66,7 @@ remove-tearing-spec =
     handle-at-requires
     info-of-requires
     remove-slot-requires
-    put-life-requires
+    put-tearing-requires
     say5-requires
     same-length-3
     same-length-4

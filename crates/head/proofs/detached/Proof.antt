@@ -1,0 +1,17 @@
+use borrow.Author.Needs.{needs}
+use Rattle.head.proofs.detached.Statement.{statement}
+use Rattle.head.proofs.detached.Tie as tie
+use Rattle.head.proofs.detached.Reads as reads
+use Rattle.head.proofs.detached.Lts as lts
+use Rattle.head.proofs.next_epoch.Reads as next-epoch-reads
+
+-- src/lib.rt:105:9
+next-epoch-requires : tie.Need-next-epoch-requires
+next-epoch-requires c κs = tt
+
+-- src/lib.rt:102:1
+returns : tie.Need-returns
+returns c = cc
+
+pub detached-spec : {M : Type 1} → statement M
+detached-spec = tie.close (tie.spec next-epoch-requires returns)

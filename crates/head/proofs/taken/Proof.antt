@@ -1,0 +1,22 @@
+use borrow.Author.Needs.{needs}
+use Rattle.head.proofs.taken.Statement.{statement}
+use Rattle.head.proofs.taken.Tie as tie
+use Rattle.head.proofs.taken.Reads as reads
+use Rattle.head.proofs.taken.Lts as lts
+use Rattle.head.proofs.with_free.Reads as with-free-reads
+use Rattle.words.proofs.dec.Reads as dec-reads
+
+-- src/lib.rt:74:25
+dec-requires : tie.Need-dec-requires
+dec-requires c κs = tt
+
+-- src/lib.rt:74:5
+with-free-requires : tie.Need-with-free-requires
+with-free-requires c κs = tt
+
+-- src/lib.rt:70:1
+returns : tie.Need-returns
+returns c = cc
+
+pub taken-spec : {M : Type 1} → statement M
+taken-spec = tie.close (tie.spec dec-requires with-free-requires returns)
