@@ -6,22 +6,14 @@ use Prim.Native.Nat.{ℕ, zero, suc, _+_, _-_, _*_, _≤_, _<_, min}
 use native.Mathlib.Omega.{arith}
 use native.Mathlib.Numerals.{add-one}
 use lib.ListN.{length}
-use lib.Dec.{eqb, leb}
-use borrow.Author.Tests.{eq-eqb, ne-eqb, le-leb, leb-true}
-use Rattle.words.specs.Pick.{bool}
-use Rattle.words.specs.All.{all, all-more, all-stop, all-end}
+use lib.Dec.{leb}
+use borrow.Author.Tests.{eq-eqb, ne-eqb}
 use Rattle.model.specs.State.{till, maxSlots}
 use Rattle.model.specs.Storage.{slotsOf}
 use Rattle.layout.specs.declared.Shape.{Shape}
-use Rattle.layout.specs.Layout.{Mem, total, root, head, entry, cell, object, index, row, item, load}
-use Rattle.counts.specs.Found.{gather, isOccupied, holdsHandles, onLink, inCell, inPage, inTable, inRow, inBook, found, countsB, OffObjects, found-same, book-same}
-use Rattle.counts.specs.Shift.{less, shiftW, shifted, shifted-append, shifted-off, Small, shifted-undo}
-use Rattle.counts.specs.Count.{zerosB, zeros-counts}
-
--- the slots of a page
-pub slots-none : (p : ℕ) → 262144 ≤ p → 0 ≡ slotsOf till p
-unfolding maxSlots
-slots-none p h = omega arith
+use Rattle.layout.specs.Layout.{Mem, total, root, head, entry, cell, index, row, item, load}
+use Rattle.counts.specs.Found.{gather, isOccupied, holdsHandles, onLink, inCell, inPage, inTable, inRow, inBook, found, countsB, OffObjects, book-same}
+use Rattle.counts.specs.Shift.{shiftW, shifted, shifted-append, shifted-off}
 
 pub slots-some : (p r : ℕ) → p < 262144 → r ≡ min 64 (16777215 - p * 64) → r ≡ slotsOf till p
 unfolding maxSlots
@@ -43,14 +35,14 @@ holds-no (suc (suc (suc zero))) a b = absurd (b refl)
 holds-no (suc (suc (suc (suc g)))) a b = rw (ne-eqb (suc (suc (suc (suc g)))) 2 a, ne-eqb (suc (suc (suc (suc g)))) 3 b)
 
 module _ (ws : List ℕ) (sh : Shape) (d : ℕ) where
-  -- `shift_cell`
+  -- `note_cell`
   pub cell-yes : (fr j t o : ℕ) (vs : List ℕ) → t ≡ load ws sh (cell fr j 0) → t ≡ 3 → o ≡ load ws sh (cell fr j 2) → vs ≡ shiftW ws sh d o → vs ≡ shifted ws sh d (inCell (load ws sh) fr j)
   cell-yes fr j t o vs a b c e = let y : isOccupied (load ws sh (cell fr j 0)) ≡ true = eq-eqb (load ws sh (cell fr j 0)) 3 (sym a ∙ b) in e ∙ rw (y, c)
 
   pub cell-no : (fr j t : ℕ) → t ≡ load ws sh (cell fr j 0) → (t ≡ 3 → ⊥) → ws ≡ shifted ws sh d (inCell (load ws sh) fr j)
   cell-no fr j t a n = let y : isOccupied (load ws sh (cell fr j 0)) ≡ false = ne-eqb (load ws sh (cell fr j 0)) 3 (λ e. n (a ∙ e)) in rw y
 
-  -- `shift_page`
+  -- `note_page`
   pub page-no : (e p l : ℕ) → l ≡ load ws sh (entry (e + p) 0) → l ≡ 0 → ws ≡ shifted ws sh d (inPage (load ws sh) e p)
   page-no e p l a z = ap (λ (k : ℕ). shifted ws sh d (onLink k (λ fr. gather (slotsOf till p) (inCell (load ws sh) fr)))) (sym (sym a ∙ z))
 
@@ -63,7 +55,7 @@ module _ (ws : List ℕ) (sh : Shape) (d : ℕ) where
       go zero z = absurd (z refl)
       go (suc l) z = let e : suc l - 1 ≡ l = omega arith in rw e
 
-  -- `shift_row`
+  -- `note_row`
   pub row-no : (x g : ℕ) → g ≡ load ws sh (row x 1) → (g ≡ 2 → ⊥) → (g ≡ 3 → ⊥) → ws ≡ shifted ws sh d (inRow (load ws sh) x)
   row-no x g a p q = let y : holdsHandles (load ws sh (row x 1)) ≡ false = ap holdsHandles (sym a) ∙ holds-no g p q in rw y
 
@@ -71,7 +63,7 @@ module _ (ws : List ℕ) (sh : Shape) (d : ℕ) where
       → vs ≡ shifted ws sh d (gather n (λ j. load ws sh (item x j 2) ∷ [])) → vs ≡ shifted ws sh d (inRow (load ws sh) x)
   row-yes x g c n vs a p q b e k = let y : holdsHandles (load ws sh (row x 1)) ≡ true = ap holdsHandles (sym a) ∙ holds-yes g p q in k ∙ rw (y, e, b)
 
--- a loop over lists that do not hang on the objects
+-- a loop over lists that do not depend on the objects
 module _ (sh : Shape) (d : ℕ) (f : Mem → ℕ → List ℕ) (same : (m n : Mem) → OffObjects m n → (k : ℕ) → f n k ≡ f m k) where
   pub turn-more : (ws vs us : List ℕ) (k : ℕ) → vs ≡ shifted ws sh d (gather k (f (load ws sh))) → us ≡ shifted vs sh d (f (load vs sh) k)
       → us ≡ shifted ws sh d (gather (k + 1) (f (load ws sh)))
@@ -83,7 +75,7 @@ module _ (sh : Shape) (d : ℕ) (f : Mem → ℕ → List ℕ) (same : (m n : Me
   pub turn-end : (ws vs : List ℕ) (k n : ℕ) → vs ≡ shifted ws sh d (gather k (f (load ws sh))) → k ≡ n → vs ≡ shifted ws sh d (gather n (f (load ws sh)))
   turn-end ws vs k n a e = a ∙ ap (λ (i : ℕ). shifted ws sh d (gather i (f (load ws sh)))) e
 
--- `shift_all`
+-- tables, then rows
 pub all-by : (ws vs us : List ℕ) (sh : Shape) (d : ℕ) → vs ≡ shifted ws sh d (gather (sh .tables) (inTable (load ws sh) sh)) → us ≡ shifted vs sh d (inBook (load vs sh) sh)
     → us ≡ shifted ws sh d (found (load ws sh) sh)
 all-by ws vs us sh d a b =
@@ -91,47 +83,11 @@ all-by ws vs us sh d a b =
     let e : inBook (load vs sh) sh ≡ inBook (load ws sh) sh = rw a (book-same (load ws sh) (load (shifted ws sh d os) sh) (shifted-off ws sh d os) sh) in
     b ∙ ap (λ (l : List ℕ). shifted vs sh d l) e ∙ ap (λ (w : List ℕ). shifted w sh d (inBook (load ws sh) sh)) a ∙ sym (shifted-append ws sh d os (inBook (load ws sh) sh))
 
--- `all_zero`
-module _ (m : Mem) (sh : Shape) where
-  abbrev pub zeroAt : ℕ → Bool
-  zeroAt o = eqb (m (object o 6)) 0
-
-  pub zero-stop : (o c : ℕ) → o < sh .objects → c ≡ m (object o 6) → (c ≡ 0 → ⊥) → false ≡ zerosB m sh
-  unfolding zerosB
-  zero-stop o c h e n = sym (all-stop (sh .objects) zeroAt o h (ne-eqb (m (object o 6)) 0 (λ q. n (e ∙ q))))
-
-  pub zero-more : (o c : ℕ) → all o zeroAt ≡ true → c ≡ m (object o 6) → c ≡ 0 → all (o + 1) zeroAt ≡ true
-  zero-more o c h e n = all-more o zeroAt h (eq-eqb (m (object o 6)) 0 (sym e ∙ n))
-
-  pub zero-end : (o : ℕ) → all o zeroAt ≡ true → sh .objects ≤ o → true ≡ zerosB m sh
-  unfolding zerosB
-  zero-end o h l = sym (all-end (sh .objects) o zeroAt h l)
-
 -- the answer: there are words enough, and the counts are right
 unfoldable pub countsIn : List ℕ → Shape → Bool
 countsIn ws sh = leb (total sh) (length ws) && countsB (load ws sh) sh
 
-pub counts-short : (ws : List ℕ) (sh : Shape) (n t : ℕ) → n ≡ length ws → t ≡ total sh → n < t → false ≡ countsIn ws sh
-unfolding countsIn
-counts-short ws sh n t a b h = bool (leb (total sh) (length ws))
-    (λ e. absurd (omega (arith, a, b, leb-true (total sh) (length ws) e)))
-    (λ e. rw e)
-
--- `check_counts`: what the two passes leave, and the answer
-pub counts-kept : (ws vs us : List ℕ) (sh : Shape) → Small ws → vs ≡ shifted ws sh less (found (load ws sh) sh) → us ≡ shifted vs sh 1 (found (load vs sh) sh) → us ≡ ws
-counts-kept ws vs us sh h a b =
-    let os : List ℕ = found (load ws sh) sh in
-    let e : found (load vs sh) sh ≡ os = rw a (found-same (load ws sh) (load (shifted ws sh less os) sh) (shifted-off ws sh less os) sh) in
-    b ∙ ap (λ (l : List ℕ). shifted vs sh 1 l) e ∙ ap (λ (w : List ℕ). shifted w sh 1 os) a ∙ shifted-undo ws sh os h
-
-pub counts-answer : (ws vs : List ℕ) (sh : Shape) (n t : ℕ) (r : Bool) → Small ws → sh .tables < 256 → sh .pages < 4294967296 → sh .rows < 65536
-    → n ≡ length ws → t ≡ total sh → t ≤ n → vs ≡ shifted ws sh less (found (load ws sh) sh) → r ≡ zerosB (load vs sh) sh → r ≡ countsIn ws sh
-unfolding countsIn
-counts-answer ws vs sh n t r h x y z a b l e q =
-    let room : total sh ≤ length ws = omega arith in
-    q ∙ ap (λ (w : List ℕ). zerosB (load w sh) sh) e ∙ zeros-counts ws sh room h x y z ∙ rw (le-leb (total sh) (length ws) room)
-
--- `shift_table` and `shift_rows`: what their loops leave
+-- what the walks over a table and over the rows leave
 module _ (ws : List ℕ) (sh : Shape) (d : ℕ) where
   pub table-by : (b z e n : ℕ) (vs : List ℕ) → z ≡ load ws sh (head b 5) → e ≡ load ws sh (head b 10) → n ≡ min z (sh .pages)
       → vs ≡ shifted ws sh d (gather n (inPage (load ws sh) e)) → vs ≡ shifted ws sh d (inTable (load ws sh) sh b)
@@ -141,6 +97,6 @@ module _ (ws : List ℕ) (sh : Shape) (d : ℕ) where
       → vs ≡ shifted ws sh d (gather n (λ i. inRow (load ws sh) (load ws sh (index i)))) → vs ≡ shifted ws sh d (inBook (load ws sh) sh)
   book-by z n vs p q k = k ∙ rw (q, p)
 
-  -- `shift_rank`
+  -- `note_rank`
   pub rank-by : (i x : ℕ) (vs : List ℕ) → x ≡ load ws sh (index i) → vs ≡ shifted ws sh d (inRow (load ws sh) x) → vs ≡ shifted ws sh d (inRow (load ws sh) (load ws sh (index i)))
   rank-by i x vs e k = k ∙ ap (λ (y : ℕ). shifted ws sh d (inRow (load ws sh) y)) e

@@ -89,14 +89,8 @@ module _ (m n : Mem) (h : OffObjects m n) where
   pub table-same : (sh : Shape) (b : ℕ) → inTable n sh b ≡ inTable m sh b
   table-same sh b = ap (λ (u : Mem). inTable u sh b) (hide-same m n h)
 
-  pub row-same : (x : ℕ) → inRow n x ≡ inRow m x
-  row-same x = ap (λ (u : Mem). inRow u x) (hide-same m n h)
-
   pub book-same : (sh : Shape) → inBook n sh ≡ inBook m sh
   book-same sh = ap (λ (u : Mem). inBook u sh) (hide-same m n h)
-
-  pub found-same : (sh : Shape) → found n sh ≡ found m sh
-  found-same sh = ap (λ (u : Mem). found u sh) (hide-same m n h)
 
   pub item-same : (x j : ℕ) → _≡_ {A = List ℕ} (n (item x j 2) ∷ []) (m (item x j 2) ∷ [])
   item-same x j = ap (λ (u : Mem). u (item x j 2) ∷ []) (hide-same m n h)

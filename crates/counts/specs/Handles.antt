@@ -1,18 +1,19 @@
 -- In a represented state the handles that the words hold are the model's. Assumes nothing.
 use mathlib.Core.Path.{_≡_, refl, sym, ap, _∙_}
-use mathlib.Core.List.{List, [], _∷_, _++_, map}
-use Prim.Native.Nat.{ℕ, zero, suc, _+_, _-_, _*_, _/_, _%_, _≤_, _<_, min}
+use mathlib.Core.List.{List, [], _∷_, map}
+use Prim.Native.Nat.{ℕ, zero, suc, _+_, _*_, _/_, _%_, _≤_, _<_, min}
 use native.Mathlib.Omega.{arith}
 use lib.ListN.{length}
 use lib.Dec.{eqb, ltb}
-use borrow.Author.Tests.{eq-eqb, ne-eqb, eqb-true, eqb-false, lt-ltb, le-ltb, ltb-true, ltb-false}
+use borrow.Author.Tests.{ne-eqb, lt-ltb, le-ltb, ltb-true, ltb-false}
 use Rattle.words.specs.Pick.{bool}
-use Rattle.words.specs.Pick.{pick as choose}
+use Rattle.words.specs.Pick.{pick, eqb-sym}
 use Rattle.model.specs.Base.{bit, occurs, sum}
 use Rattle.model.specs.State.{till, Handle, Entry, Entry.moved, Entry.copied, Body, Body.reservation, Body.claim, Body.parcel, Row, State, maxSlots}
 use Rattle.model.specs.Storage.{slotsOf}
 use Rattle.model.specs.Sums.{sum-equal, sum-zero}
 use Rattle.model.specs.WellFormed.{inSlot, heldBy, handlesIn, inHandles, inRows, handleCount}
+use Rattle.model.specs.Counting.{occurs-append, sum-append, sum-front, sum-cut}
 use Rattle.layout.specs.declared.Shape.{Shape}
 use Rattle.layout.specs.Layout.{Mem, root, head, entry, cell, object, index, row, item}
 use Rattle.representation.specs.Represents.{entryAt, tagged, slotFrom, slotIn, HandleIs, EntryIs, Items, BodyIs, RowsAre, Represents}
@@ -20,42 +21,20 @@ use Rattle.counts.specs.Found.{gather, onLink, inCell, inPage, inTable, 
 
 -- ---- sums
 
-pub occurs-append : (o : ℕ) (xs ys : List ℕ) → occurs o (xs ++ ys) ≡ occurs o xs + occurs o ys
-occurs-append o [] ys = omega arith
-occurs-append o (x ∷ xs) ys = omega (arith, occurs-append o xs ys)
-
 pub occurs-gather : (o n : ℕ) (f : ℕ → List ℕ) → occurs o (gather n f) ≡ (sum n λ k. occurs o (f k))
 occurs-gather o zero f = refl
 occurs-gather o (suc n) f = omega (arith, occurs-append o (gather n f) (f n), occurs-gather o n f)
-
--- a sum in two parts
-sum-split : (n c : ℕ) (f : ℕ → ℕ) → sum (n + c) f ≡ sum n f + (sum c λ j. f (n + j))
-sum-split n zero f = let e : n + 0 ≡ n = omega arith in rw e (omega arith)
-sum-split n (suc c) f = let e : n + suc c ≡ suc (n + c) = omega arith in rw e (omega (arith, sum-split n c f))
-
--- its first part apart
-sum-front : (n : ℕ) (f : ℕ → ℕ) → sum (suc n) f ≡ f 0 + (sum n λ k. f (suc k))
-sum-front zero f = omega arith
-sum-front (suc n) f = omega (arith, sum-front n f)
-
--- nothing from n on
-sum-cut : (n k : ℕ) (f : ℕ → ℕ) → n ≤ k → ((i : ℕ) → n ≤ i → i < k → f i ≡ 0) → sum k f ≡ sum n f
-sum-cut n k f h z = let e : k ≡ n + (k - n) = omega arith in
-    ap (λ (i : ℕ). sum i f) e ∙ sum-split n (k - n) f ∙ omega (arith, sum-zero (k - n) (λ j. f (n + j)) (λ j l. z (n + j) (omega arith) (omega arith)))
 
 -- by pages of 64
 sum-pages : (n : ℕ) (f : ℕ → ℕ) → sum (n * 64) f ≡ (sum n λ p. sum 64 λ j. f (p * 64 + j))
 sum-pages zero f = refl
 sum-pages (suc n) f = let e : suc n * 64 ≡ n * 64 + 64 = omega arith in
-    ap (λ (i : ℕ). sum i f) e ∙ sum-split (n * 64) 64 f ∙ ap (λ (x : ℕ). x + (sum 64 λ j. f (n * 64 + j))) (sum-pages n f)
-
-eqb-sym : (a b : ℕ) → eqb a b ≡ eqb b a
-eqb-sym a b = bool (eqb a b) (λ e. e ∙ sym (eq-eqb b a (sym (eqb-true a b e)))) (λ e. e ∙ sym (ne-eqb b a (λ q. eqb-false a b e (sym q))))
+    ap (λ (i : ℕ). sum i f) e ∙ sum-append (n * 64) 64 f ∙ ap (λ (x : ℕ). x + (sum 64 λ j. f (n * 64 + j))) (sum-pages n f)
 
 -- ---- slots
 
 module _ (m : Mem) (o : ℕ) where
-  tag-hit : (t g x y w : ℕ) → inSlot o (tagged m t g x y w) ≡ occurs o (choose (eqb t 3) (x ∷ []) [])
+  tag-hit : (t g x y w : ℕ) → inSlot o (tagged m t g x y w) ≡ occurs o (pick (eqb t 3) (x ∷ []) [])
   tag-hit zero g x y w = refl
   tag-hit (suc zero) g x y w = refl
   tag-hit (suc (suc zero)) g x y w = refl

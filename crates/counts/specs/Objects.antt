@@ -1,8 +1,10 @@
 -- The fields of an object's record: their ranges, and the object that they show. Assumes nothing.
 use mathlib.Core.Path.{_≡_, refl, sym, ap, _∙_}
 use mathlib.Core.Bool.{Bool, true, false, _&&_}
-use Prim.Native.Nat.{ℕ, zero, suc, _+_, _^_, _≤_, _<_}
+use mathlib.Core.List.{List, [], _∷_}
+use Prim.Native.Nat.{ℕ, zero, suc, _+_, _*_, _^_, _≤_, _<_}
 use native.Mathlib.Omega.{arith}
+use lib.ListN.{length, getD}
 use lib.Dec.{eqb, leb}
 use borrow.Author.Tests.{eq-eqb, ne-eqb, eqb-true, eqb-false, le-leb, leb-true}
 use Rattle.words.specs.Pick.{bool, clash, both}
@@ -11,8 +13,10 @@ use Rattle.model.specs.Base.{bit}
 use Rattle.model.specs.State.{till, Class, Class.leaf, Class.rendezvousOnly, Class.never, Stage, Stage.stillNew, Stage.nowActive, Stage.nowRetired, Object, State, maxLimit}
 use Rattle.model.specs.Create.{classOf}
 use Rattle.model.specs.WellFormed.{ObjectRange, StageCount, WellFormed}
+use Rattle.model.specs.Tests.{bit-small}
 use Rattle.layout.specs.declared.Shape.{Shape}
-use Rattle.layout.specs.Layout.{Mem, object}
+use Rattle.layout.specs.Regions.{region, in-place}
+use Rattle.layout.specs.Layout.{Addr.reg, Mem, layout, objectsAt, object, in-object, load}
 use Rattle.representation.specs.Represents.{classWord, stageWord, ObjectIs, Represents}
 
 -- "a new object has count 0, an active one more": of a stage's word and a count
@@ -156,10 +160,6 @@ class-small leaf = omega arith
 class-small rendezvousOnly = omega arith
 class-small never = omega arith
 
-bit-small : (b : Bool) → bit b ≤ 1
-bit-small true = omega arith
-bit-small false = omega arith
-
 stage-fits : (g : Stage) (n : ℕ) → StageCount g n → stageB (stageWord g) n ≡ true
 stage-fits stillNew n h = eq-eqb n 0 h
 stage-fits nowActive n h = le-leb 1 n h
@@ -197,7 +197,31 @@ stage-rest (suc zero) n r a b q = absurd (b refl)
 stage-rest (suc (suc zero)) n r a b q = q
 stage-rest (suc (suc (suc g))) n r a b q = q ∙ ne-eqb (suc (suc (suc g))) 2 (λ e. omega arith)
 
--- `object_ok`, with every test before the last passed
+-- a memory in which every object has these fields; supported rights 0
+abbrev pub fields : ℕ → ℕ → ℕ → ℕ → ℕ → ℕ → ℕ → Mem
+fields koid kind class exportable stage count limit (reg k x y f) = getD (koid ∷ kind ∷ class ∷ 0 ∷ exportable ∷ stage ∷ count ∷ limit ∷ []) f 0
+
+-- `fields_at`: the tests look at an object's fields alone
+pub fields-are : (m : Mem) (o a b c d g f e : ℕ) (r : Bool) → a ≡ m (object o 0) → b ≡ m (object o 1) → c ≡ m (object o 2) → d ≡ m (object o 4) → g ≡ m (object o 5) → f ≡ m (object o 6)
+    → e ≡ m (object o 7) → r ≡ objectB (fields a b c d g f e) 0 → r ≡ objectB m o
+unfolding objectB
+fields-are m o a b c d g f e r pa pb pc pd pg pf pe q = q ∙ rw (pa, pb, pc, pd, pg, pf, pe)
+
+-- `object_ok`: the fields stand one after the other
+module _ (ws : List ℕ) (sh : Shape) (first o : ℕ) (h : first ≡ objectsAt sh) (l : o < sh .objects) where
+  field-at : (i f : ℕ) → f < 8 → i ≡ first + o * 8 + f → getD ws i 0 ≡ load ws sh (object o f)
+  unfolding load
+  field-at i f k e = ap (λ (j : ℕ). getD ws j 0) (e ∙ sym (in-place (region (layout sh) 8) o 0 f (length ws) (in-object sh o f l k) ∙ omega arith))
+
+  pub fields-read : (r : Bool)
+      → r ≡ objectB (fields (getD ws (first + o * 8) 0) (getD ws (first + o * 8 + 1) 0) (getD ws (first + o * 8 + 2) 0) (getD ws (first + o * 8 + 4) 0) (getD ws (first + o * 8 + 5) 0)
+      (getD ws (first + o * 8 + 6) 0) (getD ws (first + o * 8 + 7) 0)) 0
+      → r ≡ objectB (load ws sh) o
+  fields-read r q = let i : ℕ = first + o * 8 in
+      fields-are (load ws sh) o _ _ _ _ _ _ _ r (field-at i 0 (omega arith) (omega arith)) (field-at (i + 1) 1 (omega arith) refl) (field-at (i + 2) 2 (omega arith) refl)
+      (field-at (i + 4) 4 (omega arith) refl) (field-at (i + 5) 5 (omega arith) refl) (field-at (i + 6) 6 (omega arith) refl) (field-at (i + 7) 7 (omega arith) refl) q
+
+-- `fields_ok`, with every test before the last passed
 pub object-last : (m : Mem) (o a b c d e f g : ℕ) (r : Bool) → a ≡ m (object o 0) → b ≡ m (object o 1) → c ≡ m (object o 2) → d ≡ m (object o 4) → e ≡ m (object o 7) → f ≡ m (object o 6)
     → g ≡ m (object o 5) → 1 ≤ a → b ≤ 4294967295 → c ≤ 2 → d ≤ 1 → e ≤ 4294967295 → f ≤ e → r ≡ stageB g f → r ≡ objectB m o
 unfolding objectB

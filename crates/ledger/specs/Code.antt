@@ -5,7 +5,7 @@ use Prim.Native.Nat.{ℕ, _+_, _-_, _*_, _%_, _≤_, _<_, min}
 use native.Mathlib.Omega.{arith}
 use native.Mathlib.Numerals.{add-one}
 use lib.Dec.{eqb}
-use borrow.Author.Tests.{eq-eqb, ne-eqb, lt-ltb, le-leb}
+use borrow.Author.Tests.{eq-eqb, ne-eqb, lt-ltb, le-leb, lt-leb}
 use Rattle.words.specs.Pick.{bool, clash}
 use Rattle.words.specs.All.{all, all-stop, all-end, all-yes}
 use Rattle.layout.specs.declared.Shape.{Shape}
@@ -13,7 +13,7 @@ use Rattle.layout.specs.Layout.{Mem, root, head, entry, cell, index, rank, row,
 use Rattle.representation.specs.Represents.{entryAt, wordIn, frameOf, slotWord}
 use Rattle.storage.specs.Code.{word-some}
 use Rattle.ledger.specs.Items.{refused, placeB, PlaceOk, place-is, place-yes, namesB, Names, names-is, handleB, HandleOk, handle-is, claimB, itemB}
-use Rattle.ledger.specs.Ledger.{openB, OpenOk, open-is, open-yes, rowB, RowOk, row-is, row-yes, before, rankB, hitB, markB, MarkOk, mark-is, mark-yes, slotB, slot-yes, slotCount, pageB, tableB, marksB, Ledger, ledgerB, ledger-is}
+use Rattle.ledger.specs.Ledger.{openB, OpenOk, open-is, open-yes, rowB, RowOk, row-is, row-yes, before, rankB, hitB, markB, MarkOk, mark-is, mark-yes, bookB}
 
 module _ (m : Mem) (sh : Shape) where
   pub place-no : (i : ℕ) → (PlaceOk m sh i → ⊥) → false ≡ placeB m sh i
@@ -89,23 +89,6 @@ mark-hit m sh b k t x j r lx lu lj et eb q = bool r
     (λ e. e ∙ sym (mark-yes m sh b k t x j (record { place = lx; used = lu; position = lj; kind = et; table = eb; hit = sym q ∙ e })))
     (λ e. e ∙ refused (markB m sh b k t x j) (mark-is m sh b k t x j) (λ g. clash (g .hit) (sym q ∙ e)))
 
--- slots and pages
-module _ (m : Mem) (sh : Shape) (b p : ℕ) where
-  pub slot-plain : (fr j t : ℕ) → t ≡ m (cell fr j 0) → (0 < t → t < 3 → ⊥) → true ≡ slotB m sh b p fr j
-  slot-plain fr j t e n = sym (slot-yes m sh b p fr j (λ lo hi. absurd (n (omega arith) (omega arith))))
-
-  pub slot-marked : (fr j t x i : ℕ) (r : Bool) → t ≡ m (cell fr j 0) → 0 < t → t < 3 → x ≡ m (cell fr j 2) → i ≡ m (cell fr j 3) → r ≡ markB m sh b (p * 64 + j) t x i → r ≡ slotB m sh b p fr j
-  unfolding slotB
-  slot-marked fr j t x i r et lo hi ex ei q = rw (← et, lt-ltb 0 t lo, lt-ltb t 3 hi, ← ex, ← ei) q
-
-  pub page-bare : (l : ℕ) → l ≡ m (entry (entryAt m b p) 0) → l ≡ 0 → true ≡ pageB m sh b p
-  unfolding pageB
-  page-bare l e z = rw (← e, eq-eqb l 0 z)
-
-  pub page-slots : (l n : ℕ) (r : Bool) → l ≡ m (entry (entryAt m b p) 0) → (l ≡ 0 → ⊥) → n ≡ slotCount p → r ≡ all n (slotB m sh b p (l - 1)) → r ≡ pageB m sh b p
-  unfolding pageB
-  page-slots l n r e z en q = rw (← e, ne-eqb l 0 z, ← en) q
-
 -- the row before a rank
 pub before-next : (m : Mem) (i x id : ℕ) → x ≡ m (index i) → id ≡ m (row x 0) → id ≡ before m (i + 1)
 before-next m i x id e d = rw add-one (d ∙ ap (λ (y : ℕ). m (row y 0)) e)
@@ -130,31 +113,20 @@ row-shut m sh x last w b r ew eb q e = refused (rowB m sh x last) (row-is m sh x
 pub rank-is : (m : Mem) (sh : Shape) (i x last : ℕ) (r : Bool) → x ≡ m (index i) → last ≡ before m i → r ≡ rowB m sh x last → r ≡ rankB m sh i
 rank-is m sh i x last r ex el q = q ∙ ap (λ (y : ℕ). rowB m sh y last) ex ∙ ap (rowB m sh (m (index i))) el
 
--- the pages of a table
-module _ (m : Mem) (sh : Shape) (b n v : ℕ) (ev : v ≡ m (head b 5)) (en : n ≡ min v 262144) where
-  table-all : all n (pageB m sh b) ≡ tableB m sh b
-  unfolding tableB
-  table-all = ap (λ (k : ℕ). all k (pageB m sh b)) (en ∙ ap (λ (k : ℕ). min k 262144) ev)
-
-  pub table-stop : (p : ℕ) → p < n → pageB m sh b p ≡ false → false ≡ tableB m sh b
-  table-stop p h e = sym (all-stop n (pageB m sh b) p h e) ∙ table-all
-
-  pub table-end : (p : ℕ) → all p (pageB m sh b) ≡ true → n ≤ p → true ≡ tableB m sh b
-  table-end p e h = sym (all-end n p (pageB m sh b) e h) ∙ table-all
-
--- the whole
+-- the book
 module _ (m : Mem) (sh : Shape) where
-  pub ledger-no : (Ledger sh m → ⊥) → false ≡ ledgerB m sh
-  ledger-no n = refused (ledgerB m sh) (ledger-is m sh) n
+  pub book-used : sh .rows < m (root 6) → false ≡ bookB m sh
+  unfolding bookB
+  book-used h = rw (lt-leb (m (root 6)) (sh .rows) h)
 
-  pub ledger-places : (r : Bool) → r ≡ all (sh .rows) (placeB m sh) → r ≡ false → false ≡ ledgerB m sh
-  ledger-places r q e = ledger-no (λ g. clash (all-yes (sh .rows) (placeB m sh) (λ i h. place-yes m sh i (g .places i h))) (sym q ∙ e))
+  pub book-next : m (root 6) ≤ sh .rows → m (root 5) < 1 → false ≡ bookB m sh
+  unfolding bookB
+  book-next h g = rw (le-leb (m (root 6)) (sh .rows) h, lt-leb 1 (m (root 5)) g)
 
-  pub ledger-rows : (r : Bool) → r ≡ all (m (root 6)) (rankB m sh) → r ≡ false → false ≡ ledgerB m sh
-  ledger-rows r q e = ledger-no (λ g. clash (all-yes (m (root 6)) (rankB m sh) (λ i h. row-yes m sh (m (index i)) (before m i) (g .rows i h))) (sym q ∙ e))
+  pub book-places : (a : Bool) → m (root 6) ≤ sh .rows → 1 ≤ m (root 5) → a ≡ all (sh .rows) (placeB m sh) → a ≡ false → false ≡ bookB m sh
+  unfolding bookB
+  book-places a h g q e = rw (le-leb (m (root 6)) (sh .rows) h, le-leb 1 (m (root 5)) g, ← q, e)
 
-  pub ledger-last : (a c r : Bool) → m (root 6) ≤ sh .rows → 1 ≤ m (root 5) → a ≡ all (sh .rows) (placeB m sh) → a ≡ true → c ≡ all (m (root 6)) (rankB m sh) → c ≡ true → r ≡ marksB m sh
-      → r ≡ ledgerB m sh
-  unfolding ledgerB
-  ledger-last a c r hu hn qa ea qc ec q =
-      rw (le-leb (m (root 6)) (sh .rows) hu, le-leb 1 (m (root 5)) hn, ← qa, ea, ← qc, ec) (q ∙ sym (and-yes (marksB m sh)))
+  pub book-last : (a r : Bool) → m (root 6) ≤ sh .rows → 1 ≤ m (root 5) → a ≡ all (sh .rows) (placeB m sh) → a ≡ true → r ≡ all (m (root 6)) (rankB m sh) → r ≡ bookB m sh
+  unfolding bookB
+  book-last a r h g q e p = rw (le-leb (m (root 6)) (sh .rows) h, le-leb 1 (m (root 5)) g, ← q, e) p

@@ -18,10 +18,11 @@ use Rattle.invariant.specs.BookLemmas.{ids-order}
 use Rattle.layout.specs.declared.Shape.{Shape}
 use Rattle.layout.specs.Layout.{Mem, root, head, index, rank, row, item}
 use Rattle.representation.specs.Represents.{wordIn, frameOf, slotWord, slotIn, LifeIs, isMarked, Items, EntryIs, BodyIs, RowsAre, Represents}
+use Rattle.representation.specs.Told.{tagOf}
 use Rattle.ledger.specs.Items.{HandleOk, Names}
 use Rattle.ledger.specs.Ledger.{before, hitB, RowOk, MarkOk, MarksOk, Ledger, ledgerB, ledger-yes}
 use Rattle.ledger.specs.View.{from, handleAt, entryBy, itemAt, bodyBy, bodyAt, rowAt, rowsFrom, rowsView, length-from, rows-are-view}
-use Rattle.ledger.specs.Found.{tally-has, tally-two, tagOf, hits, in-body, find-split, is-by, marked-is}
+use Rattle.ledger.specs.Found.{tally-has, tally-two, hits, in-body, find-split, is-by, marked-is}
 use Rattle.ledger.specs.Shown.{idAt, ranked, one-id, one-place}
 
 -- ---- elements of the view

@@ -14,6 +14,7 @@ use Rattle.model.specs.Book.{find, movedOf}
 use Rattle.invariant.specs.Marks.{inRow, isBy}
 use Rattle.layout.specs.Layout.{Mem, index, row, item, cell}
 use Rattle.representation.specs.Represents.{wordIn, frameOf, slotWord, tagged, slotFrom, slotIn, isMarked}
+use Rattle.representation.specs.Told.{tagOf}
 use Rattle.ledger.specs.Ledger.{hitB}
 use Rattle.ledger.specs.View.{from, entryBy, itemAt, bodyBy, bodyAt, rowsFrom}
 
@@ -55,11 +56,6 @@ tally-two h j (suc n) a c s la ha lc hc ea ec = bool (eqb j a)
 
 -- ---- slots of rows
 
--- the tag of a kind of mark: true for Reserved
-abbrev pub tagOf : Bool → ℕ
-tagOf true = 1
-tagOf false = 2
-
 occurs-from : (k : ℕ) (f : ℕ → ℕ) (j n : ℕ) → occurs k (from f j n) ≡ tally (λ i. eqb k (f i)) j n
 occurs-from k f j zero = refl
 occurs-from k f j (suc n) = ap (λ (z : ℕ). bit (eqb k (f j)) + z) (occurs-from k f (suc j) n)
@@ -89,10 +85,6 @@ in-body m t b k x = go t (m (row x 1))
     go false (suc zero) = refl
     go false (suc (suc zero)) = ap (λ (z : ℕ). pick (eqb b (m (row x 2))) z 0) (moved-from m x k 0 (m (row x 3)))
     go false (suc (suc (suc w))) = rw (ne-eqb (suc (suc (suc w))) 2 (λ z. omega arith))
-
-pub in-none : (t : Bool) (b k : ℕ) → inRow t b k none ≡ 0
-in-none true b k = refl
-in-none false b k = refl
 
 -- ---- the row that an id finds
 

@@ -1,7 +1,7 @@
 -- What the state check tests of the book: the row index, the rows in use and the marks of slots. Each test stands with the facts that it is equal to.
 -- Assumes nothing.
 use mathlib.Core.Path.{_≡_, refl}
-use mathlib.Core.Bool.{Bool, true, _&&_}
+use mathlib.Core.Bool.{Bool, true, false, _&&_}
 use mathlib.Core.List.{List, [], _∷_}
 use Prim.Native.Nat.{ℕ, zero, suc, _+_, _-_, _*_, _/_, _%_, _≤_, _<_, min}
 use native.Mathlib.Omega.{arith}
@@ -13,7 +13,7 @@ use Rattle.layout.specs.declared.Shape.{Shape}
 use Rattle.layout.specs.Layout.{Mem, root, head, entry, cell, index, rank, row, item}
 use Rattle.representation.specs.Represents.{entryAt, wordIn, frameOf, slotWord}
 use Rattle.model.specs.State.{maxSlots}
-use Rattle.storage.specs.Vacate.{slots-max}
+use Rattle.model.specs.Bounds.{slots-max}
 use Rattle.ledger.specs.Items.{tests, passed, passes, pick-yes, pick-no, placeB, PlaceOk, place-is, place-yes, itemB, ItemOk, item-is, item-yes}
 
 -- ---- rows
@@ -262,6 +262,23 @@ ledgerTests m sh =
 
 unfoldable pub ledgerB : Mem → Shape → Bool
 ledgerB m sh = tests (ledgerTests m sh)
+
+-- the book, but for the marks
+unfoldable pub bookB : Mem → Shape → Bool
+bookB m sh = leb (m (root 6)) (sh .rows) && (leb 1 (m (root 5)) && (all (sh .rows) (placeB m sh) && all (m (root 6)) (rankB m sh)))
+
+-- the whole is these and the marks
+pub ledger-split : (m : Mem) (sh : Shape) → ledgerB m sh ≡ (bookB m sh && marksB m sh)
+unfolding ledgerB bookB
+ledger-split m sh = go (leb (m (root 6)) (sh .rows)) (leb 1 (m (root 5))) (all (sh .rows) (placeB m sh)) (all (m (root 6)) (rankB m sh)) (marksB m sh)
+  where
+    go : (a b c d e : Bool) → (a && (b && (c && (d && (e && true))))) ≡ ((a && (b && (c && d))) && e)
+    go true true true true true = refl
+    go true true true true false = refl
+    go true true true false e = refl
+    go true true false d e = refl
+    go true false c d e = refl
+    go false b c d e = refl
 
 pub record Ledger (sh : Shape) (m : Mem) : Type 0 where
   pub used : m (root 6) ≤ sh .rows

@@ -11,14 +11,16 @@ use Rattle.model.specs.Base.{bit}
 use Rattle.model.specs.Book.{find}
 use Rattle.model.specs.WellFormed.{IdsRise}
 use Rattle.invariant.specs.Marks.{inRow, isBy}
+use Rattle.invariant.specs.Counts.{none-in}
 use Rattle.layout.specs.declared.Shape.{Shape}
 use Rattle.layout.specs.Layout.{Mem, root, index, rank, row, item}
 use Rattle.representation.specs.Represents.{slotWord, slotIn, RowsAre}
+use Rattle.representation.specs.Told.{tagOf}
 use Rattle.ledger.specs.Items.{Names, ItemOk}
 use Rattle.ledger.specs.Ledger.{before, hitB, RowOk, MarkOk, Ledger}
 use Rattle.ledger.specs.View.{bodyAt, rowsFrom, rowsView, body-shows, rows-show}
 use Rattle.ledger.specs.Places.{both-ways}
-use Rattle.ledger.specs.Found.{tally-none, tally-one, tagOf, in-body, in-none, find-split, is-by}
+use Rattle.ledger.specs.Found.{tally-none, tally-one, in-body, find-split, is-by}
 
 -- the id of the row of rank i
 abbrev pub idAt : Mem → ℕ → ℕ
@@ -114,7 +116,7 @@ module _ (sh : Shape) (m : Mem) (l : Ledger sh m) where
   marks-shown t i b k lb = find-split m 0 (m (root 6)) i
       (λ r a. let lr : r < m (root 6) = omega (arith, a .below) in
       ap (inRow t b k) (a .found) ∙ counted t b k (m (index r)) (before m r) lb (l .rows r lr) ∙ ap bit (at-rank r lr (a .named)) ∙ sym (ap bit (is-by m t i b k)))
-      (λ d none-has. ap (inRow t b k) d ∙ in-none t b k ∙ sym (ap bit (is-by m t i b k ∙ at-none none-has)))
+      (λ d none-has. ap (inRow t b k) d ∙ none-in t b k ∙ sym (ap bit (is-by m t i b k ∙ at-none none-has)))
     where
       marked : eqb (slotWord m b k 0) (tagOf t) ≡ true → MarkOk m sh b k (slotWord m b k 0) (slotWord m b k 2) (slotWord m b k 3)
       marked e = let y = eqb-true (slotWord m b k 0) (tagOf t) e in l .marks b k lb (omega (arith, tag-mark t)) (omega (arith, tag-mark t))

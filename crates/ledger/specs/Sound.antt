@@ -14,13 +14,15 @@ use Rattle.model.specs.Book.{find, opensIn, anyOpen}
 use Rattle.model.specs.WellFormed.{HandleRange, EntryRange, All, Batch, BodyRange, RowRange, Ids, Marks}
 use Rattle.model.specs.Tests.{or-false}
 use Rattle.invariant.specs.Marks.{inRow, isBy}
+use Rattle.invariant.specs.Counts.{none-in}
 use Rattle.layout.specs.declared.Shape.{Shape}
 use Rattle.layout.specs.Layout.{Mem, Addr, root, head, index, row, item}
 use Rattle.representation.specs.Represents.{slotWord, slotIn, isMarked, BookIs}
+use Rattle.representation.specs.Told.{tagOf}
 use Rattle.ledger.specs.Items.{HandleOk}
 use Rattle.ledger.specs.Ledger.{before, hitB, RowOk, Ledger}
 use Rattle.ledger.specs.View.{from, handleAt, entryBy, itemAt, bodyBy, bodyAt, rowAt, rowsFrom, rowsView, length-from, length-rows}
-use Rattle.ledger.specs.Found.{in-body, in-none, find-split, tagOf, marked-is}
+use Rattle.ledger.specs.Found.{in-body, find-split, marked-is}
 use Rattle.ledger.specs.Shown.{hit-reserved, hit-moved, rows-shown, ids-shown, marks-shown}
 
 -- a state with the counts of the shape, the book that the memory shows, and its slots
@@ -131,7 +133,7 @@ module _ (sh : Shape) (m : Mem) (l : Ledger sh m) where
     far t i b k h = find-split m 0 (m (root 6)) i
         (λ r a. let o = l .rows r (omega (arith, a .below)) in
         ap (inRow t b k) (a .found) ∙ in-body m t b k (m (index r)) ∙ away t (m (index r)) (before m r) _ o)
-        (λ d n. ap (inRow t b k) d ∙ in-none t b k)
+        (λ d n. ap (inRow t b k) d ∙ none-in t b k)
       where
         tags : (u : Bool) → tagOf u < 3
         tags true = omega arith

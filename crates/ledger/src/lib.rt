@@ -1,10 +1,10 @@
-// The part of the state check for the book: the row index, the rows in use and the marks of slots.
+// The part of the state check for the book: the row index and the rows in use; and the test of a mark, for the walk over the slots.
 ghost use mathlib.Core.Path.{_≡_};
 ghost use Prim.Native.Nat.{_≤_, _<_};
 ghost use Rattle.words.specs.All.{all};
 ghost use Rattle.layout.specs.Layout.{load as loadAt, root};
 ghost use Rattle.ledger.specs.Items.{placeB, namesB, handleB, claimB, itemB};
-ghost use Rattle.ledger.specs.Ledger.{openB, rowB, rankB, hitB, markB, slotB, slotCount, pageB, tableB, marksB, ledgerB};
+ghost use Rattle.ledger.specs.Ledger.{openB, rowB, rankB, hitB, markB, bookB};
 use layout::Shape;
 
 // Whether rank i of the index names a place, and the place knows its rank.
@@ -205,7 +205,7 @@ fn hit(s: &[u64], sh: Shape, t: u64, x: u64, j: u64, k: u64) -> bool
 }
 
 // Whether slot k of table b, which has the tag t, is item j of the row in place x.
-fn mark_ok(s: &[u64], sh: Shape, b: u64, k: u64, t: u64, x: u64, j: u64) -> bool
+pub fn mark_ok(s: &[u64], sh: Shape, b: u64, k: u64, t: u64, x: u64, j: u64) -> bool
     ensures { λ r. ⌜ r ≡ markB (loadAt (now (s .entry)) sh) sh b k t x j ⌝ }
 {
     let rows = sh.rows as u64;
@@ -232,93 +232,9 @@ fn mark_ok(s: &[u64], sh: Shape, b: u64, k: u64, t: u64, x: u64, j: u64) -> bool
     hit(s, sh, t, x, j, k)
 }
 
-// Slot j of page p of table b, in the frame fr.
-fn slot_ok(s: &[u64], sh: Shape, b: u64, p: u32, fr: u64, j: u8) -> bool
-    ensures { λ r. ⌜ r ≡ slotB (loadAt (now (s .entry)) sh) sh b p fr j ⌝ }
-{
-    let q = j as u64;
-    let t = layout::cell_word(s, sh, fr, q, 0);
-    if t == 0 {
-        return true;
-    }
-    if t >= 3 {
-        return true;
-    }
-    let x = layout::cell_word(s, sh, fr, q, 2);
-    let i = layout::cell_word(s, sh, fr, q, 3);
-    mark_ok(s, sh, b, (p as u64) * 64 + q, t, x, i)
-}
-
-fn slots_ok(s: &[u64], sh: Shape, b: u64, p: u32, fr: u64, n: u8) -> bool
-    ensures { λ r. ⌜ r ≡ all n (slotB (loadAt (now (s .entry)) sh) sh b p fr) ⌝ }
-{
-    let mut j: u8 = 0;
-    while j < n {
-        if !slot_ok(s, sh, b, p, fr, j) {
-            return false;
-        }
-        j += 1;
-    }
-    true
-}
-
-// How many slots a page has.
-fn slot_count(p: u32) -> u8
-    ensures { λ r. ⌜ r ≡ slotCount p ⌝ }
-{
-    if p < 262143 {
-        return 64;
-    }
-    if p == 262143 {
-        return 63;
-    }
-    0
-}
-
-fn page_ok(s: &[u64], sh: Shape, b: u64, p: u32) -> bool
-    ensures { λ r. ⌜ r ≡ pageB (loadAt (now (s .entry)) sh) sh b p ⌝ }
-{
-    let e = layout::head_word(s, sh, b, 10);
-    let fr = storage::page_word(s, sh, e, p as u64, 0);
-    if fr == 0 {
-        return true;
-    }
-    let n = slot_count(p);
-    slots_ok(s, sh, b, p, fr - 1, n)
-}
-
-fn table_ok(s: &[u64], sh: Shape, b: u8) -> bool
-    ensures { λ r. ⌜ r ≡ tableB (loadAt (now (s .entry)) sh) sh b ⌝ }
-{
-    let t = b as u64;
-    let n = words::smaller(layout::head_word(s, sh, t, 5), 262144);
-    let mut p: u32 = 0;
-    while (p as u64) < n {
-        if !page_ok(s, sh, t, p) {
-            return false;
-        }
-        p += 1;
-    }
-    true
-}
-
-fn marks_ok(s: &[u64], sh: Shape) -> bool
-    ensures { λ r. ⌜ r ≡ marksB (loadAt (now (s .entry)) sh) sh ⌝ }
-{
-    let n = sh.tables;
-    let mut b: u8 = 0;
-    while b < n {
-        if !table_ok(s, sh, b) {
-            return false;
-        }
-        b += 1;
-    }
-    true
-}
-
-// Whether the book of a state is as a well-formed state's must be.
-pub fn check_ledger(s: &[u64], sh: Shape) -> bool
-    ensures { λ r. ⌜ r ≡ ledgerB (loadAt (now (s .entry)) sh) sh ⌝ }
+// Whether the book of a state is as a well-formed state's must be, but for the marks.
+pub fn check_book(s: &[u64], sh: Shape) -> bool
+    ensures { λ r. ⌜ r ≡ bookB (loadAt (now (s .entry)) sh) sh ⌝ }
 {
     let used = layout::root_word(s, sh, 6);
     let next = layout::root_word(s, sh, 5);
@@ -332,8 +248,5 @@ pub fn check_ledger(s: &[u64], sh: Shape) -> bool
     if !places_ok(s, sh) {
         return false;
     }
-    if !rows_ok(s, sh) {
-        return false;
-    }
-    marks_ok(s, sh)
+    rows_ok(s, sh)
 }

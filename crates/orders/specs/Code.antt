@@ -14,21 +14,11 @@ use Rattle.model.specs.Storage.{slotsOf}
 use Rattle.layout.specs.declared.Shape.{Shape}
 use Rattle.layout.specs.Layout.{Mem, head, entry, cell}
 use Rattle.representation.specs.Represents.{wordIn, frameOf}
-use Rattle.storage.specs.Vacate.{slots-max}
 use Rattle.orders.specs.Walk.{walk}
 use Rattle.orders.specs.Check.{vacantAt, emptyAt, detachedAt, vacantsOn, vacants, tally, freeLink, emptyLink, detachedLink}
 use Rattle.orders.specs.Check.{slotNext, freeBy, emptyBy, detachedBy, tableB, ordersB}
 
 -- ---- counts
-
-pub slots-full : (p : ℕ) → p < 262143 → 64 ≡ slotsOf till p
-slots-full p h = omega (arith, slots-max)
-
-pub slots-last : (p : ℕ) → 262143 ≤ p → p < 262144 → 63 ≡ slotsOf till p
-slots-last p h l = omega (arith, slots-max)
-
-pub slots-none : (p : ℕ) → 262144 ≤ p → 0 ≡ slotsOf till p
-slots-none p h = omega (arith, slots-max)
 
 module _ (m : Mem) (e p fr : ℕ) (q : fr ≡ m (entry (e + p) 0)) where
   pub vacants-off : fr ≡ 0 → 0 ≡ vacantsOn m e p

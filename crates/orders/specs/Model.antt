@@ -12,13 +12,15 @@ use Rattle.model.specs.Base.{bit, pick, occurs, sum, isSome}
 use Rattle.model.specs.Sums.{sum-equal}
 use Rattle.model.specs.State.{till, Slot, Slot.vacant, Table, State, isVacant, isBusy, isAbsent, maxSlots}
 use Rattle.model.specs.Storage.{pageOf, slotsOf, busyIn, busyOf}
-use Rattle.model.specs.Create.{maxPages}
 use Rattle.model.specs.WellFormed.{isAttached, Orders, WellFormed}
+use Rattle.model.specs.Counting.{sum-front}
+use Rattle.model.specs.Bounds.{pages-max}
 use Rattle.layout.specs.declared.Shape.{Shape}
 use Rattle.layout.specs.Layout.{Mem, head, entry, cell}
 use Rattle.representation.specs.Represents.{entryAt, linkOf, wordIn, frameOf, tagged, slotFrom, slotIn, TableIs, Represents}
+use Rattle.representation.specs.Told.{frame-at}
 use Rattle.orders.specs.Check.{vacantAt, emptyAt, detachedAt, ordersB}
-use Rattle.orders.specs.Vacants.{BusyStored, frame-at}
+use Rattle.orders.specs.Vacants.{BusyStored}
 use Rattle.orders.specs.Decide.{OrdersAre, orders-complete}
 
 -- the pages and slots of a table as its words have them; no page is attached past its count of pages
@@ -65,10 +67,6 @@ frame-vacant m (suc fr) j = rw (ne-eqb (suc fr) 0 (λ e. omega arith)) (sym (tag
 pub vacant-is : (m : Mem) (b k : ℕ) → vacantAt m b k ≡ isVacant (slotIn m b k)
 unfolding vacantAt
 vacant-is m b k = frame-vacant m (frameOf m b k) (k % 64)
-
-sum-front : (n : ℕ) (g : ℕ → ℕ) → sum (suc n) g ≡ g 0 + (sum n λ j. g (suc j))
-sum-front zero g = omega arith
-sum-front (suc n) g = omega (arith, sum-front n g)
 
 pick-bit : (b : Bool) (x : ℕ) → pick b (suc x) x ≡ bit b + x
 pick-bit true x = omega arith
@@ -147,10 +145,6 @@ orders-given m b t i v o h = record {
   empty = record { chain = i .empty; exact = λ p. o .empty p ∙ ap bit (sym (empty-is m b t v p)) };
   detached = record { linked = i .detached; exact = λ p. o .detached p ∙ ap bit (sym (detached-is m b t v p)) };
 }
-
-pages-max : maxPages till ≡ 262144
-unfolding maxSlots
-pages-max = refl
 
 module _ (sh : Shape) (m : Mem) (s : State) (r : Represents sh m s) (w : WellFormed till s) where
   pub viewed : (b : ℕ) → b < s .tableCount → Viewed m b (s .tables b)

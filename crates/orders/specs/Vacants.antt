@@ -4,14 +4,16 @@ use mathlib.Core.Bool.{Bool, true, false, not, _&&_}
 use Prim.Native.Nat.{ℕ, zero, suc, _+_, _-_, _*_, _/_, _%_, _≤_, _<_}
 use native.Mathlib.Omega.{arith}
 use lib.Dec.{eqb, ltb}
-use borrow.Author.Tests.{eq-eqb, ne-eqb, ltb-true, lt-ltb, le-ltb}
-use Rattle.words.specs.Pick.{pick as choose, bool, clash}
+use borrow.Author.Tests.{eq-eqb, ne-eqb, ltb-true, le-ltb}
+use Rattle.words.specs.Pick.{pick, bool, clash}
 use Rattle.model.specs.Base.{bit, sum}
 use Rattle.model.specs.Sums.{sum-equal, sum-zero}
 use Rattle.model.specs.State.{till, maxSlots}
 use Rattle.model.specs.Storage.{slotsOf}
+use Rattle.model.specs.Counting.{sum-append, sum-cut}
 use Rattle.layout.specs.Layout.{Mem, head, entry, cell}
 use Rattle.representation.specs.Represents.{entryAt, wordIn, frameOf}
+use Rattle.representation.specs.Told.{frame-at}
 use Rattle.orders.specs.Check.{vacantAt, vacantsOn, vacants}
 
 -- how many slots of page p have a tag other than 0, in the frame f
@@ -24,29 +26,14 @@ BusyStored m b = (p f : ℕ) → p < m (head b 5) → m (entry (entryAt m b p) 0
 
 -- ---- sums
 
-sum-more : (a k : ℕ) (g : ℕ → ℕ) → sum (a + k) g ≡ sum a g + (sum k λ j. g (a + j))
-sum-more a zero g = let q : a + 0 ≡ a = omega arith in rw q (omega arith)
-sum-more a (suc k) g = let q : a + suc k ≡ suc (a + k) = omega arith in rw q (omega (arith, sum-more a k g))
-
--- the rest is 0
-sum-cut : (a k : ℕ) (g : ℕ → ℕ) → a ≤ k → ((j : ℕ) → a ≤ j → j < k → g j ≡ 0) → sum k g ≡ sum a g
-sum-cut a k g h z = let q : k ≡ a + (k - a) = omega arith in
-    ap (λ (x : ℕ). sum x g) q ∙ omega (arith, sum-more a (k - a) g, sum-zero (k - a) (λ j. g (a + j)) (λ j l. z (a + j) (omega arith) (omega arith)))
-
 -- by rows of w, of which the first c p numbers count
 sum-rows : (w : ℕ) (f c : ℕ → ℕ) → ((p : ℕ) → c p ≤ w) → ((p j : ℕ) → c p ≤ j → j < w → f (p * w + j) ≡ 0) → (n : ℕ)
     → sum (n * w) f ≡ (sum n λ p. sum (c p) λ j. f (p * w + j))
 sum-rows w f c h z zero = let q : 0 * w ≡ 0 = omega arith in rw q
 sum-rows w f c h z (suc n) = let q : suc n * w ≡ n * w + w = omega arith in
-    rw q (omega (arith, sum-more (n * w) w f, sum-rows w f c h z n, sum-cut (c n) w (λ j. f (n * w + j)) (h n) (z n)))
+    rw q (omega (arith, sum-append (n * w) w f, sum-rows w f c h z n, sum-cut (c n) w (λ j. f (n * w + j)) (h n) (z n)))
 
 -- ---- one page
-
--- the frame of slot j of page p
-pub frame-at : (m : Mem) (b p j : ℕ) → p < m (head b 5) → j < slotsOf till p → frameOf m b (p * 64 + j) ≡ m (entry (entryAt m b p) 0)
-frame-at m b p j l h =
-    let q : (p * 64 + j) / 64 ≡ p = omega arith in
-    rw (q, lt-ltb (p * 64 + j) maxSlots (omega arith), lt-ltb p (m (head b 5)) l)
 
 -- a slot that has no frame is not vacant
 no-frame : (m : Mem) (b k : ℕ) → frameOf m b k ≡ 0 → vacantAt m b k ≡ false
@@ -68,10 +55,10 @@ vacant-below m b k e = bool (ltb (k / 64) (m (head b 5)))
     (λ h. omega (arith, ltb-true (k / 64) (m (head b 5)) h))
     (λ h. absurd (framed m b k e (bool (ltb k maxSlots) (λ l. rw (l, h)) (λ l. rw l))))
 
-pick-zero : (n : ℕ) (x y : ℕ) → n ≡ 0 → choose (eqb n 0) x y ≡ x
+pick-zero : (n : ℕ) (x y : ℕ) → n ≡ 0 → pick (eqb n 0) x y ≡ x
 pick-zero n x y e = rw (eq-eqb n 0 e)
 
-pick-more : (n : ℕ) (x y : ℕ) → (n ≡ 0 → ⊥) → choose (eqb n 0) x y ≡ y
+pick-more : (n : ℕ) (x y : ℕ) → (n ≡ 0 → ⊥) → pick (eqb n 0) x y ≡ y
 pick-more n x y e = rw (ne-eqb n 0 e)
 
 -- of a sum of tests and of their opposites

@@ -10,10 +10,11 @@ use lib.Dec.{eqb}
 use borrow.Author.Tests.{eq-eqb, ne-eqb, eqb-true, eqb-false, not-true}
 use Rattle.words.specs.Pick.{both, both-is}
 use Rattle.model.specs.Base.{bit, occurs, sum}
-use Rattle.model.specs.Sums.{sum-equal, sum-zero, sum-add}
+use Rattle.model.specs.Sums.{sum-equal}
 use Rattle.model.specs.Tests.{bit-small, bit-true}
+use Rattle.model.specs.Counting.{bit-other, sum-tight, sum-occurs}
 use Rattle.representation.specs.Represents.{Chain, Linked}
-use Rattle.storage.specs.Order.{listFrom, same?, bit-same, bit-other, occurs-head, NoDup}
+use Rattle.storage.specs.Order.{listFrom, same?, occurs-head, NoDup}
 
 -- the link h is one to an element that passes, and the link before it is p as far as `back` tells
 abbrev pub linksBy : (ℕ → Bool) → (ℕ → ℕ → Bool) → ℕ → ℕ → Bool
@@ -112,36 +113,6 @@ module _ (next : ℕ → ℕ) (test : ℕ → Bool) (back : ℕ → ℕ → Bool
       both-is _ _
       (both-is _ _ (ap not (ne-eqb h 0 (λ e. omega arith))) (rw (← s) (both-is _ _ (v x (occurs-head x l)) (d .0))))
       (rw (← s, c .0) (walk-complete (next x) (suc x) l (c .1) (d .1) (λ y i. v y (omega arith))))
-
--- ---- counting
-
-sum-up : (n : ℕ) (f g : ℕ → ℕ) → ((i : ℕ) → i < n → f i ≤ g i) → sum n f ≤ sum n g
-sum-up zero f g e = omega arith
-sum-up (suc n) f g e = omega (arith, sum-up n f g (λ i h. e i (omega arith)), e n (omega arith))
-
--- what is nowhere more and in sum no less is the same everywhere
-sum-tight : (n : ℕ) (f g : ℕ → ℕ) → ((i : ℕ) → i < n → f i ≤ g i) → sum n g ≤ sum n f → (i : ℕ) → i < n → f i ≡ g i
-sum-tight zero f g e h i b = absurd (omega arith)
-sum-tight (suc n) f g e h i b =
-    let below : sum n f ≤ sum n g = sum-up n f g (λ j c. e j (omega arith)) in
-    let last : f n ≤ g n = e n (omega arith) in
-    ⊎-elim
-    (λ q. let m : f n ≡ g n = omega arith in cc)
-    (λ q. sum-tight n f g (λ j c. e j (omega arith)) (omega arith) i (omega arith))
-    (same? i n)
-
-sum-unit : (x n : ℕ) → x < n → (sum n λ i. bit (eqb i x)) ≡ 1
-sum-unit x zero h = absurd (omega arith)
-sum-unit x (suc n) h =
-    ⊎-elim
-    (λ q. omega (arith, bit-same n x q, sum-zero n (λ i. bit (eqb i x)) (λ i b. bit-other i x (λ e. omega arith))))
-    (λ q. omega (arith, bit-other n x q, sum-unit x n (omega arith)))
-    (same? n x)
-
--- the length of a list of numbers below n, counted by number
-sum-occurs : (n : ℕ) (l : List ℕ) → ((x : ℕ) → 0 < occurs x l → x < n) → (sum n λ i. occurs i l) ≡ length l
-sum-occurs n [] e = sum-zero n (λ i. 0) (λ i b. refl)
-sum-occurs n (y ∷ l) e = omega (arith, sum-add n (λ i. bit (eqb i y)) (λ i. occurs i l), sum-unit y n (e y (occurs-head y l)), sum-occurs n l (λ x h. e x (omega arith)))
 
 -- THE WALK DECIDES, where only the first n numbers can pass and as many pass as it has steps: a list that is linked so and holds each number that
 -- passes once and nothing else

@@ -1,15 +1,16 @@
 -- The tests of the check's first part, and that they pass exactly where the facts hold. Assumes nothing.
-use mathlib.Core.Path.{_≡_, sym}
+use mathlib.Core.Path.{_≡_}
 use mathlib.Core.Bool.{Bool, true, false, not, _&&_}
 use Prim.Native.Nat.{ℕ, zero, suc, _+_, _*_, _/_, _^_, _≤_, _<_}
 use native.Mathlib.Omega.{arith}
 use lib.Dec.{eqb, ltb, leb}
 use borrow.Author.Tests.{eq-eqb, ne-eqb, eqb-true, eqb-false, lt-ltb, ltb-true, le-leb, leb-true, not-true}
-use Rattle.words.specs.Pick.{pick, bool, both}
+use Rattle.words.specs.Pick.{pick, bool, both, refuted}
 use Rattle.words.specs.All.{all}
 use Rattle.model.specs.State.{till}
 use Rattle.model.specs.Storage.{slotsOf}
 use Rattle.layout.specs.declared.Shape.{Shape}
+use Rattle.layout.specs.declared.CellWords.{CellWords}
 use Rattle.layout.specs.Layout.{Mem, root, head, entry, owner, group, cell}
 use Rattle.structure.specs.Facts.{limitsTo, freeFrom, busyCells, attachedTo, HeadIs, SlotIs}
 
@@ -71,9 +72,36 @@ framesB m sh =
 unfoldable pub structureB : Mem → Shape → Bool
 structureB m sh = tablesB m sh && framesB m sh
 
--- a test that a fact refutes is false
-pub refuted : (b : Bool) → (b ≡ true → ⊥) → false ≡ b
-refuted b h = bool b (λ e. absurd (h e)) (λ e. sym e)
+-- ---- the same in two parts: the outline, and the slots
+
+-- a slot by its words
+unfoldable pub handleC : ℕ → ℕ → CellWords → Bool
+handleC O life c = not (eqb life 2) && (ltb (c .object) O && leb (c .flags) 3)
+
+unfoldable pub slotC : ℕ → ℕ → ℕ → CellWords → Bool
+slotC O life high c = leb (c .tag) 3 && (leb 1 (c .generation) && (leb (c .generation) high && pick (eqb (c .tag) 3) (handleC O life c) true))
+
+-- the frame of entry e, as a link, but for its slots
+unfoldable pub linkB : Mem → Shape → ℕ → ℕ → Bool
+linkB m sh e zero = true
+linkB m sh e (suc f) = ltb f (sh .frames) && eqb (m (owner f)) (suc e)
+
+unfoldable pub entryB : Mem → Shape → ℕ → Bool
+entryB m sh e = leb 1 (m (entry e 1)) && (leb (m (entry e 1)) 4294967295 && linkB m sh e (m (entry e 0)))
+
+unfoldable pub entriesB : Mem → Shape → ℕ → ℕ → Bool
+entriesB m sh e n = all n λ p. entryB m sh (e + p)
+
+-- table b: its head and its page entries
+unfoldable pub spanB : Mem → Shape → ℕ → ℕ → Bool
+spanB m sh b e = headB m b e && entriesB m sh e (m (head b 5))
+
+unfoldable pub spansB : Mem → Shape → Bool
+spansB m sh = all (sh .tables) (λ b. spanB m sh b (limitsTo m b)) && eqb (limitsTo m (sh .tables)) (sh .pages)
+
+-- heads, page entries and frames
+unfoldable pub outlineB : Mem → Shape → Bool
+outlineB m sh = spansB m sh && framesB m sh
 
 -- ---- heads
 

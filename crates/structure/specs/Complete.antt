@@ -13,15 +13,16 @@ use Rattle.model.specs.Storage.{slotsOf}
 use Rattle.model.specs.WellFormed.{LifeRange, TableRange, isFrame, pagesWith, isAttached, WellFormed}
 use Rattle.model.specs.Tests.{bool, clash, bit-true, zero-or}
 use Rattle.model.specs.Sums.{sum-equal, sum-add, sum-part}
+use Rattle.model.specs.Counting.{bit-same, sum-some, sum-ones, sum-occurs}
 use Rattle.layout.specs.declared.Shape.{Shape}
 use Rattle.layout.specs.Layout.{Mem, head, entry, owner, cell}
 use Rattle.representation.specs.Represents.{entryAt, tagged, LifeIs, TableIs, Represents}
+use Rattle.representation.specs.Told.{link-some}
 use Rattle.structure.specs.Facts.{limitsTo, isFree, freeFrom, attachedTo, HeadIs, SlotIs, PageIs, Structure}
 use Rattle.structure.specs.Checks.{structureB}
 use Rattle.structure.specs.Whole.{structure-complete}
-use Rattle.structure.specs.Sums.{bit-yes, sum-some, sum-ones, sum-occurs}
 use Rattle.structure.specs.Frames.{pagesOf, pages-counted}
-use Rattle.structure.specs.Slots.{link-some, slot-at, tag-there, tagged-generation, tagged-held, busy-page}
+use Rattle.structure.specs.Slots.{slot-at, tag-there, tagged-generation, tagged-held, busy-page}
 use Rattle.structure.specs.View.{pages-with}
 
 -- ---- lifecycles
@@ -88,7 +89,7 @@ module _ (sh : Shape) (m : Mem) (s : State) (r : Represents sh m s) (w : WellFor
     -- a frame of a page is one of the frames
     frame-in : (f : ℕ) → m (entry (entryAt m b p) 0) ≡ suc f → f < sh .frames
     frame-in f e =
-        let a : bit (isFrame (s .tables b .pages p .frame) f) ≡ 1 = rw (page-frame f e) (bit-yes f f refl) in
+        let a : bit (isFrame (s .tables b .pages p .frame) f) ≡ 1 = rw (page-frame f e) (bit-same f f refl) in
         let c = sum-part (s .tables b .limit) (λ q. bit (isFrame (s .tables b .pages q .frame) f)) p (omega (arith, under, g .size)) in
         let d = sum-part (s .tableCount) (λ c. sum (s .tables c .limit) λ q. bit (isFrame (s .tables c .pages q .frame) f)) b inside in
         let z = ltb-true f (s .frameCount) (bit-true (ltb f (s .frameCount)) (omega (arith, w .frames .once f))) in

@@ -11,11 +11,11 @@ use Rattle.model.specs.Base.{bit, occurs, sum, range, dropIf}
 use Rattle.model.specs.WellFormed.{Rising}
 use Rattle.model.specs.Tests.{bool, bit-small}
 use Rattle.model.specs.Sums.{sum-equal, sum-zero, sum-add, occurs-dropIf, range-all}
+use Rattle.model.specs.Counting.{bit-same, bit-other, sum-le, sum-up, sum-tight, sum-swap, sum-append, sum-ones, sum-one, sum-link, sum-occurs}
 use Rattle.layout.specs.declared.Shape.{Shape}
 use Rattle.layout.specs.Layout.{Mem, head, entry, owner}
 use Rattle.representation.specs.Represents.{entryAt}
 use Rattle.structure.specs.Facts.{limitsTo, isFree, freeFrom, attachedIn, attachedTo, Structure}
-use Rattle.structure.specs.Sums.{bit-yes, bit-no, sum-le, sum-up, sum-tight, sum-swap, sum-append, sum-ones, sum-one, sum-link, sum-occurs}
 
 -- how many pages of the first n tables have the frame f
 abbrev pub pagesOf : Mem → ℕ → ℕ → ℕ
@@ -60,7 +60,7 @@ module _ (sh : Shape) (m : Mem) (st : Structure sh m) where
       (λ e. let z = eqb-true (m (owner f)) 0 e in
       let y : pagesOf m (sh .tables) f ≡ 0 = sum-zero (sh .tables) (λ b. sum (m (head b 5)) λ p. bit (eqb (m (entry (entryAt m b p) 0)) (suc f))) (λ b i.
       sum-zero (m (head b 5)) (λ p. bit (eqb (m (entry (entryAt m b p) 0)) (suc f))) (λ p j.
-      bit-no (m (entry (entryAt m b p) 0)) (suc f) (λ q. omega (arith, st .pages b p i j .named f q)))) in
+      bit-other (m (entry (entryAt m b p) 0)) (suc f) (λ q. omega (arith, st .pages b p i j .named f q)))) in
       omega arith)
       (λ e. let y : pagesOf m (sh .tables) f ≤ (sum (sh .tables) λ b. sum (m (head b 5)) λ p. bit (eqb (entryAt m b p) (m (owner f) - 1))) =
       sum-le (sh .tables) (λ b. sum (m (head b 5)) λ p. bit (eqb (m (entry (entryAt m b p) 0)) (suc f))) (λ b. sum (m (head b 5)) λ p. bit (eqb (entryAt m b p) (m (owner f) - 1))) (λ b i.
@@ -69,7 +69,7 @@ module _ (sh : Shape) (m : Mem) (st : Structure sh m) where
       (λ q. omega (
         arith,
         bit-small (eqb (m (entry (entryAt m b p) 0)) (suc f)),
-        bit-yes (entryAt m b p) (m (owner f) - 1)
+        bit-same (entryAt m b p) (m (owner f) - 1)
             (omega (arith, st .pages b p i j .named f (eqb-true (m (entry (entryAt m b p) 0)) (suc f) q))),
       ))
       (λ q. omega (arith, ap bit q)))) in
@@ -84,7 +84,7 @@ module _ (sh : Shape) (m : Mem) (st : Structure sh m) where
   pages-past : (f : ℕ) → sh .frames ≤ f → pagesOf m (sh .tables) f ≡ 0
   pages-past f h = sum-zero (sh .tables) (λ b. sum (m (head b 5)) λ p. bit (eqb (m (entry (entryAt m b p) 0)) (suc f))) (λ b i.
       sum-zero (m (head b 5)) (λ p. bit (eqb (m (entry (entryAt m b p) 0)) (suc f))) (λ p j.
-      bit-no (m (entry (entryAt m b p) 0)) (suc f) (λ q. omega (arith, st .pages b p i j .link))))
+      bit-other (m (entry (entryAt m b p) 0)) (suc f) (λ q. omega (arith, st .pages b p i j .link))))
 
   -- THE FRAMES: each is free or has one page
   pub frame-once : (f : ℕ) → pagesOf m (sh .tables) f + bit (isFree m (sh .frames) f) ≡ bit (ltb f (sh .frames))

@@ -2,7 +2,7 @@ pub mod Facts
 pub mod Checks
 pub mod Whole
 pub mod Code
-pub mod Sums
+pub mod Split
 pub mod Frames
 pub mod Slots
 pub mod View

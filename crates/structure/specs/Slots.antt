@@ -4,7 +4,6 @@ use mathlib.Core.Bool.{true, false, not}
 use mathlib.Core.Option.{Option, none, some}
 use Prim.Native.Nat.{ℕ, zero, suc, _+_, _-_, _*_, _/_, _%_, _^_, _≤_, _<_}
 use native.Mathlib.Omega.{arith}
-use native.Mathlib.Nat.{suc-inj}
 use lib.Dec.{eqb, ltb}
 use borrow.Author.Tests.{ne-eqb, eqb-true, eqb-false, lt-ltb, le-ltb, ltb-true}
 use Rattle.model.specs.Base.{bit, pick, sum, isSome}
@@ -14,10 +13,11 @@ use Rattle.model.specs.Storage.{slotsOf, busyOf, busyIn as modelBusy}
 use Rattle.model.specs.WellFormed.{HandleRange, SlotRange, LifeRange, isFrame}
 use Rattle.model.specs.Tests.{bool, clash}
 use Rattle.model.specs.Sums.{sum-equal}
+use Rattle.model.specs.Counting.{bit-same, bit-other, sum-front}
 use Rattle.layout.specs.Layout.{Mem, head, entry, cell}
 use Rattle.representation.specs.Represents.{entryAt, linkOf, frameOf, tagged, slotFrom, slotIn, LifeIs}
+use Rattle.representation.specs.Told.{frame-at}
 use Rattle.structure.specs.Facts.{busyCells}
-use Rattle.structure.specs.Sums.{bit-yes, bit-no, sum-front}
 
 -- ---- links
 
@@ -33,16 +33,12 @@ link-back (suc f) = refl
 pub unlink-some : (l f : ℕ) → unlink l ≡ some f → l ≡ suc f
 unlink-some l f e = sym (link-back l) ∙ ap linkOf e
 
-pub link-some : (x : Option ℕ) (f : ℕ) → linkOf x ≡ suc f → x ≡ some f
-link-some none f e = absurd (omega arith)
-link-some (some g) f e = ap some (suc-inj e)
-
 -- whether a page has a frame, by its link
 pub frame-link : (x : Option ℕ) (f : ℕ) → bit (isFrame x f) ≡ bit (eqb (linkOf x) (suc f))
-frame-link none f = sym (bit-no 0 (suc f) (λ e. omega arith))
+frame-link none f = sym (bit-other 0 (suc f) (λ e. omega arith))
 frame-link (some g) f = bool (eqb f g)
-    (λ e. let y = eqb-true f g e in ap bit e ∙ sym (bit-yes (suc g) (suc f) (omega arith)))
-    (λ e. let y = eqb-false f g e in ap bit e ∙ sym (bit-no (suc g) (suc f) (λ q. y (omega arith))))
+    (λ e. let y = eqb-true f g e in ap bit e ∙ sym (bit-same (suc g) (suc f) (omega arith)))
+    (λ e. let y = eqb-false f g e in ap bit e ∙ sym (bit-other (suc g) (suc f) (λ q. y (omega arith))))
 
 -- ---- pages and lifecycles
 
@@ -89,13 +85,6 @@ frame-of m b k f e = bool (ltb k maxSlots)
     (λ r. let h = ltb-true k maxSlots q in let i = ltb-true (k / 64) (m (head b 5)) r in (h, i, rw (q, r) at e, omega arith))
     (λ r. let z : _≡_ {A = ℕ} 0 (suc f) = rw (q, r) at e in absurd (omega arith)))
     (λ q. let z : _≡_ {A = ℕ} 0 (suc f) = rw q at e in absurd (omega arith))
-
--- the frame of slot j of page p
-pub frame-at : (m : Mem) (b p j : ℕ) → p < m (head b 5) → j < slotsOf till p → frameOf m b (p * 64 + j) ≡ m (entry (entryAt m b p) 0)
-frame-at m b p j h i =
-    let a : (p * 64 + j) / 64 ≡ p = omega arith in
-    let q = lt-ltb (p * 64 + j) maxSlots (omega arith) in
-    rw (a, q, lt-ltb p (m (head b 5)) h)
 
 -- slot j of an attached page
 pub slot-at : (m : Mem) (b p j f : ℕ) → p < m (head b 5) → m (entry (entryAt m b p) 0) ≡ suc f → j < slotsOf till p

@@ -13,11 +13,11 @@ use Rattle.model.specs.Storage.{busyOf, pageOf}
 use Rattle.model.specs.WellFormed.{SlotRange, TableRange, isFrame, pagesWith, Frames, isAttached, Generations}
 use Rattle.model.specs.Tests.{bool, clash}
 use Rattle.model.specs.Sums.{sum-equal}
+use Rattle.model.specs.Counting.{sum-cut}
 use Rattle.layout.specs.declared.Shape.{Shape}
 use Rattle.layout.specs.Layout.{Addr, Mem, head, entry, cell}
 use Rattle.representation.specs.Represents.{entryAt, linkOf, frameOf, slotIn, LifeIs, FramesAre}
 use Rattle.structure.specs.Facts.{SlotIs, Structure}
-use Rattle.structure.specs.Sums.{sum-cut}
 use Rattle.structure.specs.Frames.{pagesOf, frame-once, freeFrames, free-occurs, free-rising, free-owner, free-group, free-length}
 use Rattle.structure.specs.Slots.{unlink, link-back, unlink-some, frame-link, pageView, page-in, page-out, lifeView, life-view, life-range, life-retired, frame-of, slot-none, slot-in, tagged-there, tagged-generation, tagged-occupied, tagged-range, busy-page}
 
@@ -48,7 +48,7 @@ pub pages-with : (m : Mem) (s : State) (n f : ℕ) → s .tableCount ≡ n → (
 pages-with m s n f c z l e r =
     ap (λ (k : ℕ). sum k λ b. sum (s .tables b .limit) λ p. bit (isFrame (s .tables b .pages p .frame) f)) c
     ∙ sum-equal n (λ b. sum (s .tables b .limit) λ p. bit (isFrame (s .tables b .pages p .frame) f)) (λ b. sum (m (head b 5)) λ p. bit (eqb (m (entry (entryAt m b p) 0)) (suc f))) (λ b h.
-    sum-cut (m (head b 5)) (s .tables b .limit) (λ p. bit (isFrame (s .tables b .pages p .frame) f)) (l b h) (λ p i. ap (λ (x : Page). bit (isFrame (x .frame) f)) (r b p h (omega (arith, z b h))))
+    sum-cut (m (head b 5)) (s .tables b .limit) (λ p. bit (isFrame (s .tables b .pages p .frame) f)) (l b h) (λ p i k. ap (λ (x : Page). bit (isFrame (x .frame) f)) (r b p h (omega (arith, z b h))))
     ∙ sum-equal (m (head b 5)) (λ p. bit (isFrame (s .tables b .pages p .frame) f)) (λ p. bit (eqb (m (entry (entryAt m b p) 0)) (suc f))) (λ p i.
     frame-link (s .tables b .pages p .frame) f ∙ ap (λ (x : ℕ). bit (eqb x (suc f))) (e b p h i)))
 

@@ -1,34 +1,20 @@
-// The first part of the state check: table heads, page entries, slots and frames.
+// The first part of the state check: table heads, page entries and frames; and the test of a slot, for the walk over the slots.
 ghost use mathlib.Core.Path.{_≡_};
 ghost use mathlib.Core.Bool.{not};
 ghost use lib.Dec.{eqb};
 ghost use Rattle.model.specs.Base.{bit};
-ghost use Rattle.model.specs.State.{till};
-ghost use Rattle.model.specs.Storage.{slotsOf};
-ghost use Rattle.layout.specs.Layout.{load as loadAt, head};
-ghost use Rattle.structure.specs.Facts.{isFree, freeFrom, attachedIn, attachedTo};
-ghost use Rattle.structure.specs.Checks.{lifeB, headB, handleB, slotB, slotsB, frameB, pageB, pagesB, tableB, tablesB, groupsB, levelsB, structureB};
+ghost use Rattle.layout.specs.Layout.{load as loadAt, head, owner};
+ghost use Rattle.structure.specs.Facts.{freeFrom, attachedIn, attachedTo};
+ghost use Rattle.structure.specs.Checks.{lifeB, headB, handleC, slotC, linkB, entryB, entriesB, spanB, spansB, groupsB, levelsB, outlineB};
 ghost use Rattle.structure.specs.Code.{counted};
+use layout::CellWords;
 use layout::Shape;
 
 // 1 unless x is 0.
-fn present(x: u64) -> u64
+pub fn present(x: u64) -> u64
     ensures { λ r. ⌜ r ≡ bit (not (eqb x 0)) ⌝ }
 {
     if x == 0 { 0 } else { 1 }
-}
-
-// How many slots page p has.
-fn slots_of(p: u32) -> u64
-    ensures { λ r. ⌜ r ≡ slotsOf till p ⌝ }
-{
-    if p < 262143 {
-        return 64;
-    }
-    if p == 262143 {
-        return 63;
-    }
-    0
 }
 
 // Whether a lifecycle and its cursor are in range.
@@ -72,60 +58,41 @@ fn head_ok(s: &[u64], sh: Shape, b: u64, e: u64) -> bool
     true
 }
 
-// The handle in slot j of frame f, in a table of that lifecycle.
-fn handle_ok(s: &[u64], sh: Shape, life: u64, f: u64, j: u64) -> bool
-    ensures { λ r. ⌜ r ≡ handleB (loadAt (now (s .entry)) sh) (sh .objects) life f j ⌝ }
+// The handle in an occupied slot of a table of that lifecycle.
+fn handle_ok(c: CellWords, objects: u64, life: u64) -> bool
+    ensures { λ r. ⌜ r ≡ handleC objects life c ⌝ }
 {
     if life == 2 {
         return false;
     }
-    let object = layout::cell_word(s, sh, f, j, 2);
-    if object >= sh.objects as u64 {
+    if c.object >= objects {
         return false;
     }
-    layout::cell_word(s, sh, f, j, 4) <= 3
+    c.flags <= 3
 }
 
-// Slot j of frame f, on a page with that high mark.
-fn slot_ok(s: &[u64], sh: Shape, life: u64, high: u64, f: u64, j: u64) -> bool
-    ensures { λ r. ⌜ r ≡ slotB (loadAt (now (s .entry)) sh) (sh .objects) life high f j ⌝ }
+// A slot, on a page with that high mark.
+pub fn slot_ok(c: CellWords, objects: u64, life: u64, high: u64) -> bool
+    ensures { λ r. ⌜ r ≡ slotC objects life high c ⌝ }
 {
-    let tag = layout::cell_word(s, sh, f, j, 0);
-    if tag > 3 {
+    if c.tag > 3 {
         return false;
     }
-    let generation = layout::cell_word(s, sh, f, j, 1);
-    if generation < 1 {
+    if c.generation < 1 {
         return false;
     }
-    if generation > high {
+    if c.generation > high {
         return false;
     }
-    if tag < 3 {
+    if c.tag < 3 {
         return true;
     }
-    handle_ok(s, sh, life, f, j)
+    handle_ok(c, objects, life)
 }
 
-// The first n slots of frame f, of which w are busy.
-fn slots_ok(s: &[u64], sh: Shape, life: u64, high: u64, f: u64, n: u64, w: u64) -> bool
-    ensures { λ r. ⌜ r ≡ slotsB (loadAt (now (s .entry)) sh) (sh .objects) life high f n w ⌝ }
-{
-    let mut count: u64 = 0;
-    let mut j: u64 = 0;
-    while j < n {
-        if !slot_ok(s, sh, life, high, f, j) {
-            return false;
-        }
-        count += present(layout::cell_word(s, sh, f, j, 0));
-        j += 1;
-    }
-    count == w
-}
-
-// The frame of the page of entry e, given plus 1, with n slots; 0 for none.
-fn frame_ok(s: &[u64], sh: Shape, life: u64, e: u64, n: u64, link: u64) -> bool
-    ensures { λ r. ⌜ r ≡ frameB (loadAt (now (s .entry)) sh) sh life e n link ⌝ }
+// The frame of the page of entry e, given plus 1; 0 for none.
+fn link_ok(s: &[u64], sh: Shape, e: u64, link: u64) -> bool
+    ensures { λ r. ⌜ r ≡ linkB (loadAt (now (s .entry)) sh) sh e link ⌝ }
 {
     if link == 0 {
         return true;
@@ -141,14 +108,12 @@ fn frame_ok(s: &[u64], sh: Shape, life: u64, e: u64, n: u64, link: u64) -> bool
     if owner - 1 != e {
         return false;
     }
-    let high = layout::entry_word(s, sh, e, 1);
-    let busy = layout::entry_word(s, sh, e, 2);
-    slots_ok(s, sh, life, high, f, n, busy)
+    true
 }
 
-// The page of entry e, with n slots.
-fn page_ok(s: &[u64], sh: Shape, life: u64, e: u64, n: u64) -> bool
-    ensures { λ r. ⌜ r ≡ pageB (loadAt (now (s .entry)) sh) sh life e n ⌝ }
+// Page entry e.
+fn entry_ok(s: &[u64], sh: Shape, e: u64) -> bool
+    ensures { λ r. ⌜ r ≡ entryB (loadAt (now (s .entry)) sh) sh e ⌝ }
 {
     let high = layout::entry_word(s, sh, e, 1);
     if high < 1 {
@@ -157,18 +122,18 @@ fn page_ok(s: &[u64], sh: Shape, life: u64, e: u64, n: u64) -> bool
     if high > 0xffff_ffff {
         return false;
     }
-    frame_ok(s, sh, life, e, n, layout::entry_word(s, sh, e, 0))
+    link_ok(s, sh, e, layout::entry_word(s, sh, e, 0))
 }
 
-// How many of n pages from entry e on are attached, plus 1; 0 if one is not as it must be.
-fn pages_ok(s: &[u64], sh: Shape, life: u64, e: u32, n: u32) -> u64
-    ensures { λ r. ⌜ r ≡ counted (pagesB (loadAt (now (s .entry)) sh) sh life e n) (attachedIn (loadAt (now (s .entry)) sh) e n) ⌝ }
+// How many of n pages from entry e on are attached, plus 1; 0 if an entry is not as it must be.
+fn entries_ok(s: &[u64], sh: Shape, e: u32, n: u32) -> u64
+    ensures { λ r. ⌜ r ≡ counted (entriesB (loadAt (now (s .entry)) sh) sh e n) (attachedIn (loadAt (now (s .entry)) sh) e n) ⌝ }
 {
     let mut count: u64 = 0;
     let mut p: u32 = 0;
     while p < n {
         let at = (e as u64) + (p as u64);
-        if !page_ok(s, sh, life, at, slots_of(p)) {
+        if !entry_ok(s, sh, at) {
             return 0;
         }
         count += present(layout::entry_word(s, sh, at, 0));
@@ -179,19 +144,18 @@ fn pages_ok(s: &[u64], sh: Shape, life: u64, e: u32, n: u32) -> u64
 
 // The same of table b, whose head is tested first; its first page entry is e.
 fn table_ok(s: &[u64], sh: Shape, b: u64, e: u32) -> u64
-    ensures { λ r. ⌜ r ≡ counted (tableB (loadAt (now (s .entry)) sh) sh b e) (attachedIn (loadAt (now (s .entry)) sh) e (loadAt (now (s .entry)) sh (head b 5))) ⌝ }
+    ensures { λ r. ⌜ r ≡ counted (spanB (loadAt (now (s .entry)) sh) sh b e) (attachedIn (loadAt (now (s .entry)) sh) e (loadAt (now (s .entry)) sh (head b 5))) ⌝ }
 {
     if !head_ok(s, sh, b, e as u64) {
         return 0;
     }
-    let life = layout::head_word(s, sh, b, 2);
     let size = layout::head_word(s, sh, b, 5);
-    pages_ok(s, sh, life, e, size as u32)
+    entries_ok(s, sh, e, size as u32)
 }
 
 // The same of all tables.
 fn tables_ok(s: &[u64], sh: Shape) -> u64
-    ensures { λ r. ⌜ r ≡ counted (tablesB (loadAt (now (s .entry)) sh) sh) (attachedTo (loadAt (now (s .entry)) sh) (sh .tables)) ⌝ }
+    ensures { λ r. ⌜ r ≡ counted (spansB (loadAt (now (s .entry)) sh) sh) (attachedTo (loadAt (now (s .entry)) sh) (sh .tables)) ⌝ }
 {
     let n = sh.tables;
     let mut count: u64 = 0;
@@ -212,28 +176,30 @@ fn tables_ok(s: &[u64], sh: Shape) -> u64
     count + 1
 }
 
-// Whether frame f is free, as a number.
+// Whether frame f has no owner, as a number.
 fn free_at(s: &[u64], sh: Shape, f: u64) -> u64
-    ensures { λ r. ⌜ r ≡ bit (isFree (loadAt (now (s .entry)) sh) (sh .frames) f) ⌝ }
+    ensures { λ r. ⌜ r ≡ bit (eqb (loadAt (now (s .entry)) sh (owner f)) 0) ⌝ }
 {
-    if f >= sh.frames as u64 {
-        return 0;
-    }
     if layout::owner_word(s, sh, f) != 0 {
         return 0;
     }
     1
 }
 
-// How many of n frames from a on are free.
+// How many of n frames from a on are free; none is past the last frame.
 fn free_in(s: &[u64], sh: Shape, a: u32, n: u16) -> u64
     ensures { λ r. ⌜ r ≡ freeFrom (loadAt (now (s .entry)) sh) (sh .frames) a n ⌝ }
 {
+    let frames = sh.frames as u64;
+    let end = (a as u64) + (n as u64);
     let mut count: u64 = 0;
-    let mut j: u16 = 0;
-    while j < n {
-        count += free_at(s, sh, (a as u64) + (j as u64));
-        j += 1;
+    let mut f = a as u64;
+    while f < end {
+        if f >= frames {
+            return count;
+        }
+        count += free_at(s, sh, f);
+        f += 1;
     }
     count
 }
@@ -269,9 +235,9 @@ fn levels_ok(s: &[u64], sh: Shape) -> bool
     groups_ok(s, sh, 2, 4096, ((f + 4095) / 4096) as u16)
 }
 
-// The first part of the state check: heads, pages, slots and frames.
-pub fn check_structure(s: &[u64], sh: Shape) -> bool
-    ensures { λ r. ⌜ r ≡ structureB (loadAt (now (s .entry)) sh) sh ⌝ }
+// The first part of the state check: heads, page entries and frames.
+pub fn check_outline(s: &[u64], sh: Shape) -> bool
+    ensures { λ r. ⌜ r ≡ outlineB (loadAt (now (s .entry)) sh) sh ⌝ }
 {
     let c = tables_ok(s, sh);
     if c == 0 {

@@ -1,4 +1,3 @@
-pub mod Small
 pub mod View
 pub mod Shown
 pub mod Whole

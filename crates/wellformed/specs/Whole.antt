@@ -5,6 +5,7 @@ use mathlib.Core.List.{List}
 use Prim.Native.Nat.{ℕ}
 use native.Mathlib.Omega.{arith}
 use Rattle.words.specs.Pick.{clash, both, both-is}
+use Rattle.words.specs.Words.{Small}
 use Rattle.model.specs.State.{State}
 use Rattle.layout.specs.declared.Shape.{Shape}
 use Rattle.layout.specs.declared.ShapeRead.{ShapeRead}
@@ -13,6 +14,7 @@ use Rattle.layout.specs.Layout.{Mem, load}
 use Rattle.layout.specs.ShapeOf.{Shaped, shapeOf, shape-found, shape-is, onShape}
 use Rattle.representation.specs.Represents.{Rep}
 use Rattle.representation.specs.Unique.{rep-unique}
+use Rattle.representation.specs.Told.{load-small}
 use Rattle.structure.specs.Checks.{structureB}
 use Rattle.structure.specs.Whole.{structure-sound}
 use Rattle.structure.specs.Complete.{represented-passes}
@@ -24,7 +26,6 @@ use Rattle.ledger.specs.Complete.{complete as ledger-complete}
 use Rattle.counts.specs.Objects.{objectsB, objects-sound, objects-fit}
 use Rattle.counts.specs.Code.{countsIn}
 use Rattle.counts.specs.Decide.{counts-in, counted-complete, bounds-of}
-use Rattle.wellformed.specs.Small.{Small, load-small}
 use Rattle.wellformed.specs.View.{viewOf}
 use Rattle.wellformed.specs.Shown.{Passed, represents, well-formed}
 

@@ -1,8 +1,9 @@
 // The state check, whole: whether lent words represent a well-formed state.
 ghost use mathlib.Core.Path.{_≡_};
 ghost use Rattle.layout.specs.Layout.{load as loadAt};
-ghost use Rattle.wellformed.specs.Small.{Small};
-ghost use Rattle.wellformed.specs.Whole.{partsB, wellB};
+ghost use Rattle.words.specs.Words.{Small};
+ghost use Rattle.wellformed.specs.Whole.{wellB};
+ghost use Rattle.wellformed.specs.Code.{quietB};
 use layout::Shape;
 
 // Lent words are words: the hypothesis of `sound`.
@@ -14,27 +15,36 @@ pub fn are_words(s: &[u64])
 
 // The parts that write nothing.
 fn check_parts(s: &[u64], sh: Shape) -> bool
-    ensures { λ r. ⌜ r ≡ partsB (loadAt (now (s .entry)) sh) sh ⌝ }
+    ensures { λ r. ⌜ r ≡ quietB (loadAt (now (s .entry)) sh) sh ⌝ }
 {
-    if !structure::check_structure(s, sh) {
+    if !structure::check_outline(s, sh) {
         return false;
     }
     if !orders::check_orders(s, sh) {
         return false;
     }
-    if !ledger::check_ledger(s, sh) {
+    if !ledger::check_book(s, sh) {
         return false;
     }
     counts::check_objects(s, sh)
 }
 
-// Whether the words of a shape represent a well-formed state. The objects' counts come last: they are written, and put back.
+// Whether the words of a shape represent a well-formed state. The slots and the objects' counts come last: the handles are counted in the upper halves of
+// the counts, which are cleared again.
 pub fn check(s: &mut [u64], sh: Shape) -> bool
     ensures kept { λ _. ⌜ now (s .exit) ≡ now (s .entry) ⌝ }
     ensures answer { λ r. ⌜ r ≡ wellB (now (s .entry)) sh ⌝ }
 {
+    let n = s.len() as u64;
+    let t = layout::total_of(sh);
+    if n < t {
+        return false;
+    }
     if !check_parts(s, sh) {
         return false;
     }
-    counts::check_counts(s, sh)
+    let slots = survey::walk_slots(s, sh);
+    counts::note_rows(s, sh);
+    let counted = counts::settle(s, sh);
+    slots && counted
 }

@@ -1,14 +1,16 @@
-use Rattle.counts.specs.Code.{slots-none, slots-some}
+use native.Mathlib.Omega.{arith}
+use Rattle.counts.specs.Code.{slots-some}
 use borrow.Author.Needs.{needs}
 use Rattle.counts.proofs.slots_of.Statement.{statement}
 use Rattle.counts.proofs.slots_of.Tie as tie
 use Rattle.counts.proofs.slots_of.Reads as reads
 use Rattle.counts.proofs.slots_of.Lts as lts
 use Rattle.words.proofs.smaller.Reads as smaller-reads
+use Rattle.model.specs.Bounds.{slots-none}
 
 -- src/lib.rt:64:9
 returns : tie.Need-returns
-returns c = slots-none (c .before .args .p) (c .if1 .taken)
+returns c = slots-none (c .before .args .p) (omega (arith, c .if1 .taken))
 
 -- src/lib.rt:66:35
 mul-smaller : tie.Need-mul-smaller

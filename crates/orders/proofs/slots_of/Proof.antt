@@ -1,5 +1,5 @@
 use native.Mathlib.Omega.{arith}
-use Rattle.orders.specs.Code.{slots-full, slots-last, slots-none}
+use Rattle.model.specs.Bounds.{slots-full, slots-last, slots-none}
 use Rattle.orders.proofs.slots_of.Statement.{statement}
 use Rattle.orders.proofs.slots_of.Tie as tie
 use Rattle.orders.proofs.slots_of.Reads as reads
@@ -11,7 +11,7 @@ returns c = slots-full (c .before .args .p) (omega arith)
 
 -- src/lib.rt:20:9
 returns-2 : tie.Need-returns-2
-returns-2 c = slots-last (c .before .before .args .p) (omega arith) (omega arith)
+returns-2 c = slots-last (c .before .before .args .p) (omega arith)
 
 -- src/lib.rt:13:1
 returns-3 : tie.Need-returns-3

@@ -5,7 +5,8 @@ use mathlib.Core.Path.{_≡_, refl}
 use Prim.Native.Nat.{_-_, _≤_}
 use Rattle.layout.specs.Layout.{load}
 use native.Mathlib.Omega.{arith}
-use Rattle.structure.specs.Code.{groupTest, group-no, group-yes, groups-end, group-small}
+use Rattle.model.specs.Bounds.{group-small}
+use Rattle.structure.specs.Code.{groupTest, group-no, group-yes, groups-end}
 use Rattle.structure.proofs.groups_ok.Statement.{statement}
 use Rattle.structure.proofs.groups_ok.Tie as tie
 use Rattle.structure.proofs.groups_ok.Reads as reads

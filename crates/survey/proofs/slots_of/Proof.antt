@@ -1,0 +1,21 @@
+use Rattle.survey.specs.Code.{slots-full, slots-last, slots-none}
+use native.Mathlib.Omega.{arith}
+use Rattle.survey.proofs.slots_of.Statement.{statement}
+use Rattle.survey.proofs.slots_of.Tie as tie
+use Rattle.survey.proofs.slots_of.Reads as reads
+use Rattle.survey.proofs.slots_of.Lts as lts
+
+-- src/lib.rt:26:9
+returns : tie.Need-returns
+returns c = slots-full (c .before .args .p) (omega arith)
+
+-- src/lib.rt:29:9
+returns-2 : tie.Need-returns-2
+returns-2 c = slots-last (c .before .before .args .p) (omega arith)
+
+-- src/lib.rt:22:1
+returns-3 : tie.Need-returns-3
+returns-3 c = slots-none (c .before .before .args .p) (omega arith)
+
+pub slots-of-spec : {M : Type 1} → statement M
+slots-of-spec = tie.close (tie.spec returns returns-2 returns-3)
