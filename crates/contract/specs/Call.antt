@@ -3,14 +3,14 @@ use mathlib.Core.Path.{_≡_, refl, sym, ap, subst, _∙_}
 use mathlib.Core.Bool.{Bool, true, false}
 use mathlib.Core.List.{List, [], _∷_, _++_}
 use mathlib.Core.Option.{Option, none, some}
-use Prim.Native.Nat.{ℕ, zero, suc, _+_, _-_, _*_, _^_, _≤_, _<_}
+use Prim.Native.Nat.{ℕ, zero, suc, _+_, _-_, _*_, _≤_}
 use native.Mathlib.Omega.{arith}
 use lib.ListN.{length, getD, take, drop, length-append, length-drop, take-append-drop}
 use lib.Seq.{length-take-le, getD-take, drop-at}
 use lib.Dec.{ltb}
 use borrow.Author.Tests.{ltb-true, ltb-false}
 use Rattle.words.specs.Pick.{pick, bool, clash}
-use Rattle.words.specs.Words.{get-past}
+use Rattle.words.specs.Words.{get-past, Small}
 use Rattle.format.specs.Format.{answerWords}
 use Rattle.model.specs.State.{till, State}
 use Rattle.model.specs.Request.{Request}
@@ -53,10 +53,6 @@ module _ (one : One) (well : List ℕ → Shape → Bool) where
   -- "Order: state check 18, list 19, answer length 20"
   unfoldable pub runW : List ℕ → List ℕ → List ℕ → Called
   runW ws list os = onShape (shapeOf ws) (called 18 ws os) (withinW ws list os)
-
--- lent words are below 2^64
-abbrev pub Small : List ℕ → Type 0
-Small ws = (i : ℕ) → getD ws i 0 < 2 ^ 64
 
 small-take : (n : ℕ) (ws : List ℕ) → n ≤ length ws → Small ws → Small (take n ws)
 small-take n ws l h i = bool (ltb i n)

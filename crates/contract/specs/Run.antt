@@ -15,7 +15,8 @@ use Rattle.model.specs.State.{till, State}
 use Rattle.model.specs.Request.{Request, Answer}
 use Rattle.model.specs.Step.{step, run}
 use Rattle.model.specs.WellFormed.{WellFormed}
-use Rattle.model.specs.Words.{readList, usedWords, wordsOf, allWords, padded}
+use Rattle.model.specs.Words.{readList, usedWords, wordsOf, allWords}
+use Rattle.model.specs.Lists.{words-length}
 use Rattle.invariant.specs.Pages.{till-sane}
 use Rattle.invariant.specs.Kept.{kept}
 use Rattle.layout.specs.declared.Shape.{Shape}
@@ -56,15 +57,6 @@ take-drop : (n : ℕ) (xs : List ℕ) → n ≤ length xs → xs ≡ take n xs +
 take-drop zero xs h = refl
 take-drop (suc n) [] h = absurd (omega arith)
 take-drop (suc n) (x ∷ xs) h = ap (λ (l : List ℕ). x ∷ l) (take-drop n xs (omega arith))
-
-padded-length : (n : ℕ) (ws : List ℕ) → length (padded n ws) ≡ n
-padded-length zero ws = refl
-padded-length (suc n) [] = ap suc (padded-length n [])
-padded-length (suc n) (w ∷ ws) = ap suc (padded-length n ws)
-
-words-length : (a : Answer) → length (wordsOf a) ≡ answerWords
-unfolding wordsOf
-words-length a = padded-length answerWords (usedWords a)
 
 drop-none : (m : ℕ) → drop {A = ℕ} m [] ≡ []
 drop-none zero = refl

@@ -3,7 +3,7 @@ use mathlib.Core.Path.{_≡_, refl, sym, ap, _∙_}
 use mathlib.Core.Bool.{Bool, true, false, not, _&&_}
 use mathlib.Core.List.{List, [], _∷_, _++_, map}
 use mathlib.Core.Option.{Option, none, some}
-use Prim.Native.Nat.{ℕ, zero, suc, _+_, _-_, _*_, _≤_, _<_, min}
+use Prim.Native.Nat.{ℕ, zero, suc, _+_, _-_, _≤_, _<_, min}
 use native.Mathlib.Omega.{arith}
 use lib.ListN.{length, take, drop, length-append}
 use lib.Dec.{eqb, ltb}
@@ -19,10 +19,11 @@ use Rattle.model.specs.Book.{find, freeRow, idLeft, anyOpen, copiesOf}
 use Rattle.model.specs.Transfer.{itemsFault, copiesFault, entryFor}
 use Rattle.model.specs.Decision.{Decision, Decision.refusal, Decision.refusalAfterId, Decision.accept, asParcel, handlesOf, distinct}
 use Rattle.model.specs.Lookup.{lookup, snapshotAt, valueAt}
-use Rattle.model.specs.Request.{Request, Answer, Snapshot, Answer.batch, Answer.scanned, Request.newObject, Request.duplicate, Request.releaseParcel, Request.retireObject, Request.reserve, Request.trim, Request.abort, Request.publish, Request.getInfo, Request.resolve, Request.replace, Request.close, Request.scanHandles, Request.prepareTransfer, Request.prepareConsumption, Request.rollback, Request.commit, Request.directCommit, Request.directRollback, Request.removeStoppingOwner, Request.teardownStart, Request.teardownStep, Request.teardownFinish, Request.takeEmptyPage}
-use Rattle.model.specs.Words.{usedWords, entryWords, infoWords}
+use Rattle.model.specs.Request.{Request, Answer, Answer.batch, Answer.scanned, Request.newObject, Request.duplicate, Request.releaseParcel, Request.retireObject, Request.reserve, Request.trim, Request.abort, Request.publish, Request.getInfo, Request.resolve, Request.replace, Request.close, Request.scanHandles, Request.prepareTransfer, Request.prepareConsumption, Request.rollback, Request.commit, Request.directCommit, Request.directRollback, Request.removeStoppingOwner, Request.teardownStart, Request.teardownStep, Request.teardownFinish, Request.takeEmptyPage}
+use Rattle.model.specs.Words.{usedWords, infoWords}
 use Rattle.model.specs.Step.{decide, step, carry, newObjectOf, duplicateOf, releaseParcelOf, retireObjectOf, reserveOf, trimOf, abortOf, publishOf, getInfoOf, resolveOf, replaceOf, closeOf, scanHandlesOf, prepareTransferOf, prepareConsumptionOf, rollbackOf, commitOf, directCommitOf, directRollbackOf, removeStoppingOwnerOf, removeAt, nextOccupied, teardownStartOf, teardownStepOf, tearAt, teardownFinishOf, takeEmptyPageOf, takeAt, snapshotPage}
 use Rattle.model.specs.Decided.{Decided, Any, accepts, checked, with-some, with-view, with-handle, with-reservation, with-claim, while-tearing, after-id, found-or, either-way, first-or}
+use Rattle.model.specs.Lists.{entry-words}
 use Rattle.contract.specs.Run.{Short}
 
 take-most {ℓ} : {A : Type ℓ} (n : ℕ) (xs : List A) → length (take n xs) ≤ n
@@ -33,10 +34,6 @@ take-most (suc n) (x ∷ xs) = let h = take-most n xs in omega arith
 map-length {ℓ κ} : {A : Type ℓ} {B : Type κ} (f : A → B) (xs : List A) → length (map f xs) ≡ length xs
 map-length f [] = refl
 map-length f (x ∷ xs) = ap suc (map-length f xs)
-
-entries-length : (es : List Snapshot) → length (entryWords es) ≡ 5 * length es
-entries-length [] = refl
-entries-length (e ∷ es) = let h = entries-length es in omega (arith, h)
 
 -- a walk finds at most so many
 walk-most : (f : ℕ → Slot) (k n e : ℕ) → length (walk f k n e .found) ≤ e
@@ -60,7 +57,7 @@ scan-short s b c =
     let t : Table = s .tables b in
     let start : ℕ = min c (lengthOf till t) in
     let w : Walk = walk (t .slots) start (min 256 (lengthOf till t - start)) 8 in
-    omega (arith, entries-length (map (snapshotAt s t) (w .found)), map-length (snapshotAt s t) (w .found), walk-most (t .slots) start (min 256 (lengthOf till t - start)) 8)
+    omega (arith, entry-words (map (snapshotAt s t) (w .found)), map-length (snapshotAt s t) (w .found), walk-most (t .slots) start (min 256 (lengthOf till t - start)) 8)
 
 module _ (s : State) where
   pub decide-short : (r : Request) → Decided Any Any (λ u a. Short a) (decide till s r)

@@ -4,12 +4,13 @@ use mathlib.Core.Path.{_≡_, refl, sym, ap, _∙_}
 use mathlib.Core.Bool.{Bool, true, false, _&&_}
 use mathlib.Core.List.{List, [], _∷_, map}
 use mathlib.Core.Option.{Option, none, some}
-use Prim.Native.Nat.{ℕ, zero, suc, _+_, _-_, _/_, _%_, _≤_, _<_}
+use Prim.Native.Nat.{ℕ, zero, suc, _+_, _/_, _%_, _≤_, _<_}
 use native.Mathlib.Omega.{arith}
 use lib.ListN.{length, getD, drop, drop-of-length-le, List·getD-eq-default}
 use lib.Seq.{drop-cons}
 use lib.Dec.{ltb, leb}
 use borrow.Author.Tests.{ltb-true, ltb-false, le-leb, lt-leb, leb-true, eqb-true, eqb-false}
+use Rattle.words.specs.Pick.{both}
 use Rattle.authority.specs.Rights.{contains}
 use Rattle.format.specs.Format.{fieldFits, fieldKinds, fieldCount}
 use Rattle.model.specs.Base.{pick, orElse}
@@ -131,13 +132,18 @@ kinds-count : (first : ℕ) → length (kindsOf first) ≡ fieldCount
 unfolding kindsOf fieldKinds
 kinds-count first = refl
 
+pub walk-all : (first : ℕ) (ws : List ℕ) (m p : ℕ) → p ≤ length ws
+    → walk (kindsOf first) ws m p ≡ pick (leb (after fieldCount m p) (length ws) && fitAll (kindsOf first) (fieldsFrom fieldCount m ws p)) (some (after fieldCount m p)) none
+unfolding walked
+walk-all first ws m p h =
+    walk-is (kindsOf first) ws m p h
+    ∙ ap (λ (n : ℕ). pick (leb (after n m p) (length ws) && fitAll (kindsOf first) (fieldsFrom n m ws p)) (some (after n m p)) none) (kinds-count first)
+
 walk-18 : (first : ℕ) (ws : List ℕ) (at : ℕ) → suc at ≤ length ws
     → walk (kindsOf first) ws (mapAt ws at) (suc at)
     ≡ pick (leb (after fieldCount (mapAt ws at) (suc at)) (length ws) && fitAll (kindsOf first) (fieldsAt ws at)) (some (after fieldCount (mapAt ws at) (suc at))) none
-unfolding walked fieldsAt
-walk-18 first ws at h =
-    walk-is (kindsOf first) ws (mapAt ws at) (suc at) h
-    ∙ ap (λ (n : ℕ). pick (leb (after n (mapAt ws at) (suc at)) (length ws) && fitAll (kindsOf first) (fieldsFrom n (mapAt ws at) ws (suc at))) (some (after n (mapAt ws at) (suc at))) none) (kinds-count first)
+unfolding fieldsAt
+walk-18 first ws at h = walk-all first ws (mapAt ws at) (suc at) h
 
 -- a record is read as the model reads it
 pub record-read : (first : ℕ) (mustOf mayOf : ℕ → ℕ) (ws : List ℕ) (at : ℕ)
@@ -171,10 +177,6 @@ some-is : {A : Type 0} (b : Bool) (x y : Option A) (a : A) → pick b x y ≡ so
 some-is true x y a e n = (refl, e)
 some-is false x y a e n = let z : _≡_ {A = ℕ} 0 1 = cc in absurd (omega arith)
 
-both-are : (a b : Bool) → (a && b) ≡ true → (a ≡ true) × (b ≡ true)
-both-are true b e = (refl, e)
-both-are false b e = let z : _≡_ {A = ℕ} 0 1 = cc in absurd (omega arith)
-
 -- the place after it, and what was tested
 pub record Whole (first must allowed : ℕ) (ws : List ℕ) (at e : ℕ) : Type 0 where
   pub inside : at < length ws
@@ -192,7 +194,7 @@ record-whole first must allowed ws at e p =
     let r = some-is (goodMap (mapAt ws at) must allowed) _ none e (q .1) refl in
     let i : at < length ws = ltb-true at (length ws) (q .0) in
     let s = some-is (leb n (length ws) && fitAll (kindsOf first) (fieldsAt ws at)) (some n) none e (sym (walk-18 first ws at i) ∙ r .1) refl in
-    let t = both-are (leb n (length ws)) (fitAll (kindsOf first) (fieldsAt ws at)) (s .0) in
+    let t = both (leb n (length ws)) (fitAll (kindsOf first) (fieldsAt ws at)) (s .0) in
     let se : some n ≡ some e = s .1 in
     let ne : n ≡ e = cc in
     let el : pick (ltb at (length ws)) n at ≡ n = ap (λ (b : Bool). pick b n at) (q .0) in
@@ -216,25 +218,6 @@ past-is m p = go (odd m) refl
     go false e = let z : m % 2 ≡ 1 → ⊥ = eqb-false (m % 2) 1 e in omega arith
 
 module _ (ws : List ℕ) where
-  pub find-turn : (n m p k : ℕ) → 0 < n → 0 < k → may (fieldsFrom n m ws p) k ≡ may (fieldsFrom (n - 1) (m / 2) ws (p + m % 2)) (k - 1)
-  unfolding fieldsFrom
-  find-turn zero m p k h l = absurd (omega arith)
-  find-turn (suc n) m p zero h l = absurd (omega arith)
-  find-turn (suc n) m p (suc k) h l =
-      let e : suc n - 1 ≡ n = omega arith in
-      let f : suc k - 1 ≡ k = omega arith in
-      rw (e, f, past-is m p)
-
-  pub find-here : (n m p : ℕ) → 0 < n → may (fieldsFrom n m ws p) 0 ≡ here (odd m) ws p
-  unfolding fieldsFrom
-  find-here zero m p h = absurd (omega arith)
-  find-here (suc n) m p h = refl
-
-  pub find-end : (n m p k : ℕ) → n ≤ 0 → may (fieldsFrom n m ws p) k ≡ none
-  unfolding fieldsFrom
-  find-end zero m p k h = refl
-  find-end (suc n) m p k h = absurd (omega arith)
-
   -- past the end there is no bit map
   no-field : (n p k : ℕ) → may (fieldsFrom n 0 ws p) k ≡ none
   unfolding fieldsFrom
@@ -249,10 +232,10 @@ module _ (ws : List ℕ) where
 -- bit 0's word fits its kind: an op is known, an item's operation is 0 or 1
 pub first-fits : (first m l : ℕ) (ws : List ℕ) (at e : ℕ) → Whole first m l ws at e → fieldFits first (must (fieldsAt ws at) 0) ≡ true
 unfolding goodMap kindsOf fieldsAt fieldsFrom
-first-fits first m l ws at e w = go (odd (mapAt ws at)) (both-are (odd (mapAt ws at)) _ (w .known) .0) (w .fit)
+first-fits first m l ws at e w = go (odd (mapAt ws at)) (both (odd (mapAt ws at)) _ (w .known) .0) (w .fit)
   where
     go : (b : Bool) → b ≡ true
         → fitAll (first ∷ drop 1 fieldKinds) (here b ws (suc at) ∷ fieldsFrom 17 (mapAt ws at / 2) ws (past b (suc at))) ≡ true
         → fieldFits first (orElse (here b ws (suc at)) 0) ≡ true
-    go true q r = both-are (fieldFits first (getD ws (suc at) 0)) _ r .0
+    go true q r = both (fieldFits first (getD ws (suc at) 0)) _ r .0
     go false q r = let z : _≡_ {A = ℕ} 0 1 = cc in absurd (omega arith)

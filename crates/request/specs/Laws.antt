@@ -13,9 +13,10 @@ use Rattle.format.specs.Format.{musts, mays, transferItemMust, transferItemMay,
 use Rattle.model.specs.Base.{pick, nth, isSome}
 use Rattle.model.specs.Request.{Request}
 use Rattle.model.specs.Words.{andThen, Fields, odd, may, must, readRequest, readList, answerShort}
+use Rattle.request.specs.declared.Three.{Three}
 use Rattle.request.specs.declared.Next.the-variants.{At, Malformed}
 use Rattle.request.specs.declared.Listed.the-variants.{Requests, Malformed as ListMalformed}
-use Rattle.request.specs.Place.{placed, listed, upTo, past, fieldsFrom, fieldsAt, mapAt, endAt, recordEnd, manyEnd, placesFrom, placeOf, itemsEnd, opAt, countAt, requestEnd, nextAt, requestOf, requestAt}
+use Rattle.request.specs.Place.{placed, listed, upTo, past, fieldsFrom, fieldsAt, threeAt, mapAt, endAt, recordEnd, manyEnd, placesFrom, placeOf, itemsEnd, opAt, countAt, requestEnd, nextAt, requestOf, requestAt}
 use Rattle.request.specs.Fields.{Whole, record-whole, first-fits}
 use Rattle.request.specs.Steps.{at-is, bad-is}
 use Rattle.request.specs.Lists.{known-op, place-later, request-placed, request-read, request-ends, list-turn, list-end}
@@ -40,6 +41,11 @@ entry (f ∷ fs) (suc k) h = entry fs k (omega arith)
 
 pub field-is : (ws : List ℕ) (at k : ℕ) → k < fieldCount → nth (fieldsAt ws at) k ≡ some (pick (isSome (may (fieldsAt ws at) k)) (some (must (fieldsAt ws at) k)) none)
 field-is ws at k h = entry (fieldsAt ws at) k (subst (λ (n : ℕ). k < n) (sym (fields-length ws at)) h)
+
+-- what was done with three fields that were read, by the fields
+pub three-read : {A : Type 0} (f : ℕ → ℕ → ℕ → A) (fs : Fields) (i j k : ℕ) (r : Three) (x : A) → r ≡ threeAt fs i j k → x ≡ f (r .a) (r .b) (r .c) → x ≡ f (must fs i) (must fs j) (must fs k)
+unfolding threeAt
+three-read f fs i j k r x e p = p ∙ ap (λ (t : Three). f (t .a) (t .b) (t .c)) e
 
 -- Items by their places
 

@@ -1,5 +1,6 @@
 pub mod Place
 pub mod Fields
+pub mod Counted
 pub mod Lists
 pub mod Steps
 pub mod Answers

@@ -11,11 +11,12 @@ use lib.ListN.{length, getD, drop, length-drop, length-append, drop-of-length-le
 use lib.Seq.{drop-cons}
 use lib.Dec.{eqb, leb}
 use borrow.Author.Tests.{leb-true}
-use Rattle.format.specs.Format.{musts, mays, transferItemMust, transferItemMay, parcelItemMust, parcelItemMay, fieldFits, knownOp, pick as choose}
+use Rattle.format.specs.Format.{musts, mays, transferItemMust, transferItemMay, parcelItemMust, parcelItemMay, fieldFits, knownOp}
 use Rattle.model.specs.Base.{pick, nth}
 use Rattle.model.specs.Request.{Item, Request, Request.publish, Request.prepareTransfer}
 use Rattle.model.specs.Words.{Reading, andThen, Fields, may, must, readRecord, readMany, routeOf, plainRequests, withItems, readRequest, readUpTo, readList}
 use Rattle.model.specs.Lists.{Front, request-in-front, reading-ends}
+use Rattle.model.specs.Tests.{nth-some}
 use Rattle.request.specs.declared.Next.the-variants.{At}
 use Rattle.request.specs.declared.Listed.the-variants.{Requests, Malformed as ListMalformed}
 use Rattle.request.specs.Place.{nextOf, placed, upTo, counted, listed, fieldsAt, endAt, recordEnd, manyEnd, placesFrom, placeOf, itemOf, itemAt, parcelAt, opAt, countAt, itemPlaces, itemsEnd, requestEnd, requestOf, requestAt}
@@ -135,13 +136,8 @@ module _ (ws : List ℕ) (at : ℕ) where
       (refl, (refl, (refl, (refl, (refl, (refl, (refl, (refl, (itemed-publish, (refl, (refl, (refl, (refl, (refl, (itemed-transfer, (refl, (refl, (refl, (refl, (refl, (refl, (refl, (refl, (refl, (refl, tt)))))))))))))))))))))))))
 
 -- a known op has its request
-entry : {A : Type 0} (xs : List A) (k : ℕ) → k < length xs → (x : A) × (nth xs k ≡ some x)
-entry [] k h = absurd (omega arith)
-entry (x ∷ xs) zero h = (x, refl)
-entry (x ∷ xs) (suc k) h = entry xs k (omega arith)
-
 pub known-op : (op : ℕ) → fieldFits 4 op ≡ true → (1 ≤ op) × (op ≤ 24)
-unfolding fieldFits knownOp choose
+unfolding fieldFits knownOp
 known-op op e = both (leb 1 op) (leb op 24) refl refl e
   where
     both : (a b : Bool) → leb 1 op ≡ a → leb op 24 ≡ b → (a && b) ≡ true → (1 ≤ op) × (op ≤ 24)
@@ -170,7 +166,7 @@ module _ (ws : List ℕ) (at : ℕ) where
       go none e = refl
       go (some q) e =
           let w = record-whole 4 _ _ ws at q e in
-          let k = entry plainRequests (opAt ws at) (omega (arith, known-op (opAt ws at) (first-fits 4 _ _ ws at q w) .1)) in
+          let k = nth-some plainRequests (opAt ws at) (omega (arith, known-op (opAt ws at) (first-fits 4 _ _ ws at q w) .1)) in
           let i = from (Itemed ws at) plainRequests 0 (opAt ws at) (k .0) (table ws at) (k .1) in
           let j : Itemed ws at (opAt ws at) (k .0) = subst (λ (n : ℕ). Itemed ws at n (k .0)) (zero-add (opAt ws at)) i in
           subst (λ (p : ℕ). andThen (nth plainRequests (opAt ws at)) (λ y. withItems (fieldsAt ws at) (y (fieldsAt ws at)) (drop p ws))

@@ -11,6 +11,7 @@ use Rattle.format.specs.Format.{musts, mays, transferItemMust, transferItemMay,
 use Rattle.model.specs.Base.{pick, nth}
 use Rattle.model.specs.Request.{Item, Request, Request.retireObject, Request.publish, Request.prepareTransfer}
 use Rattle.model.specs.Words.{Reading, andThen, Fields, odd, may, must, operationOf, routeOf, plainRequests}
+use Rattle.request.specs.declared.Three.{Three}
 use Rattle.request.specs.declared.Next.{Next}
 use Rattle.request.specs.declared.Next.the-variants.{At, Malformed}
 use Rattle.request.specs.declared.Listed.{Listed}
@@ -75,9 +76,17 @@ fieldsFrom (suc n) map ws p = here (odd map) ws p ∷ fieldsFrom n (map / 2) ws 
 abbrev pub mapAt : List ℕ → ℕ → ℕ
 mapAt ws at = getD ws at 0
 
+-- whether it is a given one
+unfoldable pub hasMap : List ℕ → ℕ → ℕ → Bool
+hasMap ws at map = ltb at (length ws) && eqb (mapAt ws at) map
+
 -- its fields
 unfoldable pub fieldsAt : List ℕ → ℕ → Fields
 fieldsAt ws at = fieldsFrom fieldCount (mapAt ws at) ws (suc at)
+
+-- three of a record's fields, by their bits
+unfoldable pub threeAt : Fields → ℕ → ℕ → ℕ → Three
+threeAt fs a b c = record { a = must fs a; b = must fs b; c = must fs c }
 
 -- the place after it; a place past the end stays
 unfoldable pub endAt : List ℕ → ℕ → ℕ
@@ -86,6 +95,17 @@ endAt ws at = pick (ltb at (length ws)) (after fieldCount (mapAt ws at) (suc at)
 -- the kinds of a record's fields; `first` is that of bit 0
 unfoldable pub kindsOf : ℕ → List ℕ
 kindsOf first = first ∷ drop 1 fieldKinds
+
+-- whether a field, where it stands, fits a kind
+unfoldable pub fitOne : ℕ → Option ℕ → Bool
+fitOne kind none = true
+fitOne kind (some w) = fieldFits kind w
+
+-- whether those fields fit that do not take every word, bit 0 apart
+unfoldable pub narrowFit : Fields → Bool
+narrowFit fs =
+    fitOne 1 (may fs 6) && (fitOne 1 (may fs 9) && (fitOne 2 (may fs 10) && (fitOne 3 (may fs 12)
+    && (fitOne 1 (may fs 14) && (fitOne 1 (may fs 15) && (fitOne 2 (may fs 16) && (fitOne 1 (may fs 17) && true)))))))
 
 -- the place after one field, or none: "list ends inside a record"; "too wide or a koid of 0"
 unfoldable pub fieldEnd : List ℕ → ℕ → ℕ → ℕ → Option ℕ

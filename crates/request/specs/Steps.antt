@@ -1,35 +1,27 @@
 -- What each step of the code shows, over plain values.
 -- Assumes nothing.
-use mathlib.Core.Path.{_≡_, refl, sym, ap, subst, _∙_}
+use mathlib.Core.Path.{_≡_, refl, sym, ap, _∙_}
 use mathlib.Core.Bool.{Bool, true, false, _&&_}
-use mathlib.Core.List.{List, _∷_}
+use mathlib.Core.List.{List}
 use mathlib.Core.Option.{Option, none, some}
-use Prim.Native.Nat.{ℕ, zero, suc, _+_, _-_, _*_, _/_, _%_, _≤_, _<_}
+use Prim.Native.Nat.{ℕ, zero, suc, _+_, _-_, _*_, _/_, _≤_, _<_}
 use native.Mathlib.Omega.{arith}
 use native.Mathlib.Numerals.{add-one}
-use lib.ListN.{length, getD, drop, drop-of-length-le}
-use lib.Seq.{drop-cons, getD-drop}
+use lib.ListN.{length, getD, drop}
 use lib.Dec.{ltb}
 use borrow.Author.Tests.{lt-ltb, le-ltb, ltb-true, ltb-false, eq-eqb, ne-eqb}
-use Rattle.format.specs.Format.{musts, mays, fieldFits, fieldKinds, answerWords}
+use Rattle.format.specs.Format.{musts, mays, answerWords, fieldCount}
 use Rattle.format.specs.Laws.{must-below, may-below}
 use Rattle.model.specs.Base.{pick, orElse, isSome}
-use Rattle.model.specs.Words.{andThen, odd, may, must, readRequest, readList}
+use Rattle.model.specs.Words.{andThen, may, must, readRequest, readList}
 use Rattle.request.specs.declared.Next.{Next}
 use Rattle.request.specs.declared.Next.the-variants.{At, Malformed}
 use Rattle.request.specs.declared.Listed.the-variants.{Requests, Malformed as ListMalformed}
 use Rattle.request.specs.declared.Optional.{Optional}
 use Rattle.request.specs.declared.Optional.the-variants.{Word, Absent}
-use Rattle.request.specs.Place.{nextOf, placed, counted, listed, opAt, countAt, placeOf, nextAt, itemsEnd, requestEnd, optional, after, here, fieldsFrom, fieldsAt, endAt, kindsOf, fieldEnd, walk, goodMap, recordEnd, manyEnd}
-use Rattle.request.specs.Fields.{past-is, find-turn, find-here, find-end, find-out}
+use Rattle.request.specs.Place.{nextOf, placed, counted, listed, opAt, countAt, placeOf, nextAt, itemsEnd, requestEnd, optional, after, here, fieldsFrom, fieldsAt, endAt, kindsOf, walk, goodMap, recordEnd, manyEnd}
+use Rattle.request.specs.Counted.{end-out}
 use Rattle.request.specs.Lists.{place-later, request-placed, request-ends, count-turn, count-bad, count-end, count-all}
-
--- a choice whose test is known
-pub yes-is : {A : Type 0} (b : Bool) (r x y : A) → b ≡ true → r ≡ x → r ≡ pick b x y
-yes-is b r x y e p = subst (λ (t : Bool). r ≡ pick t x y) (sym e) p
-
-pub no-is : {A : Type 0} (b : Bool) (r x y : A) → b ≡ false → r ≡ y → r ≡ pick b x y
-no-is b r x y e p = subst (λ (t : Bool). r ≡ pick t x y) (sym e) p
 
 -- an answer that was taken apart
 pub at-is : (r : Next) (x : Option ℕ) (e : ℕ) → r ≡ nextOf x → r ≡ At e → x ≡ some e
@@ -50,31 +42,6 @@ pub word-absent : (b : Bool) (ws : List ℕ) (p : ℕ) → b ≡ false → Absen
 word-absent true ws p e = cc
 word-absent false ws p e = refl
 
-module _ (ws : List ℕ) (at bit : ℕ) where
-  -- what is left to find is what was to be found
-  unfoldable pub Sought : ℕ → ℕ → ℕ → ℕ → Type 0
-  Sought map place below left = may (fieldsAt ws at) bit ≡ may (fieldsFrom left map ws place) below
-
-  pub sought-first : Sought (getD ws at 0) (at + 1) bit 18
-  unfolding Sought fieldsAt
-  sought-first = ap (λ (p : ℕ). may (fieldsFrom 18 (getD ws at 0) ws p) bit) (sym (add-one at))
-
-  pub sought-turn : (map place below left : ℕ) → Sought map place below left → 0 < left → (below ≡ 0 → ⊥) → Sought (map / 2) (place + map % 2) (below - 1) (left - 1)
-  unfolding Sought
-  sought-turn map place below left s h n = s ∙ find-turn ws left map place below h (omega arith)
-
-  pub sought-here : (map place below left : ℕ) (r : Optional) → Sought map place below left → 0 < left → below ≡ 0 → r ≡ optional (here (odd map) ws place) → r ≡ optional (may (fieldsAt ws at) bit)
-  unfolding Sought
-  sought-here map place below left r s h e q =
-      q ∙ sym (ap optional (s ∙ ap (may (fieldsFrom left map ws place)) e ∙ find-here ws left map place h))
-
-  pub sought-end : (map place below left : ℕ) → Sought map place below left → left ≤ 0 → Absent ≡ optional (may (fieldsAt ws at) bit)
-  unfolding Sought
-  sought-end map place below left s h = sym (ap optional (s ∙ find-end ws left map place below h))
-
-  pub sought-out : length ws ≤ at → Absent ≡ optional (may (fieldsAt ws at) bit)
-  sought-out h = sym (ap optional (find-out ws at bit h))
-
 found : (x : Option ℕ) (r : Optional) (w : ℕ) → r ≡ optional x → r ≡ Word w → (true ≡ isSome x) × (w ≡ orElse x 0)
 found none r w p q = (cc, cc)
 found (some v) r w p q = (refl, cc)
@@ -90,35 +57,12 @@ module _ (ws : List ℕ) (at bit : ℕ) where
   pub field-not-found : (r : Optional) → r ≡ optional (may (fieldsAt ws at) bit) → r ≡ Absent → (false ≡ isSome (may (fieldsAt ws at) bit)) × (0 ≡ must (fieldsAt ws at) bit)
   field-not-found r p q = not-found (may (fieldsAt ws at) bit) r p q
 
--- The place after a record
+module _ (ws : List ℕ) (at map bit : ℕ) where
+  pub known-found : (r : Optional) (w : ℕ) → r ≡ optional (may (fieldsFrom fieldCount map ws at) bit) → r ≡ Word w → w ≡ must (fieldsFrom fieldCount map ws at) bit
+  known-found r w p q = found (may (fieldsFrom fieldCount map ws at) bit) r w p q .1
 
-module _ (ws : List ℕ) (at : ℕ) where
-  unfoldable pub Left : ℕ → ℕ → ℕ → Type 0
-  Left map place left = after 18 (getD ws at 0) (suc at) ≡ after left map place
-
-  pub left-first : Left (getD ws at 0) (at + 1) 18
-  unfolding Left
-  left-first = ap (after 18 (getD ws at 0)) (sym (add-one at))
-
-  pub left-turn : (map place left : ℕ) → Left map place left → 0 < left → Left (map / 2) (place + map % 2) (left - 1)
-  unfolding Left after
-  left-turn map place left s h = s ∙ after-turn left map place h
-    where
-      after-turn : (n m p : ℕ) → 0 < n → after n m p ≡ after (n - 1) (m / 2) (p + m % 2)
-      after-turn zero m p h = absurd (omega arith)
-      after-turn (suc n) m p h = let e : suc n - 1 ≡ n = omega arith in rw (e, past-is m p)
-
-  pub left-end : (map place left : ℕ) → Left map place left → left ≤ 0 → at < length ws → place ≡ endAt ws at
-  unfolding Left endAt after
-  left-end map place left s h k = sym (ap (λ (b : Bool). pick b (after 18 (getD ws at 0) (suc at)) at) (lt-ltb at (length ws) k) ∙ s ∙ done left h)
-    where
-      done : (n : ℕ) → n ≤ 0 → after n map place ≡ place
-      done zero l = refl
-      done (suc n) l = absurd (omega arith)
-
-  pub left-out : length ws ≤ at → at ≡ endAt ws at
-  unfolding endAt
-  left-out h = sym (ap (λ (b : Bool). pick b (after 18 (getD ws at 0) (suc at)) at) (le-ltb at (length ws) h))
+  pub known-not-found : (r : Optional) → r ≡ optional (may (fieldsFrom fieldCount map ws at) bit) → r ≡ Absent → 0 ≡ must (fieldsFrom fieldCount map ws at) bit
+  known-not-found r p q = not-found (may (fieldsFrom fieldCount map ws at) bit) r p q .1
 
 -- The place after records in a row
 
@@ -126,7 +70,7 @@ module _ (ws : List ℕ) where
   place-stays : (i at : ℕ) → length ws ≤ at → placeOf i ws at ≡ at
   unfolding placeOf
   place-stays zero at h = refl
-  place-stays (suc i) at h = ap (endAt ws) (place-stays i at h) ∙ sym (left-out ws at h)
+  place-stays (suc i) at h = ap (endAt ws) (place-stays i at h) ∙ sym (end-out ws at h)
 
   module _ (at count : ℕ) where
     unfoldable pub Skipped : ℕ → ℕ → Type 0
@@ -166,75 +110,6 @@ module _ (ws : List ℕ) (at op e : ℕ) (o : op ≡ opAt ws at) (q : e ≡ endA
   next-plain f g = rw (ne-eqb (opAt ws at) 8 (λ (z : opAt ws at ≡ 8). f (o ∙ z)), ne-eqb (opAt ws at) 14 (λ (z : opAt ws at ≡ 14). g (o ∙ z))) q
 
 -- The checks of a record
-
-pub kind-first : (first bit : ℕ) → bit ≡ 0 → first ≡ getD (kindsOf first) bit 0
-unfolding kindsOf
-kind-first first bit e = sym (ap (λ (b : ℕ). getD (first ∷ drop 1 fieldKinds) b 0) e)
-
-pub kind-later : (first bit r : ℕ) → (bit ≡ 0 → ⊥) → r ≡ getD fieldKinds bit 0 → r ≡ getD (kindsOf first) bit 0
-unfolding kindsOf
-kind-later first zero r n e = absurd (n refl)
-kind-later first (suc j) r n e =
-    let o : suc j ≡ 1 + j = omega arith in
-    e ∙ ap (λ (k : ℕ). getD fieldKinds k 0) o ∙ sym (getD-drop 1 fieldKinds j 0)
-
-module _ (ws : List ℕ) (p map kind : ℕ) where
-  pub field-fits : odd map ≡ true → p < length ws → fieldFits kind (getD ws p 0) ≡ true → At (p + 1) ≡ nextOf (fieldEnd ws p map kind)
-  unfolding fieldEnd
-  field-fits e h f = rw (e, lt-ltb p (length ws) h, f) (ap At (add-one p))
-
-  pub field-unfit : odd map ≡ true → p < length ws → fieldFits kind (getD ws p 0) ≡ false → Malformed ≡ nextOf (fieldEnd ws p map kind)
-  unfolding fieldEnd
-  field-unfit e h f = rw (e, lt-ltb p (length ws) h, f)
-
-  pub field-out : odd map ≡ true → length ws ≤ p → Malformed ≡ nextOf (fieldEnd ws p map kind)
-  unfolding fieldEnd
-  field-out e h = rw (e, le-ltb p (length ws) h)
-
-  pub field-absent : odd map ≡ false → At p ≡ nextOf (fieldEnd ws p map kind)
-  unfolding fieldEnd
-  field-absent e = rw e
-
-module _ (ws : List ℕ) (at map first : ℕ) where
-  -- what is left to walk is what was to be walked
-  unfoldable pub Walking : ℕ → ℕ → ℕ → Type 0
-  Walking place rest bit = walk (kindsOf first) ws map at ≡ walk (drop bit (kindsOf first)) ws rest place
-
-  pub walking-first : Walking at map 0
-  unfolding Walking
-  walking-first = refl
-
-  more-kinds : (bit : ℕ) → bit < 18 → bit < length (kindsOf first)
-  unfolding kindsOf fieldKinds
-  more-kinds bit h = h
-
-  walk-on : (place rest bit : ℕ) → bit < 18
-      → walk (drop bit (kindsOf first)) ws rest place ≡ andThen (fieldEnd ws place rest (getD (kindsOf first) bit 0)) λ q. walk (drop (suc bit) (kindsOf first)) ws (rest / 2) q
-  unfolding walk
-  walk-on place rest bit h = ap (λ (ks : List ℕ). walk ks ws rest place) (drop-cons (kindsOf first) bit 0 (more-kinds bit h))
-
-  pub walking-turn : (place rest bit e : ℕ) → Walking place rest bit → bit < 18 → fieldEnd ws place rest (getD (kindsOf first) bit 0) ≡ some e → Walking e (rest / 2) (bit + 1)
-  unfolding Walking
-  walking-turn place rest bit e s h f =
-      s ∙ walk-on place rest bit h ∙ ap (λ (x : Option ℕ). andThen x λ q. walk (drop (suc bit) (kindsOf first)) ws (rest / 2) q) f
-      ∙ ap (λ (b : ℕ). walk (drop b (kindsOf first)) ws (rest / 2) e) (sym (add-one bit))
-
-  pub walking-bad : (place rest bit : ℕ) → Walking place rest bit → bit < 18 → fieldEnd ws place rest (getD (kindsOf first) bit 0) ≡ none → Malformed ≡ nextOf (walk (kindsOf first) ws map at)
-  unfolding Walking
-  walking-bad place rest bit s h f =
-      sym (ap nextOf (s ∙ walk-on place rest bit h ∙ ap (λ (x : Option ℕ). andThen x λ q. walk (drop (suc bit) (kindsOf first)) ws (rest / 2) q) f))
-
-  no-kinds : (bit : ℕ) → 18 ≤ bit → length (kindsOf first) ≤ bit
-  unfolding kindsOf fieldKinds
-  no-kinds bit h = h
-
-  pub walking-end : (place rest bit : ℕ) → Walking place rest bit → 18 ≤ bit → At place ≡ nextOf (walk (kindsOf first) ws map at)
-  unfolding Walking walk
-  walking-end place rest bit s h = sym (ap nextOf (s ∙ ap (λ (ks : List ℕ). walk ks ws rest place) (drop-of-length-le (kindsOf first) (no-kinds bit h))))
-
-pub both-yes : (r p q : Bool) → p ≡ true → r ≡ q → r ≡ (p && q)
-both-yes r true q e f = f
-both-yes r false q e f = cc
 
 pub both-no : (p q : Bool) → p ≡ false → false ≡ (p && q)
 both-no true q e = cc

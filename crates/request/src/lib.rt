@@ -1,13 +1,15 @@
 // Reads a list of requests in place, from lent words: document 01, "The request list". A record is named by its place, the index of its bit map.
 ghost use mathlib.Core.Path.{_≡_};
-ghost use Prim.Native.Nat.{_+_, _*_};
+ghost use Prim.Native.Nat.{_+_, _*_, _%_, _^_, _<_, _≤_};
+ghost use mathlib.Core.Bool.{_&&_};
 ghost use lib.ListN.{length, getD, drop, set};
+ghost use lib.Count.{ones};
 ghost use lib.Dec.{ltb};
 ghost use Rattle.authority.specs.Rights.{contains};
-ghost use Rattle.format.specs.Format.{answerWords};
+ghost use Rattle.format.specs.Format.{answerWords, fieldCount};
 ghost use Rattle.model.specs.Base.{isSome};
 ghost use Rattle.model.specs.Words.{odd, may, must, readRequest, readList};
-ghost use Rattle.request.specs.Place.{nextOf, placed, listed, optional, fieldsAt, endAt, kindsOf, fieldEnd, walk, goodMap, recordEnd, manyEnd, itemsEnd, here, placeOf, nextAt};
+ghost use Rattle.request.specs.Place.{nextOf, placed, listed, optional, fieldsFrom, fieldsAt, hasMap, threeAt, endAt, kindsOf, fitOne, narrowFit, walk, goodMap, recordEnd, manyEnd, itemsEnd, here, placeOf, nextAt};
 ghost use Rattle.request.specs.Answers.{cleared};
 
 // The place after what was read, or that it is malformed.
@@ -28,11 +30,11 @@ pub enum Optional {
     Absent,
 }
 
-// The word at a place; 0 past the end.
-fn word(s: &[u64], at: usize) -> u64
-    ensures { λ r. ⌜ r ≡ getD (now (s .entry)) at 0 ⌝ }
-{
-    if at < s.len() { s[at] } else { 0 }
+// Three fields of a record, read once.
+pub struct Three {
+    pub a: u64,
+    pub b: u64,
+    pub c: u64,
 }
 
 // Whether the lowest bit of a map stands.
@@ -54,7 +56,26 @@ fn word_of(rq: &[u64], map: u64, at: usize) -> Optional
     ensures { λ r. ⌜ r ≡ optional (here (odd map) (now (rq .entry)) at) ⌝ }
 {
     if lowest(map) {
-        return Optional::Word(word(rq, at));
+        return Optional::Word(words::word(rq, at));
+    }
+    Optional::Absent
+}
+
+// How many fields of a map stand below a bit.
+fn below(map: u64, bit: u64) -> usize
+    requires { ⌜ bit < 64 ⌝ }
+    ensures { λ r. ⌜ r ≡ ones (map % 2 ^ bit) ⌝ }
+{
+    u64::count_ones(map % (1 << bit)) as usize
+}
+
+// A field by its bit, of the fields of a map that begin at a place.
+fn field_in(rq: &[u64], at: usize, map: u64, bit: u64) -> Optional
+    requires { ⌜ at ≤ length (now rq) ⌝ }
+    ensures { λ r. ⌜ r ≡ optional (may (fieldsFrom fieldCount map (now (rq .entry)) at) bit) ⌝ }
+{
+    if bit < 18 {
+        return word_of(rq, map >> bit, at + below(map, bit));
     }
     Optional::Absent
 }
@@ -63,21 +84,8 @@ fn word_of(rq: &[u64], map: u64, at: usize) -> Optional
 pub fn find(rq: &[u64], at: usize, bit: u64) -> Optional
     ensures { λ r. ⌜ r ≡ optional (may (fieldsAt (now (rq .entry)) at) bit) ⌝ }
 {
-    if rq.len() <= at {
-        return Optional::Absent;
-    }
-    let mut map = rq[at];
-    let mut place = at + 1;
-    let mut below = bit;
-    let mut left: u64 = 18;
-    while 0 < left {
-        if below == 0 {
-            return word_of(rq, map, place);
-        }
-        place += (map % 2) as usize;
-        map = map / 2;
-        below -= 1;
-        left -= 1;
+    if at < rq.len() {
+        return field_in(rq, at + 1, rq[at], bit);
     }
     Optional::Absent
 }
@@ -102,22 +110,67 @@ pub fn field(rq: &[u64], at: usize, bit: u64) -> u64
     }
 }
 
+// A field's word by its bit, of the fields of a map that begin at a place; 0 where it does not stand.
+fn field_known(rq: &[u64], at: usize, map: u64, bit: u64) -> u64
+    requires { ⌜ at ≤ length (now rq) ⌝ }
+    ensures { λ r. ⌜ r ≡ must (fieldsFrom fieldCount map (now (rq .entry)) at) bit ⌝ }
+{
+    match field_in(rq, at, map, bit) {
+        Optional::Word(w) => w,
+        Optional::Absent => 0,
+    }
+}
+
+// Whether the record at a place has a map.
+fn has_map(rq: &[u64], at: usize, map: u64) -> bool
+    ensures { λ r. ⌜ r ≡ hasMap (now (rq .entry)) at map ⌝ }
+{
+    if at < rq.len() { rq[at] == map } else { false }
+}
+
+// Three fields of a record at a place, found one by one.
+fn three_found(rq: &[u64], at: usize, a: u64, b: u64, c: u64) -> Three
+    ensures { λ r. ⌜ r ≡ threeAt (fieldsAt (now (rq .entry)) at) a b c ⌝ }
+{
+    Three {
+        a: field(rq, at, a),
+        b: field(rq, at, b),
+        c: field(rq, at, c),
+    }
+}
+
+// Three fields of a map, whose fields begin at a place.
+fn three_known(rq: &[u64], at: usize, map: u64, a: u64, b: u64, c: u64) -> Three
+    requires { ⌜ at ≤ length (now rq) ⌝ }
+    ensures { λ r. ⌜ r ≡ threeAt (fieldsFrom fieldCount map (now (rq .entry)) at) a b c ⌝ }
+{
+    Three {
+        a: field_known(rq, at, map, a),
+        b: field_known(rq, at, map, b),
+        c: field_known(rq, at, map, c),
+    }
+}
+
+// Three fields of the record at a place by their bits, 0 for one that does not stand. Where the map is the op's `must` map, their places are known
+// from the op and the bits alone; a bit past the last names no field.
+pub fn read_three(rq: &[u64], at: usize, op: u64, a: u64, b: u64, c: u64) -> Three
+    ensures { λ r. ⌜ r ≡ threeAt (fieldsAt (now (rq .entry)) at) a b c ⌝ }
+{
+    let map = format::must(op);
+    if has_map(rq, at, map) {
+        return three_known(rq, at + 1, map, a, b, c);
+    }
+    three_found(rq, at, a, b, c)
+}
+
 // The place after the record at a place; a place past the end stays.
 pub fn record_end(rq: &[u64], at: usize) -> usize
     ensures { λ r. ⌜ r ≡ endAt (now (rq .entry)) at ⌝ }
 {
-    if rq.len() <= at {
-        return at;
+    if at < rq.len() {
+        return at + 1 + below(rq[at], 18);
     }
-    let mut map = rq[at];
-    let mut place = at + 1;
-    let mut left: u64 = 18;
-    while 0 < left {
-        place += (map % 2) as usize;
-        map = map / 2;
-        left -= 1;
-    }
-    place
+    at
 }
 
 // The place after `count` records in a row; a place past the end stays.
@@ -151,49 +204,59 @@ pub fn next_request(rq: &[u64], at: usize) -> usize
     end
 }
 
-// The kind of a record's field by its bit, `first` being that of bit 0.
-fn kind_of(first: u64, bit: u64) -> u64
-    ensures { λ r. ⌜ r ≡ getD (kindsOf first) bit 0 ⌝ }
+// The fields that do not take every word, bit 0 apart: bits 6, 9, 10, 12 and 14 to 17.
+const NARROW: u64 = 251_456;
+
+// "too wide or a koid of 0": whether the field of a bit, where it stands, fits a kind, and those that were tested before did.
+fn fits_too(rq: &[u64], at: usize, map: u64, bit: u64, kind: u64, ok: bool) -> bool
+    requires { ⌜ at ≤ length (now rq) ⌝ }
+    ensures { λ r. ⌜ r ≡ (fitOne kind (may (fieldsFrom fieldCount map (now (rq .entry)) at) bit) && ok) ⌝ }
 {
-    if bit == 0 {
-        first
-    } else {
-        format::field_kind(bit)
+    match field_in(rq, at, map, bit) {
+        Optional::Word(w) => { if format::fits(kind, w) { ok } else { false } }
+        Optional::Absent => ok,
     }
 }
 
-// "list ends inside a record"; "too wide or a koid of 0": the place after one field.
-fn field_end(rq: &[u64], place: usize, map: u64, kind: u64) -> Next
-    ensures { λ r. ⌜ r ≡ nextOf (fieldEnd (now (rq .entry)) place map kind) ⌝ }
+// Whether those fields fit that do not take every word, bit 0 apart, one after the other.
+fn each_fits(rq: &[u64], at: usize, map: u64) -> bool
+    requires { ⌜ at ≤ length (now rq) ⌝ }
+    ensures { λ r. ⌜ r ≡ narrowFit (fieldsFrom fieldCount map (now (rq .entry)) at) ⌝ }
 {
-    if lowest(map) {
-        if place < rq.len() {
-            if format::fits(kind, rq[place]) {
-                return Next::At(place + 1);
-            }
-            return Next::Malformed;
+    let a = fits_too(rq, at, map, 17, format::KIND_NUMBER_32, true);
+    let b = fits_too(rq, at, map, 16, format::KIND_KOID, a);
+    let c = fits_too(rq, at, map, 15, format::KIND_NUMBER_32, b);
+    let d = fits_too(rq, at, map, 14, format::KIND_NUMBER_32, c);
+    let e = fits_too(rq, at, map, 12, format::KIND_ROUTE, d);
+    let f = fits_too(rq, at, map, 10, format::KIND_KOID, e);
+    let g = fits_too(rq, at, map, 9, format::KIND_NUMBER_32, f);
+    fits_too(rq, at, map, 6, format::KIND_NUMBER_32, g)
+}
+
+// Whether those fields fit that do not take every word, bit 0 apart: most maps have none of them.
+fn narrow_fit(rq: &[u64], at: usize, map: u64) -> bool
+    requires { ⌜ at ≤ length (now rq) ⌝ }
+    ensures { λ r. ⌜ r ≡ narrowFit (fieldsFrom fieldCount map (now (rq .entry)) at) ⌝ }
+{
+    if map & NARROW == 0 {
+        return true;
+    }
+    each_fits(rq, at, map)
+}
+
+// "list ends inside a record"; "too wide or a koid of 0": the place after a record's fields, which begin at a place.
+fn fields_end(rq: &[u64], at: usize, map: u64, first: u64) -> Next
+    requires { ⌜ at ≤ length (now rq) ⌝ }
+    ensures { λ r. ⌜ r ≡ nextOf (walk (kindsOf first) (now (rq .entry)) map at) ⌝ }
+{
+    let count = below(map, 18);
+    if count <= rq.len() - at {
+        if fits_too(rq, at, map, 0, first, narrow_fit(rq, at, map)) {
+            return Next::At(at + count);
         }
         return Next::Malformed;
     }
-    Next::At(place)
-}
-
-// The place after a record's fields, which begin at a place.
-fn fields_end(rq: &[u64], at: usize, map: u64, first: u64) -> Next
-    ensures { λ r. ⌜ r ≡ nextOf (walk (kindsOf first) (now (rq .entry)) map at) ⌝ }
-{
-    let mut place = at;
-    let mut rest = map;
-    let mut bit: u64 = 0;
-    while bit < 18 {
-        let Next::At(next) = field_end(rq, place, rest, kind_of(first, bit)) else {
-            return Next::Malformed;
-        };
-        place = next;
-        rest = rest / 2;
-        bit += 1;
-    }
-    Next::At(place)
+    Next::Malformed
 }
 
 // "Bit 0 .. always stands"; "field missing, extra".
@@ -316,8 +379,20 @@ pub fn answer_put(out: &mut [u64], base: usize, i: usize, v: u64)
     }
 }
 
-// "Each request answers 72 words, unused ones 0".
-pub fn clear_answer(out: &mut [u64], base: usize)
+// Clears an answer whose words are all there.
+fn clear_whole(out: &mut [u64], base: usize)
+    requires { ⌜ base + answerWords ≤ length (now out) ⌝ }
+    ensures { λ _. ⌜ now (out .exit) ≡ cleared (now (out .entry)) base answerWords ⌝ }
+{
+    let mut k: usize = 0;
+    while k < 72 {
+        out[base + k] = 0;
+        k += 1;
+    }
+}
+
+// Clears those words of an answer that are there.
+fn clear_part(out: &mut [u64], base: usize)
     ensures { λ _. ⌜ now (out .exit) ≡ cleared (now (out .entry)) base answerWords ⌝ }
 {
     let mut k: usize = 0;
@@ -325,4 +400,17 @@ pub fn clear_answer(out: &mut [u64], base: usize)
         answer_put(out, base, k, 0);
         k += 1;
     }
+}
+
+// "Each request answers 72 words, unused ones 0".
+pub fn clear_answer(out: &mut [u64], base: usize)
+    ensures { λ _. ⌜ now (out .exit) ≡ cleared (now (out .entry)) base answerWords ⌝ }
+{
+    if base < out.len() {
+        if 72 <= out.len() - base {
+            return clear_whole(out, base);
+        }
+        return clear_part(out, base);
+    }
+    clear_part(out, base)
 }

@@ -59,8 +59,3 @@ oneR ws os sh list at base = serveR (opAt list at) ws os sh list at base
 -- by a known op
 pub at-op : (op k : ℕ) (ws os : List ℕ) (sh : Shape) (list : List ℕ) (at base : ℕ) (x : Both) → op ≡ k → x ≡ serveR k ws os sh list at base → x ≡ serveR op ws os sh list at base
 at-op op k ws os sh list at base x e p = cc
-
--- a consumption's five fields, read one by one
-pub consumption-read : (ws os : List ℕ) (sh : Shape) (base b v r k o b′ v′ r′ k′ o′ : ℕ) (x : Both) → b ≡ b′ → v ≡ v′ → r ≡ r′ → k ≡ k′ → o ≡ o′ → x ≡ consumptionR ws os sh base b v r k o
-    → x ≡ consumptionR ws os sh base b′ v′ r′ k′ o′
-consumption-read ws os sh base b v r k o b′ v′ r′ k′ o′ x p q s t u e = rw (← p, ← q, ← s, ← t, ← u) e

@@ -3,6 +3,7 @@ use mathlib.Core.Path.{_≡_, refl, sym, ap, _∙_}
 use mathlib.Core.List.{List}
 use Prim.Native.Nat.{ℕ, _≤_}
 use lib.ListN.{length}
+use Rattle.words.specs.Words.{Small}
 use Rattle.model.specs.State.{till, State}
 use Rattle.layout.specs.declared.Shape.{Shape}
 use Rattle.representation.specs.Represents.{Rep}
@@ -27,7 +28,6 @@ use Rattle.claim.specs.Commit.{commit-does}
 use Rattle.claim.specs.Direct.{directCommit-does, directRollback-does}
 use Rattle.teardown.specs.Teardown.{removeStoppingOwner-does, teardownStart-does, teardownStep-does, teardownFinish-does}
 use Rattle.layout.specs.Layout.{load}
-use Rattle.wellformed.specs.Small.{Small}
 use Rattle.wellformed.specs.View.{viewOf}
 use Rattle.wellformed.specs.Whole.{wellB, sound, complete}
 use Rattle.contract.specs.Meets.{Called, Meets}

@@ -31,6 +31,8 @@ use authority::Rights;
 use codec::HandleValue;
 use codec::Koid;
 use codec::ReservationId;
+use format::field;
+use format::op;
 use layout::Shape;
 use layout::ShapeRead;
 use request::Listed;
@@ -38,19 +40,29 @@ use request::Listed;
 fn serve_new_object(s: &mut [u64], sh: Shape, rq: &[u64], at: usize, out: &mut [u64], base: usize)
     ensures { λ _. ⌜ both (now (s .exit)) (now (out .exit)) ≡ newObjectR (now (s .entry)) (now (out .entry)) sh base (fieldOf (now (rq .entry)) at 2) (fieldOf (now (rq .entry)) at 5) (fieldOf (now (rq .entry)) at 6) ⌝ }
 {
-    let object = request::field(rq, at, format::field::FIELD_OBJECT);
-    let rights = request::field(rq, at, format::field::FIELD_RIGHTS);
-    let flags = request::field(rq, at, format::field::FIELD_FLAGS);
-    parcel::new_object(s, sh, object, Rights(rights), flags, out, base);
+    let f = request::read_three(
+        rq,
+        at,
+        op::OP_NEW_OBJECT,
+        field::FIELD_OBJECT,
+        field::FIELD_RIGHTS,
+        field::FIELD_FLAGS,
+    );
+    parcel::new_object(s, sh, f.a, Rights(f.b), f.c, out, base);
 }
 
 fn serve_duplicate(s: &mut [u64], sh: Shape, rq: &[u64], at: usize, out: &mut [u64], base: usize)
     ensures { λ _. ⌜ both (now (s .exit)) (now (out .exit)) ≡ duplicateR (now (s .entry)) (now (out .entry)) sh base (fieldOf (now (rq .entry)) at 1) (fieldOf (now (rq .entry)) at 4) (fieldOf (now (rq .entry)) at 5) ⌝ }
 {
-    let table = request::field(rq, at, format::field::FIELD_TABLE);
-    let value = request::field(rq, at, format::field::FIELD_VALUE);
-    let rights = request::field(rq, at, format::field::FIELD_RIGHTS);
-    parcel::duplicate(s, sh, table, HandleValue(value), Rights(rights), out, base);
+    let f = request::read_three(
+        rq,
+        at,
+        op::OP_DUPLICATE,
+        field::FIELD_TABLE,
+        field::FIELD_VALUE,
+        field::FIELD_RIGHTS,
+    );
+    parcel::duplicate(s, sh, f.a, HandleValue(f.b), Rights(f.c), out, base);
 }
 
 fn serve_release_parcel(
@@ -63,7 +75,7 @@ fn serve_release_parcel(
 )
     ensures { λ _. ⌜ both (now (s .exit)) (now (out .exit)) ≡ releaseR (now (s .entry)) (now (out .entry)) sh base (fieldOf (now (rq .entry)) at 7) ⌝ }
 {
-    let id = request::field(rq, at, format::field::FIELD_ID);
+    let id = request::field(rq, at, field::FIELD_ID);
     parcel::release_parcel(s, sh, ReservationId(id), out, base);
 }
 
@@ -77,92 +89,136 @@ fn serve_retire_object(
 )
     ensures { λ _. ⌜ both (now (s .exit)) (now (out .exit)) ≡ retireR (now (s .entry)) (now (out .entry)) sh base (fieldOf (now (rq .entry)) at 2) ⌝ }
 {
-    let object = request::field(rq, at, format::field::FIELD_OBJECT);
+    let object = request::field(rq, at, field::FIELD_OBJECT);
     parcel::retire_object(s, sh, object, out, base);
 }
 
 fn serve_reserve(s: &mut [u64], sh: Shape, rq: &[u64], at: usize, out: &mut [u64], base: usize)
     ensures { λ _. ⌜ both (now (s .exit)) (now (out .exit)) ≡ reserveR (now (s .entry)) (now (out .entry)) sh base (fieldOf (now (rq .entry)) at 1) (fieldOf (now (rq .entry)) at 3) ⌝ }
 {
-    let table = request::field(rq, at, format::field::FIELD_TABLE);
-    let count = request::field(rq, at, format::field::FIELD_COUNT);
-    reserve::reserve(s, sh, table, count, out, base);
+    let f = request::read_three(
+        rq,
+        at,
+        op::OP_RESERVE,
+        field::FIELD_TABLE,
+        field::FIELD_COUNT,
+        field::FIELDS,
+    );
+    reserve::reserve(s, sh, f.a, f.b, out, base);
 }
 
 fn serve_trim(s: &mut [u64], sh: Shape, rq: &[u64], at: usize, out: &mut [u64], base: usize)
     ensures { λ _. ⌜ both (now (s .exit)) (now (out .exit)) ≡ trimR (now (s .entry)) (now (out .entry)) sh base (fieldOf (now (rq .entry)) at 7) (fieldOf (now (rq .entry)) at 3) ⌝ }
 {
-    let id = request::field(rq, at, format::field::FIELD_ID);
-    let count = request::field(rq, at, format::field::FIELD_COUNT);
-    reserve::trim(s, sh, ReservationId(id), count, out, base);
+    let f = request::read_three(
+        rq,
+        at,
+        op::OP_TRIM,
+        field::FIELD_ID,
+        field::FIELD_COUNT,
+        field::FIELDS,
+    );
+    reserve::trim(s, sh, ReservationId(f.a), f.b, out, base);
 }
 
 fn serve_abort(s: &mut [u64], sh: Shape, rq: &[u64], at: usize, out: &mut [u64], base: usize)
     ensures { λ _. ⌜ both (now (s .exit)) (now (out .exit)) ≡ abortR (now (s .entry)) (now (out .entry)) sh base (fieldOf (now (rq .entry)) at 7) ⌝ }
 {
-    let id = request::field(rq, at, format::field::FIELD_ID);
+    let id = request::field(rq, at, field::FIELD_ID);
     reserve::abort(s, sh, ReservationId(id), out, base);
 }
 
 fn serve_publish(s: &mut [u64], sh: Shape, rq: &[u64], at: usize, out: &mut [u64], base: usize)
     ensures { λ _. ⌜ both (now (s .exit)) (now (out .exit)) ≡ publishR (now (s .entry)) (now (out .entry)) sh base (fieldOf (now (rq .entry)) at 7) (idsAt (now (rq .entry)) (endAt (now (rq .entry)) at) (countAt (now (rq .entry)) at)) ⌝ }
 {
-    let id = request::field(rq, at, format::field::FIELD_ID);
-    let count = request::field(rq, at, format::field::FIELD_COUNT);
+    let f = request::read_three(
+        rq,
+        at,
+        op::OP_PUBLISH,
+        field::FIELD_ID,
+        field::FIELD_COUNT,
+        field::FIELDS,
+    );
     let items = request::record_end(rq, at);
-    parcel::publish(s, sh, rq, items, count, ReservationId(id), out, base);
+    parcel::publish(s, sh, rq, items, f.b, ReservationId(f.a), out, base);
 }
 
 fn serve_get_info(s: &mut [u64], sh: Shape, rq: &[u64], at: usize, out: &mut [u64], base: usize)
     ensures { λ _. ⌜ both (now (s .exit)) (now (out .exit)) ≡ getInfoR (now (s .entry)) (now (out .entry)) sh base (fieldOf (now (rq .entry)) at 1) (fieldOf (now (rq .entry)) at 4) ⌝ }
 {
-    let table = request::field(rq, at, format::field::FIELD_TABLE);
-    let value = request::field(rq, at, format::field::FIELD_VALUE);
-    lookup::get_info(s, sh, table, HandleValue(value), out, base);
+    let f = request::read_three(
+        rq,
+        at,
+        op::OP_GET_INFO,
+        field::FIELD_TABLE,
+        field::FIELD_VALUE,
+        field::FIELDS,
+    );
+    lookup::get_info(s, sh, f.a, HandleValue(f.b), out, base);
 }
 
 fn serve_resolve(s: &mut [u64], sh: Shape, rq: &[u64], at: usize, out: &mut [u64], base: usize)
     ensures { λ _. ⌜ both (now (s .exit)) (now (out .exit)) ≡ resolveR (now (s .entry)) (now (out .entry)) sh base (fieldOf (now (rq .entry)) at 1) (fieldOf (now (rq .entry)) at 4) (fieldOf (now (rq .entry)) at 5) (fieldOf (now (rq .entry)) at 9) ⌝ }
 {
-    let table = request::field(rq, at, format::field::FIELD_TABLE);
-    let value = request::field(rq, at, format::field::FIELD_VALUE);
-    let rights = request::field(rq, at, format::field::FIELD_RIGHTS);
-    let kind = request::field(rq, at, format::field::FIELD_KIND);
-    lookup::resolve(
-        s,
-        sh,
-        table,
-        HandleValue(value),
-        Rights(rights),
-        kind,
-        out,
-        base,
+    let f = request::read_three(
+        rq,
+        at,
+        op::OP_RESOLVE,
+        field::FIELD_TABLE,
+        field::FIELD_VALUE,
+        field::FIELD_RIGHTS,
     );
+    let g = request::read_three(
+        rq,
+        at,
+        op::OP_RESOLVE,
+        field::FIELD_KIND,
+        field::FIELDS,
+        field::FIELDS,
+    );
+    lookup::resolve(s, sh, f.a, HandleValue(f.b), Rights(f.c), g.a, out, base);
 }
 
 fn serve_replace(s: &mut [u64], sh: Shape, rq: &[u64], at: usize, out: &mut [u64], base: usize)
     ensures { λ _. ⌜ both (now (s .exit)) (now (out .exit)) ≡ replaceR (now (s .entry)) (now (out .entry)) sh base (fieldOf (now (rq .entry)) at 1) (fieldOf (now (rq .entry)) at 4) (fieldOf (now (rq .entry)) at 5) ⌝ }
 {
-    let table = request::field(rq, at, format::field::FIELD_TABLE);
-    let value = request::field(rq, at, format::field::FIELD_VALUE);
-    let rights = request::field(rq, at, format::field::FIELD_RIGHTS);
-    close::replace(s, sh, table, HandleValue(value), Rights(rights), out, base);
+    let f = request::read_three(
+        rq,
+        at,
+        op::OP_REPLACE,
+        field::FIELD_TABLE,
+        field::FIELD_VALUE,
+        field::FIELD_RIGHTS,
+    );
+    close::replace(s, sh, f.a, HandleValue(f.b), Rights(f.c), out, base);
 }
 
 fn serve_close(s: &mut [u64], sh: Shape, rq: &[u64], at: usize, out: &mut [u64], base: usize)
     ensures { λ _. ⌜ both (now (s .exit)) (now (out .exit)) ≡ closeR (now (s .entry)) (now (out .entry)) sh base (fieldOf (now (rq .entry)) at 1) (fieldOf (now (rq .entry)) at 4) ⌝ }
 {
-    let table = request::field(rq, at, format::field::FIELD_TABLE);
-    let value = request::field(rq, at, format::field::FIELD_VALUE);
-    close::close(s, sh, table, HandleValue(value), out, base);
+    let f = request::read_three(
+        rq,
+        at,
+        op::OP_CLOSE,
+        field::FIELD_TABLE,
+        field::FIELD_VALUE,
+        field::FIELDS,
+    );
+    close::close(s, sh, f.a, HandleValue(f.b), out, base);
 }
 
 fn serve_scan_handles(s: &mut [u64], sh: Shape, rq: &[u64], at: usize, out: &mut [u64], base: usize)
     ensures { λ _. ⌜ both (now (s .exit)) (now (out .exit)) ≡ scanR (now (s .entry)) (now (out .entry)) sh base (fieldOf (now (rq .entry)) at 1) (fieldOf (now (rq .entry)) at 11) ⌝ }
 {
-    let table = request::field(rq, at, format::field::FIELD_TABLE);
-    let cursor = request::field(rq, at, format::field::FIELD_CURSOR);
-    lookup::scan_handles(s, sh, table, cursor, out, base);
+    let f = request::read_three(
+        rq,
+        at,
+        op::OP_SCAN_HANDLES,
+        field::FIELD_TABLE,
+        field::FIELD_CURSOR,
+        field::FIELDS,
+    );
+    lookup::scan_handles(s, sh, f.a, f.b, out, base);
 }
 
 fn serve_prepare_consumption(
@@ -175,19 +231,30 @@ fn serve_prepare_consumption(
 )
     ensures { λ _. ⌜ both (now (s .exit)) (now (out .exit)) ≡ consumptionR (now (s .entry)) (now (out .entry)) sh base (fieldOf (now (rq .entry)) at 1) (fieldOf (now (rq .entry)) at 4) (fieldOf (now (rq .entry)) at 5) (fieldOf (now (rq .entry)) at 9) (fieldOf (now (rq .entry)) at 10) ⌝ }
 {
-    let table = request::field(rq, at, format::field::FIELD_TABLE);
-    let value = request::field(rq, at, format::field::FIELD_VALUE);
-    let rights = request::field(rq, at, format::field::FIELD_RIGHTS);
-    let kind = request::field(rq, at, format::field::FIELD_KIND);
-    let koid = request::field(rq, at, format::field::FIELD_KOID);
+    let f = request::read_three(
+        rq,
+        at,
+        op::OP_PREPARE_CONSUMPTION,
+        field::FIELD_TABLE,
+        field::FIELD_VALUE,
+        field::FIELD_RIGHTS,
+    );
+    let g = request::read_three(
+        rq,
+        at,
+        op::OP_PREPARE_CONSUMPTION,
+        field::FIELD_KIND,
+        field::FIELD_KOID,
+        field::FIELDS,
+    );
     transfer::prepare_consumption(
         s,
         sh,
-        table,
-        HandleValue(value),
-        Rights(rights),
-        kind,
-        Koid(koid),
+        f.a,
+        HandleValue(f.b),
+        Rights(f.c),
+        g.a,
+        Koid(g.b),
         out,
         base,
     );
@@ -196,14 +263,14 @@ fn serve_prepare_consumption(
 fn serve_rollback(s: &mut [u64], sh: Shape, rq: &[u64], at: usize, out: &mut [u64], base: usize)
     ensures { λ _. ⌜ both (now (s .exit)) (now (out .exit)) ≡ rollbackR (now (s .entry)) (now (out .entry)) sh base (fieldOf (now (rq .entry)) at 7) ⌝ }
 {
-    let id = request::field(rq, at, format::field::FIELD_ID);
+    let id = request::field(rq, at, field::FIELD_ID);
     claim::rollback(s, sh, ReservationId(id), out, base);
 }
 
 fn serve_commit(s: &mut [u64], sh: Shape, rq: &[u64], at: usize, out: &mut [u64], base: usize)
     ensures { λ _. ⌜ both (now (s .exit)) (now (out .exit)) ≡ commitR (now (s .entry)) (now (out .entry)) sh base (fieldOf (now (rq .entry)) at 7) ⌝ }
 {
-    let id = request::field(rq, at, format::field::FIELD_ID);
+    let id = request::field(rq, at, field::FIELD_ID);
     claim::commit(s, sh, ReservationId(id), out, base);
 }
 
@@ -217,16 +284,15 @@ fn serve_direct_commit(
 )
     ensures { λ _. ⌜ both (now (s .exit)) (now (out .exit)) ≡ directCommitR (now (s .entry)) (now (out .entry)) sh base (fieldOf (now (rq .entry)) at 7) (fieldOf (now (rq .entry)) at 8) ⌝ }
 {
-    let id = request::field(rq, at, format::field::FIELD_ID);
-    let destination = request::field(rq, at, format::field::FIELD_DESTINATION);
-    claim::direct_commit(
-        s,
-        sh,
-        ReservationId(id),
-        ReservationId(destination),
-        out,
-        base,
+    let f = request::read_three(
+        rq,
+        at,
+        op::OP_DIRECT_COMMIT,
+        field::FIELD_ID,
+        field::FIELD_DESTINATION,
+        field::FIELDS,
     );
+    claim::direct_commit(s, sh, ReservationId(f.a), ReservationId(f.b), out, base);
 }
 
 fn serve_direct_rollback(
@@ -239,16 +305,15 @@ fn serve_direct_rollback(
 )
     ensures { λ _. ⌜ both (now (s .exit)) (now (out .exit)) ≡ directRollbackR (now (s .entry)) (now (out .entry)) sh base (fieldOf (now (rq .entry)) at 7) (fieldOf (now (rq .entry)) at 8) ⌝ }
 {
-    let id = request::field(rq, at, format::field::FIELD_ID);
-    let destination = request::field(rq, at, format::field::FIELD_DESTINATION);
-    claim::direct_rollback(
-        s,
-        sh,
-        ReservationId(id),
-        ReservationId(destination),
-        out,
-        base,
+    let f = request::read_three(
+        rq,
+        at,
+        op::OP_DIRECT_ROLLBACK,
+        field::FIELD_ID,
+        field::FIELD_DESTINATION,
+        field::FIELDS,
     );
+    claim::direct_rollback(s, sh, ReservationId(f.a), ReservationId(f.b), out, base);
 }
 
 fn serve_remove_stopping_owner(
@@ -261,9 +326,15 @@ fn serve_remove_stopping_owner(
 )
     ensures { λ _. ⌜ both (now (s .exit)) (now (out .exit)) ≡ stoppingR (now (s .entry)) (now (out .entry)) sh base (fieldOf (now (rq .entry)) at 1) (fieldOf (now (rq .entry)) at 11) ⌝ }
 {
-    let table = request::field(rq, at, format::field::FIELD_TABLE);
-    let cursor = request::field(rq, at, format::field::FIELD_CURSOR);
-    teardown::remove_stopping_owner(s, sh, table, cursor, out, base);
+    let f = request::read_three(
+        rq,
+        at,
+        op::OP_REMOVE_STOPPING_OWNER,
+        field::FIELD_TABLE,
+        field::FIELD_CURSOR,
+        field::FIELDS,
+    );
+    teardown::remove_stopping_owner(s, sh, f.a, f.b, out, base);
 }
 
 fn serve_teardown_start(
@@ -276,7 +347,7 @@ fn serve_teardown_start(
 )
     ensures { λ _. ⌜ both (now (s .exit)) (now (out .exit)) ≡ teardownStartR (now (s .entry)) (now (out .entry)) sh base (fieldOf (now (rq .entry)) at 1) ⌝ }
 {
-    let table = request::field(rq, at, format::field::FIELD_TABLE);
+    let table = request::field(rq, at, field::FIELD_TABLE);
     teardown::begin_teardown(s, sh, table, out, base);
 }
 
@@ -290,7 +361,7 @@ fn serve_teardown_step(
 )
     ensures { λ _. ⌜ both (now (s .exit)) (now (out .exit)) ≡ teardownStepR (now (s .entry)) (now (out .entry)) sh base (fieldOf (now (rq .entry)) at 1) ⌝ }
 {
-    let table = request::field(rq, at, format::field::FIELD_TABLE);
+    let table = request::field(rq, at, field::FIELD_TABLE);
     teardown::remove_next(s, sh, table, out, base);
 }
 
@@ -304,7 +375,7 @@ fn serve_teardown_finish(
 )
     ensures { λ _. ⌜ both (now (s .exit)) (now (out .exit)) ≡ teardownFinishR (now (s .entry)) (now (out .entry)) sh base (fieldOf (now (rq .entry)) at 1) ⌝ }
 {
-    let table = request::field(rq, at, format::field::FIELD_TABLE);
+    let table = request::field(rq, at, field::FIELD_TABLE);
     teardown::finish_teardown(s, sh, table, out, base);
 }
 
@@ -318,7 +389,7 @@ fn serve_take_empty_page(
 )
     ensures { λ _. ⌜ both (now (s .exit)) (now (out .exit)) ≡ takePageR (now (s .entry)) (now (out .entry)) sh base (fieldOf (now (rq .entry)) at 1) ⌝ }
 {
-    let table = request::field(rq, at, format::field::FIELD_TABLE);
+    let table = request::field(rq, at, field::FIELD_TABLE);
     detach::take_empty_page(s, sh, table, out, base);
 }
 
@@ -327,37 +398,30 @@ fn serve(s: &mut [u64], sh: Shape, rq: &[u64], at: usize, op: u64, out: &mut [u6
     ensures { λ _. ⌜ both (now (s .exit)) (now (out .exit)) ≡ serveR op (now (s .entry)) (now (out .entry)) sh (now (rq .entry)) at base ⌝ }
 {
     match op {
-        format::op::OP_NEW_OBJECT => serve_new_object(s, sh, rq, at, out, base),
-        format::op::OP_DUPLICATE => serve_duplicate(s, sh, rq, at, out, base),
-        format::op::OP_RELEASE_PARCEL => serve_release_parcel(s, sh, rq, at, out, base),
-        format::op::OP_RETIRE_OBJECT => serve_retire_object(s, sh, rq, at, out, base),
-        format::op::OP_RESERVE => serve_reserve(s, sh, rq, at, out, base),
-        format::op::OP_TRIM => serve_trim(s, sh, rq, at, out, base),
-        format::op::OP_ABORT => serve_abort(s, sh, rq, at, out, base),
-        format::op::OP_PUBLISH => serve_publish(s, sh, rq, at, out, base),
-        format::op::OP_GET_INFO => serve_get_info(s, sh, rq, at, out, base),
-        format::op::OP_RESOLVE => serve_resolve(s, sh, rq, at, out, base),
-        format::op::OP_REPLACE => serve_replace(s, sh, rq, at, out, base),
-        format::op::OP_CLOSE => serve_close(s, sh, rq, at, out, base),
-        format::op::OP_SCAN_HANDLES => serve_scan_handles(s, sh, rq, at, out, base),
-        format::op::OP_PREPARE_TRANSFER => transfer::prepare_transfer(s, sh, rq, at, out, base),
-        format::op::OP_PREPARE_CONSUMPTION => serve_prepare_consumption(s, sh, rq, at, out, base),
-        format::op::OP_ROLLBACK => serve_rollback(s, sh, rq, at, out, base),
-        format::op::OP_COMMIT => serve_commit(s, sh, rq, at, out, base),
-        format::op::OP_DIRECT_COMMIT => serve_direct_commit(s, sh, rq, at, out, base),
-        format::op::OP_DIRECT_ROLLBACK => serve_direct_rollback(s, sh, rq, at, out, base),
-        format::op::OP_REMOVE_STOPPING_OWNER => serve_remove_stopping_owner(
-            s,
-            sh,
-            rq,
-            at,
-            out,
-            base,
-        ),
-        format::op::OP_TEARDOWN_START => serve_teardown_start(s, sh, rq, at, out, base),
-        format::op::OP_TEARDOWN_STEP => serve_teardown_step(s, sh, rq, at, out, base),
-        format::op::OP_TEARDOWN_FINISH => serve_teardown_finish(s, sh, rq, at, out, base),
-        format::op::OP_TAKE_EMPTY_PAGE => serve_take_empty_page(s, sh, rq, at, out, base),
+        op::OP_NEW_OBJECT => serve_new_object(s, sh, rq, at, out, base),
+        op::OP_DUPLICATE => serve_duplicate(s, sh, rq, at, out, base),
+        op::OP_RELEASE_PARCEL => serve_release_parcel(s, sh, rq, at, out, base),
+        op::OP_RETIRE_OBJECT => serve_retire_object(s, sh, rq, at, out, base),
+        op::OP_RESERVE => serve_reserve(s, sh, rq, at, out, base),
+        op::OP_TRIM => serve_trim(s, sh, rq, at, out, base),
+        op::OP_ABORT => serve_abort(s, sh, rq, at, out, base),
+        op::OP_PUBLISH => serve_publish(s, sh, rq, at, out, base),
+        op::OP_GET_INFO => serve_get_info(s, sh, rq, at, out, base),
+        op::OP_RESOLVE => serve_resolve(s, sh, rq, at, out, base),
+        op::OP_REPLACE => serve_replace(s, sh, rq, at, out, base),
+        op::OP_CLOSE => serve_close(s, sh, rq, at, out, base),
+        op::OP_SCAN_HANDLES => serve_scan_handles(s, sh, rq, at, out, base),
+        op::OP_PREPARE_TRANSFER => transfer::prepare_transfer(s, sh, rq, at, out, base),
+        op::OP_PREPARE_CONSUMPTION => serve_prepare_consumption(s, sh, rq, at, out, base),
+        op::OP_ROLLBACK => serve_rollback(s, sh, rq, at, out, base),
+        op::OP_COMMIT => serve_commit(s, sh, rq, at, out, base),
+        op::OP_DIRECT_COMMIT => serve_direct_commit(s, sh, rq, at, out, base),
+        op::OP_DIRECT_ROLLBACK => serve_direct_rollback(s, sh, rq, at, out, base),
+        op::OP_REMOVE_STOPPING_OWNER => serve_remove_stopping_owner(s, sh, rq, at, out, base),
+        op::OP_TEARDOWN_START => serve_teardown_start(s, sh, rq, at, out, base),
+        op::OP_TEARDOWN_STEP => serve_teardown_step(s, sh, rq, at, out, base),
+        op::OP_TEARDOWN_FINISH => serve_teardown_finish(s, sh, rq, at, out, base),
+        op::OP_TAKE_EMPTY_PAGE => serve_take_empty_page(s, sh, rq, at, out, base),
         _ => {}
     }
 }
@@ -367,7 +431,7 @@ fn run_one(s: &mut [u64], sh: Shape, rq: &[u64], at: usize, out: &mut [u64], bas
     ensures { λ _. ⌜ both (now (s .exit)) (now (out .exit)) ≡ oneR (now (s .entry)) (cleared (now (out .entry)) base answerWords) sh (now (rq .entry)) at base ⌝ }
 {
     request::clear_answer(out, base);
-    let op = request::field(rq, at, format::field::FIELD_OP);
+    let op = request::field(rq, at, field::FIELD_OP);
     serve(s, sh, rq, at, op, out, base);
 }
 

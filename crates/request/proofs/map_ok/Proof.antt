@@ -3,8 +3,9 @@
 use Rattle.authority.specs.Rights.{contains}
 use Rattle.model.specs.Words.{odd}
 use Rattle.request.specs.Place.{goodMap}
-use Rattle.request.specs.Steps.{both-yes, both-no}
+use Rattle.request.specs.Steps.{both-no}
 use mathlib.Core.Path.{sym, _∙_}
+use Rattle.authority.specs.Laws.{both-yes}
 use Rattle.request.proofs.map_ok.Statement.{statement}
 use Rattle.request.proofs.map_ok.Tie as tie
 

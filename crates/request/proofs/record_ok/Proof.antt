@@ -19,7 +19,7 @@ add-fields-end : tie.Need-add-fields-end
 add-fields-end c = search needs
 
 fields-end-requires : tie.Need-fields-end-requires
-fields-end-requires c κs = tt
+fields-end-requires c κs = search needs
 
 returns : tie.Need-returns
 returns c = record-in _ _ _ _ _ _ (c .before .before .before .before .if1 .taken) (sym (c .before .before .map-ok .ensures) ∙ c .before .if2 .taken) (c .fields-end .ensures)

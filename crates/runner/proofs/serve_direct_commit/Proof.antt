@@ -1,41 +1,31 @@
+-- `runner::serve_direct_commit` meets its contract.
+-- Assumes nothing.
 use borrow.Author.Needs.{needs}
+use Rattle.request.specs.Laws.{three-read}
+use Rattle.claim.specs.Ops.{directCommitR}
 use Rattle.runner.proofs.serve_direct_commit.Statement.{statement}
 use Rattle.runner.proofs.serve_direct_commit.Tie as tie
-use Rattle.runner.proofs.serve_direct_commit.Reads as reads
-use Rattle.runner.proofs.serve_direct_commit.Lts as lts
-use Rattle.claim.proofs.direct_commit.Reads as direct-commit-reads
-use Rattle.request.proofs.field.Reads as field-reads
 
--- src/lib.rt:220:9
-field-requires : tie.Need-field-requires
-field-requires c κs = tt
+read-three-requires : tie.Need-read-three-requires
+read-three-requires c κs = tt
 
--- src/lib.rt:221:9
-field-requires-2 : tie.Need-field-requires-2
-field-requires-2 c κs = tt
-
--- src/lib.rt:222:5
 direct-commit-requires : tie.Need-direct-commit-requires
 direct-commit-requires c κs = tt
 
--- src/lib.rt:210:1
 same-length : tie.Need-same-length
 same-length c = search needs
 
--- src/lib.rt:210:1
 same-length-2 : tie.Need-same-length-2
 same-length-2 c = search needs
 
--- src/lib.rt:210:1
 returns : tie.Need-returns
-returns c = cc
+returns c = three-read (λ x y z. directCommitR (c .before .before .before .before .before .before .before .before .before .before .before .args .s .now) (c .before .before .before .before .before .before .before .before .before .before .before .args .out .now) (c .before .before .before .before .before .before .before .before .before .before .before .args .sh) (c .before .before .before .before .before .before .before .before .before .before .before .args .base) x y) _ _ _ _ _ _ (c .before .before .before .before .before .before .before .read-three .ensures) (c .before .before .before .before .direct-commit .ensures)
 
 pub serve-direct-commit-spec : {M : Type 1} → statement M
 serve-direct-commit-spec =
     tie.close
     (tie.spec
-    field-requires
-    field-requires-2
+    read-three-requires
     direct-commit-requires
     same-length
     same-length-2

@@ -1,46 +1,31 @@
+-- `runner::serve_duplicate` meets its contract.
+-- Assumes nothing.
 use borrow.Author.Needs.{needs}
+use Rattle.request.specs.Laws.{three-read}
+use Rattle.parcel.specs.Ops.{duplicateR}
 use Rattle.runner.proofs.serve_duplicate.Statement.{statement}
 use Rattle.runner.proofs.serve_duplicate.Tie as tie
-use Rattle.runner.proofs.serve_duplicate.Reads as reads
-use Rattle.runner.proofs.serve_duplicate.Lts as lts
-use Rattle.parcel.proofs.duplicate.Reads as duplicate-reads
-use Rattle.request.proofs.field.Reads as field-reads
 
--- src/lib.rt:67:9
-field-requires : tie.Need-field-requires
-field-requires c κs = search needs
+read-three-requires : tie.Need-read-three-requires
+read-three-requires c κs = tt
 
--- src/lib.rt:68:9
-field-requires-2 : tie.Need-field-requires-2
-field-requires-2 c κs = search needs
-
--- src/lib.rt:69:9
-field-requires-3 : tie.Need-field-requires-3
-field-requires-3 c κs = search needs
-
--- src/lib.rt:70:5
 duplicate-requires : tie.Need-duplicate-requires
-duplicate-requires c κs = search needs
+duplicate-requires c κs = tt
 
--- src/lib.rt:64:1
 same-length : tie.Need-same-length
 same-length c = search needs
 
--- src/lib.rt:64:1
 same-length-2 : tie.Need-same-length-2
 same-length-2 c = search needs
 
--- src/lib.rt:64:1
 returns : tie.Need-returns
-returns c = cc
+returns c = three-read (λ x y z. duplicateR (c .before .before .before .before .before .before .before .before .before .before .before .args .s .now) (c .before .before .before .before .before .before .before .before .before .before .before .args .out .now) (c .before .before .before .before .before .before .before .before .before .before .before .args .sh) (c .before .before .before .before .before .before .before .before .before .before .before .args .base) x y z) _ _ _ _ _ _ (c .before .before .before .before .before .before .before .read-three .ensures) (c .before .before .before .before .duplicate .ensures)
 
 pub serve-duplicate-spec : {M : Type 1} → statement M
 serve-duplicate-spec =
     tie.close
     (tie.spec
-    field-requires
-    field-requires-2
-    field-requires-3
+    read-three-requires
     duplicate-requires
     same-length
     same-length-2

@@ -1,36 +1,32 @@
+-- `runner::serve_trim` meets its contract.
+-- Assumes nothing.
 use borrow.Author.Needs.{needs}
+use Rattle.request.specs.Laws.{three-read}
+use Rattle.reserve.specs.Ops.{trimR}
 use Rattle.runner.proofs.serve_trim.Statement.{statement}
 use Rattle.runner.proofs.serve_trim.Tie as tie
-use Rattle.runner.proofs.serve_trim.Reads as reads
-use Rattle.runner.proofs.serve_trim.Lts as lts
-use Rattle.request.proofs.field.Reads as field-reads
-use Rattle.reserve.proofs.trim.Reads as trim-reads
 
--- src/lib.rt:98:9
-field-requires : tie.Need-field-requires
-field-requires c κs = search needs
+read-three-requires : tie.Need-read-three-requires
+read-three-requires c κs = tt
 
--- src/lib.rt:99:9
-field-requires-2 : tie.Need-field-requires-2
-field-requires-2 c κs = search needs
-
--- src/lib.rt:100:5
 trim-requires : tie.Need-trim-requires
-trim-requires c κs = search needs
+trim-requires c κs = tt
 
--- src/lib.rt:95:1
 same-length : tie.Need-same-length
 same-length c = search needs
 
--- src/lib.rt:95:1
 same-length-2 : tie.Need-same-length-2
 same-length-2 c = search needs
 
--- src/lib.rt:95:1
 returns : tie.Need-returns
-returns c = cc
+returns c = three-read (λ x y z. trimR (c .before .before .before .before .before .before .before .before .before .before .before .args .s .now) (c .before .before .before .before .before .before .before .before .before .before .before .args .out .now) (c .before .before .before .before .before .before .before .before .before .before .before .args .sh) (c .before .before .before .before .before .before .before .before .before .before .before .args .base) x y) _ _ _ _ _ _ (c .before .before .before .before .before .before .before .read-three .ensures) (c .before .before .before .before .trim .ensures)
 
 pub serve-trim-spec : {M : Type 1} → statement M
 serve-trim-spec =
     tie.close
-    (tie.spec field-requires field-requires-2 trim-requires same-length same-length-2 returns)
+    (tie.spec
+    read-three-requires
+    trim-requires
+    same-length
+    same-length-2
+    returns)

@@ -1,4 +1,4 @@
--- `request::clear_answer` meets its contract.
+-- `request::clear_part` meets its contract.
 -- Assumes nothing.
 use Prim.Native.Nat.{_-_, _≤_}
 use Rattle.request.specs.Answers.{cleared, cleared-more, cleared-all}
@@ -6,8 +6,8 @@ use borrow.Author.Needs.{needs}
 use lib.ListN.{length}
 use mathlib.Core.Path.{_≡_, refl}
 use native.Mathlib.Omega.{arith}
-use Rattle.request.proofs.clear_answer.Statement.{statement}
-use Rattle.request.proofs.clear_answer.Tie as tie
+use Rattle.request.proofs.clear_part.Statement.{statement}
+use Rattle.request.proofs.clear_part.Tie as tie
 
 abbrev Inv-loop : tie.InvT-loop
 Inv-loop out₀ base k₀ out k = (k ≤ 72) × (length out ≡ length out₀) × (out ≡ cleared out₀ base k)
@@ -37,8 +37,8 @@ same-length c = search needs
 returns : tie.Need-returns Inv-loop μ-loop
 returns c = cleared-all _ _ _ _ (c .before .loop .inv .2) (omega arith)
 
-pub clear-answer-spec : {M : Type 1} → statement M
-clear-answer-spec =
+pub clear-part-spec : {M : Type 1} → statement M
+clear-part-spec =
     tie.close
     (tie.spec
     Inv-loop
