@@ -1,40 +1,64 @@
 -- What the code's loops and stores say, in the terms of the definitions. Assumes nothing.
-use mathlib.Core.Path.{_≡_, sym, ap, _∙_}
+use mathlib.Core.Path.{_≡_, refl, sym, ap, _∙_}
 use mathlib.Core.Bool.{Bool, true, false}
 use mathlib.Core.List.{List}
-use Prim.Native.Nat.{ℕ, suc, _+_, _-_, _≤_, _<_, min}
+use Prim.Native.Nat.{ℕ, zero, suc, _+_, _-_, _/_, _≤_, _<_, min}
 use native.Mathlib.Omega.{arith}
-use lib.Dec.{eqb}
-use Rattle.words.specs.Pick.{pick}
+use lib.Dec.{eqb, ltb}
+use Rattle.words.specs.Pick.{pick, yes-is, no-is}
 use Rattle.layout.specs.declared.Shape.{Shape}
 use Rattle.layout.specs.Layout.{Mem, root, index, rank, row, item, load, save}
 use Rattle.storage.specs.Ops.{up, vacateW}
-use Rattle.book.specs.Ops.{linkFrom, usedOf, rowLink, spare, openP, openW, shiftW, closeW, vacateItemsW}
+use Rattle.book.specs.Ops.{idAt, linkFrom, rowLink, spare, openP, openW, shiftW, closeW, vacateItemsW}
 
 -- ---- `row_of`
 
-pub link-start : (m : Mem) (sh : Shape) (id u n : ℕ) → u ≡ m (root 6) → n ≡ min u (sh .rows) → rowLink m sh id ≡ linkFrom m id 0 (n - 0)
+-- fuel enough is enough
+link-fuel : (m : Mem) (id f g i n : ℕ) → n ≤ f → n ≤ g → linkFrom m id f i n ≡ linkFrom m id g i n
+link-fuel m id zero zero i n a b = refl
+link-fuel m id zero (suc g) i zero a b = refl
+link-fuel m id zero (suc g) i (suc n) a b = absurd (omega arith)
+link-fuel m id (suc f) zero i zero a b = refl
+link-fuel m id (suc f) zero i (suc n) a b = absurd (omega arith)
+link-fuel m id (suc f) (suc g) i zero a b = refl
+link-fuel m id (suc f) (suc g) i (suc n) a b =
+    rw (link-fuel m id f g (i + suc n / 2 + 1) (suc n - suc n / 2 - 1) (omega arith) (omega arith), link-fuel m id f g i (suc n / 2) (omega arith) (omega arith))
+
+-- one look
+link-look : (m : Mem) (id i n h : ℕ) → 0 < n → h ≡ n / 2
+    → linkFrom m id n i n ≡ pick (eqb (idAt m (i + h)) id) (up (m (index (i + h)))) (pick (ltb (idAt m (i + h)) id) (linkFrom m id (n - h - 1) (i + h + 1) (n - h - 1)) (linkFrom m id h i h))
+link-look m id i zero h l e = absurd (omega arith)
+link-look m id i (suc n) h l e =
+    rw (e, link-fuel m id n (suc n - suc n / 2 - 1) (i + suc n / 2 + 1) (suc n - suc n / 2 - 1) (omega arith) (omega arith), link-fuel m id n (suc n / 2) i (suc n / 2) (omega arith) (omega arith))
+
+pub link-start : (m : Mem) (sh : Shape) (id u n : ℕ) → u ≡ m (root 6) → n ≡ min u (sh .rows) → rowLink m sh id ≡ linkFrom m id n 0 n
 unfolding rowLink
-link-start m sh id u n d e = let z : n - 0 ≡ usedOf m sh = omega (arith, ap (λ (v : ℕ). min v (sh .rows)) d) in rw z
+link-start m sh id u n d e = rw (e, d)
 
-module _ (m : Mem) (sh : Shape) (id i n : ℕ) (inv : rowLink m sh id ≡ linkFrom m id i (n - i)) where
-  one-more : i < n → linkFrom m id i (n - i) ≡ pick (eqb (m (row (m (index i)) 0)) id) (up (m (index i))) (linkFrom m id (suc i) (n - suc i))
-  one-more l = let z : n - i ≡ suc (n - suc i) = omega arith in rw z
+-- n ranks are left, from i on
+module _ (m : Mem) (sh : Shape) (id i n : ℕ) (inv : rowLink m sh id ≡ linkFrom m id n i n) where
+  module _ (l : 0 < n) (h x w : ℕ) (t : Bool) (eh : h ≡ n / 2) (ex : x ≡ m (index (i + h))) (ew : w ≡ m (row x 0)) (et : t ≡ eqb w id) where
+    there : w ≡ idAt m (i + h)
+    there = rw ex at ew
 
-  module _ (l : i < n) (x w : ℕ) (t : Bool) (ex : x ≡ m (index i)) (ew : w ≡ m (row x 0)) (et : t ≡ eqb w id) where
-    test-is : eqb (m (row (m (index i)) 0)) id ≡ t
-    test-is = rw (et, ew, ex)
+    test-is : eqb (idAt m (i + h)) id ≡ t
+    test-is = sym (et ∙ ap (λ (v : ℕ). eqb v id) there)
 
     pub link-yes : (y : ℕ) → t ≡ true → y ≡ up x → y ≡ rowLink m sh id
-    link-yes y d e = let q : eqb (m (row (m (index i)) 0)) id ≡ true = test-is ∙ d in
-        e ∙ ap up ex ∙ sym (inv ∙ one-more l ∙ ap (λ (v : Bool). pick v (up (m (index i))) (linkFrom m id (suc i) (n - suc i))) q)
+    link-yes y d e = e ∙ ap up ex ∙ yes-is _ _ _ _ (test-is ∙ d) refl ∙ sym (inv ∙ link-look m id i n h l eh)
 
-    pub link-no : t ≡ false → rowLink m sh id ≡ linkFrom m id (i + 1) (n - (i + 1))
-    link-no d = let q : eqb (m (row (m (index i)) 0)) id ≡ false = test-is ∙ d in let z : i + 1 ≡ suc i = omega arith in
-        rw z (inv ∙ one-more l ∙ ap (λ (v : Bool). pick v (up (m (index i))) (linkFrom m id (suc i) (n - suc i))) q)
+    module _ (d : t ≡ false) (t₂ : Bool) (et₂ : t₂ ≡ ltb w id) where
+      order-is : ltb (idAt m (i + h)) id ≡ t₂
+      order-is = sym (et₂ ∙ ap (λ (v : ℕ). ltb v id) there)
 
-  pub link-end : n ≤ i → 0 ≡ rowLink m sh id
-  link-end l = let z : n - i ≡ 0 = omega arith in sym (inv ∙ ap (linkFrom m id i) z)
+      pub link-above : t₂ ≡ true → rowLink m sh id ≡ linkFrom m id (n - h - 1) (i + h + 1) (n - h - 1)
+      link-above z = inv ∙ link-look m id i n h l eh ∙ sym (no-is _ _ _ _ (test-is ∙ d) (yes-is _ _ _ _ (order-is ∙ z) refl))
+
+      pub link-below : t₂ ≡ false → rowLink m sh id ≡ linkFrom m id h i h
+      link-below z = inv ∙ link-look m id i n h l eh ∙ sym (no-is _ _ _ _ (test-is ∙ d) (no-is _ _ _ _ (order-is ∙ z) refl))
+
+  pub link-end : n ≤ 0 → 0 ≡ rowLink m sh id
+  link-end l = let z : n ≡ 0 = omega arith in sym (inv ∙ ap (λ (v : ℕ). linkFrom m id v i v) z)
 
 -- ---- `open_row`
 

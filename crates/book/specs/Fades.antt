@@ -6,19 +6,20 @@ use Prim.Native.Nat.{ℕ, suc, _<_}
 use native.Mathlib.Omega.{arith}
 use lib.ListN.{length}
 use lib.Dec.{eqb}
-use borrow.Author.Tests.{eqb-true, eqb-false, eq-eqb, ne-eqb}
+use borrow.Author.Tests.{eqb-true, eqb-false}
 use Rattle.words.specs.Pick.{bool, clash}
 use Rattle.codec.specs.Codec.{nextGeneration}
-use Rattle.model.specs.Base.{put}
-use Rattle.model.specs.State.{till, Handle, Slot, Slot.absent, Slot.vacant, Slot.reserved, Slot.transferReserved, Slot.occupied, Table, Body, State, generation, isBusy, isVacant}
+use Rattle.model.specs.State.{till, Handle, Slot, Slot.vacant, Slot.occupied, Table, Body, State, generation, isBusy}
 use Rattle.model.specs.Storage.{place, keep, vacate}
 use Rattle.model.specs.Change.{withTable}
 use Rattle.model.specs.Book.{addRow, dropRow, swapRow}
+use Rattle.model.specs.Tests.{put-other, put-same}
 use Rattle.invariant.specs.BookLemmas.{length-add, length-drop, length-swap, ids-add, ids-drop, ids-swap}
 use Rattle.invariant.specs.Pointwise.{place-slots, vacate-slots}
 use Rattle.layout.specs.declared.Shape.{Shape}
 use Rattle.layout.specs.Layout.{Mem, index, rank, row, item, load}
 use Rattle.representation.specs.Represents.{slotWord, isMarked}
+use Rattle.representation.specs.Told.{marked-full}
 use Rattle.storage.specs.Sight.{OnlyTable}
 use Rattle.storage.specs.Ops.{vacateW, occupyW}
 use Rattle.storage.specs.Turns.{Turns, vacate-turns, occupy-turns}
@@ -71,13 +72,6 @@ close-fades ws sh s h f x i y a = fades-rows (load ws sh) s (load (closeW ws sh 
 
 -- ---- slots that fall vacant or are occupied
 
-marked-full : (x : Slot) → isMarked x ≡ true → isVacant x ≡ false
-marked-full absent e = refl
-marked-full (vacant g) e = clash e refl
-marked-full (reserved g i) e = refl
-marked-full (transferReserved g i) e = refl
-marked-full (occupied g h) e = refl
-
 turn-fades : (ws ws′ : List ℕ) (sh : Shape) (s : State) → Held ws sh s → (b : ℕ) → b < s .tableCount → (k : ℕ) (c : ℕ → ℕ) (u : Table) → Turns ws ws′ sh b (s .tables b) k c u
     → ((j : ℕ) → (j ≡ k → ⊥) → u .slots j ≡ s .tables b .slots j) → isMarked (u .slots k) ≡ false → Fades (load ws sh) s (load ws′ sh) (withTable s b u)
 turn-fades ws ws′ sh s h b l k c u t others bare = record {
@@ -96,24 +90,18 @@ turn-fades ws ws′ sh s h b l k c u t others bare = record {
     off : (j : ℕ) → isMarked (u .slots j) ≡ true → j ≡ k → ⊥
     off j e q = clash e (ap (λ (z : ℕ). isMarked (u .slots z)) q ∙ bare)
 
-put-off : (f : ℕ → Slot) (k : ℕ) (x : Slot) (j : ℕ) → (j ≡ k → ⊥) → put f k x j ≡ f j
-put-off f k x j n = rw (ne-eqb j k n)
-
-put-on : (f : ℕ → Slot) (k : ℕ) (x : Slot) → put f k x k ≡ x
-put-on f k x = rw (eq-eqb k k refl)
-
 module _ (ws : List ℕ) (sh : Shape) (s : State) (h : Held ws sh s) (b : ℕ) (l : b < s .tableCount) (k : ℕ) (was : isBusy (s .tables b .slots k) ≡ true) where
   pub vacate-fades : Fades (load ws sh) s (load (vacateW ws sh b k) sh) (withTable s b (vacate till (s .tables b) k))
   vacate-fades = let t : Table = s .tables b in let y : Slot = vacant (nextGeneration (generation (t .slots k))) in
       turn-fades ws (vacateW ws sh b k) sh s h b l k _ (vacate till t k) (vacate-turns ws sh b t (ready-of ws sh s h b l) k was)
-      (λ j n. ap (λ (f : ℕ → Slot). f j) (vacate-slots till t k) ∙ put-off (t .slots) k y j n)
-      (ap isMarked (ap (λ (f : ℕ → Slot). f k) (vacate-slots till t k) ∙ put-on (t .slots) k y))
+      (λ j n. ap (λ (f : ℕ → Slot). f j) (vacate-slots till t k) ∙ put-other (t .slots) k y j n)
+      (ap isMarked (ap (λ (f : ℕ → Slot). f k) (vacate-slots till t k) ∙ put-same (t .slots) k y))
 
   pub occupy-fades : (x : Handle) → Fades (load ws sh) s (load (occupyW ws sh b k (x .object) (x .rights) (x .flags)) sh) (withTable s b (keep till (λ g. occupied g x) (s .tables b) k))
   occupy-fades x = let t : Table = s .tables b in let y : Slot = occupied (generation (t .slots k)) x in
       turn-fades ws (occupyW ws sh b k (x .object) (x .rights) (x .flags)) sh s h b l k _ (place till t k y) (occupy-turns ws sh b t (ready-of ws sh s h b l) k was (x .object) (x .rights) (x .flags))
-      (λ j n. ap (λ (f : ℕ → Slot). f j) (place-slots till t k y) ∙ put-off (t .slots) k y j n)
-      (ap isMarked (ap (λ (f : ℕ → Slot). f k) (place-slots till t k y) ∙ put-on (t .slots) k y))
+      (λ j n. ap (λ (f : ℕ → Slot). f j) (place-slots till t k y) ∙ put-other (t .slots) k y j n)
+      (ap isMarked (ap (λ (f : ℕ → Slot). f k) (place-slots till t k y) ∙ put-same (t .slots) k y))
 
 -- ---- rows through an operation on a table
 

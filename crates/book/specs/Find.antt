@@ -1,11 +1,11 @@
 -- The row with an id: where `row_of` finds it. Assumes nothing.
 use mathlib.Core.Path.{_≡_, refl, sym, ap, _∙_}
 use mathlib.Core.Option.{Option, none, some}
-use Prim.Native.Nat.{ℕ, zero, suc, _+_, _-_, _≤_, _<_}
+use Prim.Native.Nat.{ℕ, zero, suc, _+_, _-_, _/_, _≤_, _<_}
 use native.Mathlib.Omega.{arith}
 use lib.ListN.{length}
-use lib.Dec.{eqb}
-use borrow.Author.Tests.{eqb-true, eqb-false}
+use lib.Dec.{eqb, ltb}
+use borrow.Author.Tests.{eqb-true, eqb-false, ltb-true, ltb-false}
 use Rattle.words.specs.Pick.{bool}
 use Rattle.model.specs.Base.{nth}
 use Rattle.model.specs.State.{till, Body, Row, State}
@@ -16,9 +16,9 @@ use Rattle.layout.specs.declared.Shape.{Shape}
 use Rattle.layout.specs.Layout.{Mem, index, rank, row}
 use Rattle.representation.specs.Represents.{BodyIs, Represents}
 use Rattle.storage.specs.Ops.{up}
-use Rattle.book.specs.Lists.{find-nth, nth-find, nth-below}
+use Rattle.book.specs.Lists.{ids-rise, find-nth, nth-find, nth-below}
 use Rattle.book.specs.Places.{Indexed, row-of}
-use Rattle.book.specs.Ops.{linkFrom, usedOf, rowLink}
+use Rattle.book.specs.Ops.{idAt, linkFrom, usedOf, rowLink}
 
 -- the book of a well-formed state: its rows have places, and their ids rise
 pub record Fits (s : State) : Type 0 where
@@ -56,35 +56,67 @@ module _ (sh : Shape) (m : Mem) (s : State) (r : Represents sh m s) (f : Fits s)
   pub at-find : (x i : ℕ) (b : Body) → RowAt m s x i b → find i (s .book .rows) ≡ some b
   at-find x i b a = find-nth 1 (s .book .next) (s .book .rows) (m (rank x)) i b (f .rise) (a .listed)
 
--- ---- the walk
+-- ---- the search
 
-link-some : (m : Mem) (id c : ℕ) → c ≤ 256 → (n i x : ℕ) → ((j : ℕ) → j < i + n → m (index j) < c) → linkFrom m id i n ≡ suc x
+-- a row that it finds is one of the ranks
+link-some : (m : Mem) (id c : ℕ) → c ≤ 256 → (f i n x : ℕ) → n ≤ f → ((j : ℕ) → j < i + n → m (index j) < c) → linkFrom m id f i n ≡ suc x
     → (j : ℕ) × (j < i + n) × (m (index j) ≡ x) × (m (row x 0) ≡ id)
-link-some m id c few zero i x low e = absurd (omega arith)
-link-some m id c few (suc n) i x low e = bool (eqb (m (row (m (index i)) 0)) id)
-    (λ q. let d : up (m (index i)) ≡ suc x = rw q at e in
-    let z : m (index i) ≡ x = omega (arith, low i (omega arith)) in
-    (i, omega arith, z, ap (λ (y : ℕ). m (row y 0)) (sym z) ∙ eqb-true (m (row (m (index i)) 0)) id q))
-    (λ q. let p = link-some m id c few n (suc i) x (λ j h. low j (omega arith)) (rw q at e) in (p .0, omega (arith, p .1), p .2, p .3))
+link-some m id c few zero i n x l low e = absurd (omega arith)
+link-some m id c few (suc f) i zero x l low e = absurd (omega arith)
+link-some m id c few (suc f) i (suc n) x l low e = bool (eqb (idAt m (i + suc n / 2)) id)
+    (λ q. let d : up (m (index (i + suc n / 2))) ≡ suc x = rw q at e in
+    let z : m (index (i + suc n / 2)) ≡ x = omega (arith, low (i + suc n / 2) (omega arith)) in
+    (i + suc n / 2, omega arith, z, ap (λ (y : ℕ). m (row y 0)) (sym z) ∙ eqb-true (idAt m (i + suc n / 2)) id q))
+    (λ q. bool (ltb (idAt m (i + suc n / 2)) id)
+    (λ g. let p = link-some m id c few f (i + suc n / 2 + 1) (suc n - suc n / 2 - 1) x (omega arith) (λ j h. low j (omega arith)) (rw (q, g) at e) in
+    (p .0, omega (arith, p .1), p .2, p .3))
+    (λ g. let p = link-some m id c few f i (suc n / 2) x (omega arith) (λ j h. low j (omega arith)) (rw (q, g) at e) in
+    (p .0, omega (arith, p .1), p .2, p .3)))
 
-link-none : (m : Mem) (id n i : ℕ) → linkFrom m id i n ≡ 0 → (j : ℕ) → i ≤ j → j < i + n → m (row (m (index j)) 0) ≡ id → ⊥
-link-none m id zero i e j l h d = omega arith
-link-none m id (suc n) i e j l h d = bool (eqb (m (row (m (index i)) 0)) id)
-    (λ q. let z : up (m (index i)) ≡ 0 = rw q at e in omega arith)
-    (λ q. bool (eqb j i)
-    (λ y. eqb-false (m (row (m (index i)) 0)) id q (ap (λ (k : ℕ). m (row (m (index k)) 0)) (sym (eqb-true j i y)) ∙ d))
-    (λ y. link-none m id n (suc i) (rw q at e) j (omega (arith, eqb-false j i y)) (omega arith) d))
+-- the ids of the ranks under n rise
+abbrev Rising : Mem → ℕ → Type 0
+Rising m n = (j k : ℕ) → j < k → k < n → idAt m j < idAt m k
+
+rank-order : (m : Mem) (n : ℕ) → Rising m n → (j k : ℕ) → j < n → idAt m j < idAt m k → j < k
+rank-order m n rise j k a l = bool (ltb j k)
+    (λ y. ltb-true j k y)
+    (λ y. bool (eqb j k)
+    (λ z. absurd (omega (arith, ap (idAt m) (eqb-true j k z))))
+    (λ z. absurd (omega (arith, rise k j (omega (arith, ltb-false j k y, eqb-false j k z)) a))))
+
+-- where they rise, a search that finds none leaves none
+link-none : (m : Mem) (id f i n : ℕ) → n ≤ f → Rising m (i + n) → linkFrom m id f i n ≡ 0 → (j : ℕ) → i ≤ j → j < i + n → idAt m j ≡ id → ⊥
+link-none m id zero i n l rise e j a b d = omega arith
+link-none m id (suc f) i zero l rise e j a b d = omega arith
+link-none m id (suc f) i (suc n) l rise e j a b d =
+    let k : ℕ = i + suc n / 2 in
+    bool (eqb (idAt m k) id)
+    (λ q. let z : up (m (index k)) ≡ 0 = rw q at e in omega arith)
+    (λ q. bool (ltb (idAt m k) id)
+    (λ g. let o : k < j = rank-order m (i + suc n) rise k j (omega arith) (omega (arith, ltb-true (idAt m k) id g)) in
+    link-none m id f (k + 1) (suc n - suc n / 2 - 1) (omega arith) (λ x y u v. rise x y u (omega arith)) (rw (q, g) at e) j (omega arith) (omega arith) d)
+    (λ g. let o : j < k = rank-order m (i + suc n) rise j k b (omega (arith, ltb-false (idAt m k) id g, eqb-false (idAt m k) id q)) in
+    link-none m id f i (suc n / 2) (omega arith) (λ x y u v. rise x y u (omega arith)) (rw (q, g) at e) j a (omega arith) d))
 
 row-parts : (x : Row) (i : ℕ) → x .id ≡ i → x ≡ record { id = i; body = x .body }
 row-parts x i e = rw (← e)
 
 module _ (sh : Shape) (m : Mem) (s : State) (r : Represents sh m s) (f : Fits s) where
-  -- THE ROW that the walk finds
+  -- ids rise with rank
+  rising : Rising m (0 + usedOf m sh)
+  rising j k l h =
+      let a = nth-some (s .book .rows) j (omega (arith, used-is sh m s r f)) in
+      let b = nth-some (s .book .rows) k (omega (arith, used-is sh m s r f)) in
+      let u = row-of m (s .book .rows) (r .book .rows) j (a .0) (a .1) .0 in
+      let v = row-of m (s .book .rows) (r .book .rows) k (b .0) (b .1) .0 in
+      omega (arith, u, v, ids-rise 1 (s .book .next) (s .book .rows) j k (a .0) (b .0) (f .rise) (a .1) (b .1) l)
+
+  -- THE ROW that the search finds
   pub row-found : sh .rows ≤ 256 → (i x : ℕ) → rowLink m sh i ≡ suc x → (b : Body) × (find i (s .book .rows) ≡ some b) × RowAt m s x i b
   unfolding rowLink
   row-found few i x e =
       let low : (j : ℕ) → j < 0 + usedOf m sh → m (index j) < sh .rows = λ j h. let p = r .book .places j (omega (arith, r .capacity)) .0 in omega (arith, r .capacity) in
-      let p = link-some m i (sh .rows) few (usedOf m sh) 0 x low e in
+      let p = link-some m i (sh .rows) few (usedOf m sh) 0 (usedOf m sh) x (omega arith) low e in
       let j : ℕ = p .0 in
       let under : j < length (s .book .rows) = omega (arith, p .1, used-is sh m s r f) in
       let q = nth-some (s .book .rows) j under in
@@ -102,4 +134,4 @@ module _ (sh : Shape) (m : Mem) (s : State) (r : Represents sh m s) (f : Fits s)
       go none d = refl
       go (some b) d = let p = nth-find (s .book .rows) i b d in
           let a = row-at sh m s r f (p .0) i b (p .1) in
-          absurd (link-none m i (usedOf m sh) 0 e (p .0) (omega arith) (omega (arith, used-is sh m s r f, nth-below (s .book .rows) (p .0) (record { id = i; body = b }) (p .1))) (a .id))
+          absurd (link-none m i (usedOf m sh) 0 (usedOf m sh) (omega arith) rising e (p .0) (omega arith) (omega (arith, used-is sh m s r f, nth-below (s .book .rows) (p .0) (record { id = i; body = b }) (p .1))) (a .id))

@@ -12,12 +12,11 @@ use Rattle.model.specs.Base.{nth, occurs}
 use Rattle.model.specs.State.{Body, Row}
 use Rattle.model.specs.Book.{find, dropId, swapId}
 use Rattle.model.specs.WellFormed.{IdsRise}
-use Rattle.storage.specs.Order.{bit-same, occurs-head}
+use Rattle.model.specs.Counting.{bit-same}
+use Rattle.model.specs.Tests.{some-same}
+use Rattle.storage.specs.Order.{occurs-head}
 
 module _ {A : Type 0} where
-  pub some-same : (a b : A) → some a ≡ some b → a ≡ b
-  some-same a b e = cc
-
   pub nothing {ℓ} : {C : Type ℓ} (a : A) → none ≡ some a → C
   nothing a e = let z : _≡_ {A = ℕ} 0 1 = cc in absurd (omega arith)
 
@@ -92,6 +91,12 @@ pub ids-at : (lo hi : ℕ) (rs : List Row) (j : ℕ) (r : Row) → IdsRise lo rs
 ids-at lo hi [] j r h e = nothing r e
 ids-at lo hi (q ∷ rs) zero r h e = rw (← some-same q r e) (h .0)
 ids-at lo hi (q ∷ rs) (suc j) r h e = omega (arith, h .0, ids-at (suc (q .id)) hi rs j r (h .1) e)
+
+pub ids-rise : (lo hi : ℕ) (rs : List Row) (j k : ℕ) (r q : Row) → IdsRise lo rs hi → nth rs j ≡ some r → nth rs k ≡ some q → j < k → r .id < q .id
+ids-rise lo hi [] j k r q h d e l = nothing r d
+ids-rise lo hi (x ∷ rs) j zero r q h d e l = absurd (omega arith)
+ids-rise lo hi (x ∷ rs) zero (suc k) r q h d e l = omega (arith, ap (λ (y : Row). y .id) (some-same x r d), ids-at (suc (x .id)) hi rs k q (h .1) e)
+ids-rise lo hi (x ∷ rs) (suc j) (suc k) r q h d e l = ids-rise (suc (x .id)) hi rs j k r q (h .1) d e (omega arith)
 
 -- one id has one place
 pub ids-apart : (lo hi : ℕ) (rs : List Row) (j k : ℕ) (r q : Row) → IdsRise lo rs hi → nth rs j ≡ some r → nth rs k ≡ some q → r .id ≡ q .id → j ≡ k

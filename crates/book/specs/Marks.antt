@@ -11,22 +11,20 @@ use Rattle.model.specs.Base.{bit, nth, occurs}
 use Rattle.model.specs.State.{Handle, Slot, Slot.absent, Slot.vacant, Slot.reserved, Slot.transferReserved, Slot.occupied, Entry, Entry.moved, Entry.copied, Body, Body.reservation, Body.claim, Body.parcel, State}
 use Rattle.model.specs.Book.{movedOf}
 use Rattle.model.specs.WellFormed.{Marks, isReservedBy, isMovingBy}
-use Rattle.model.specs.Tests.{nth-some}
+use Rattle.model.specs.Tests.{nth-some, some-same}
+use Rattle.model.specs.Counting.{bit-same}
 use Rattle.invariant.specs.Marks.{isBy, inRow, Marked, keys-reservation, keys-claim, owns, both-marks}
 use Rattle.layout.specs.declared.Shape.{Shape}
 use Rattle.layout.specs.Layout.{Mem, cell, rank, row, item}
 use Rattle.representation.specs.Represents.{wordIn, frameOf, slotWord, tagged, slotFrom, isMarked, EntryIs, Represents}
-use Rattle.storage.specs.Order.{bit-same, occurs-head}
+use Rattle.representation.specs.Told.{tagOf}
+use Rattle.storage.specs.Order.{occurs-head}
 use Rattle.storage.specs.Reps.{Names}
-use Rattle.book.specs.Lists.{some-same, nothing, nth-below, nth-occurs, nth-once, ids-apart}
+use Rattle.book.specs.Lists.{nothing, nth-below, nth-occurs, nth-once, ids-apart}
 use Rattle.book.specs.Places.{ranked, rank-one, row-of, item-of}
 use Rattle.book.specs.Find.{Fits, RowAt, indexed, at-find}
 
 -- ---- a marked slot by its words: tag 1 is Reserved, 2 TransferReserved, and the id is that of the place it names
-
-abbrev tagOf : Bool → ℕ
-tagOf true = 1
-tagOf false = 2
 
 marked-from : (m : Mem) (fr j : ℕ) → isMarked (slotFrom m fr j) ≡ true
     → (t : Bool) × (wordIn m fr j 0 ≡ tagOf t) × (isBy t (m (row (wordIn m fr j 2) 0)) (slotFrom m fr j) ≡ true)

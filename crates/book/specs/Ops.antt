@@ -2,26 +2,33 @@
 use mathlib.Core.Path.{_≡_, refl, _∙_}
 use mathlib.Core.Bool.{and-false}
 use mathlib.Core.List.{List, [], _∷_}
-use Prim.Native.Nat.{ℕ, zero, suc, _+_, _-_, _≤_, min}
+use Prim.Native.Nat.{ℕ, zero, suc, _+_, _-_, _/_, _≤_, min}
 use native.Mathlib.Omega.{arith}
 use lib.ListN.{length}
-use lib.Dec.{eqb}
+use lib.Dec.{eqb, ltb}
 use Rattle.words.specs.Pick.{pick, bool}
 use Rattle.layout.specs.declared.Shape.{Shape}
 use Rattle.layout.specs.Layout.{Addr.reg, Mem, total, root, index, rank, row, item, load, save, same, same-is, isIn, length-save, load-save-any, Write, Write.at, writes}
 use Rattle.storage.specs.Ops.{up, vacateW}
 
--- the row in use with an id: its place plus 1, 0 if there is none; n ranks from i on
-abbrev pub linkFrom : Mem → ℕ → ℕ → ℕ → ℕ
-linkFrom m id i zero = 0
-linkFrom m id i (suc n) = pick (eqb (m (row (m (index i)) 0)) id) (up (m (index i))) (linkFrom m id (suc i) n)
+-- the id of the row of rank i
+abbrev pub idAt : Mem → ℕ → ℕ
+idAt m i = m (row (m (index i)) 0)
+
+-- the row in use with an id, among n ranks from i on: its place plus 1, 0 if there is none; each look leaves at most half of the ranks. The fuel is at least n
+abbrev pub linkFrom : Mem → ℕ → ℕ → ℕ → ℕ → ℕ
+linkFrom m id zero i n = 0
+linkFrom m id (suc fuel) i zero = 0
+linkFrom m id (suc fuel) i (suc n) =
+    pick (eqb (idAt m (i + suc n / 2)) id) (up (m (index (i + suc n / 2))))
+    (pick (ltb (idAt m (i + suc n / 2)) id) (linkFrom m id fuel (i + suc n / 2 + 1) (suc n - suc n / 2 - 1)) (linkFrom m id fuel i (suc n / 2)))
 
 -- how many rows are in use, at most those that there are
 abbrev pub usedOf : Mem → Shape → ℕ
 usedOf m sh = min (m (root 6)) (sh .rows)
 
 unfoldable pub rowLink : Mem → Shape → ℕ → ℕ
-rowLink m sh id = linkFrom m id 0 (usedOf m sh)
+rowLink m sh id = linkFrom m id (usedOf m sh) 0 (usedOf m sh)
 
 -- the place of the next row: that of the first rank out of use
 abbrev pub spare : Mem → ℕ

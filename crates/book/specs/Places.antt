@@ -11,10 +11,12 @@ use borrow.Author.Tests.{ltb-true, ltb-false}
 use Rattle.words.specs.Pick.{bool}
 use Rattle.model.specs.Base.{nth, occurs}
 use Rattle.model.specs.State.{Handle, Entry, Entry.moved, Entry.copied, Body, Body.reservation, Body.claim, Body.parcel, Row}
+use Rattle.model.specs.Counting.{bit-same, bit-other}
+use Rattle.model.specs.Tests.{some-same}
 use Rattle.layout.specs.Layout.{Mem, index, rank, row, item}
 use Rattle.representation.specs.Represents.{HandleIs, EntryIs, Items, BodyIs, RowsAre}
-use Rattle.storage.specs.Order.{same?, bit-same, bit-other, NoDup, length-below}
-use Rattle.book.specs.Lists.{some-same, nothing}
+use Rattle.storage.specs.Order.{same?, NoDup, length-below}
+use Rattle.book.specs.Lists.{nothing}
 
 -- ---- f gives each number below c one below c, and g takes it back: so every number below c is given
 

@@ -13,7 +13,7 @@ use Rattle.model.specs.Base.{put, nth, occurs}
 use Rattle.model.specs.State.{till, Handle, Slot.occupied, Table, Body, Body.reservation, State, isBusy}
 use Rattle.model.specs.Storage.{keep, vacate, vacateAll}
 use Rattle.model.specs.Change.{withTable}
-use Rattle.model.specs.Tests.{nth-some}
+use Rattle.model.specs.Tests.{nth-some, put-put}
 use Rattle.invariant.specs.Pointwise.{vacateAll-out}
 use Rattle.layout.specs.declared.Shape.{Shape}
 use Rattle.layout.specs.Layout.{Mem, item, load}
@@ -30,14 +30,11 @@ use Rattle.book.specs.Fades.{Fades, fades-none, fades-then, vacate-fades
 put-own : (f : ℕ → Table) (b : ℕ) → put f b (f b) ≡ f
 put-own f b = fun-ext λ c. bool (eqb c b) (λ e. rw (e, eqb-true c b e)) (λ e. rw e)
 
-put-over : (f : ℕ → Table) (b : ℕ) (t u : Table) → put (put f b t) b u ≡ put f b u
-put-over f b t u = fun-ext λ c. bool (eqb c b) (λ e. rw e) (λ e. rw e)
-
 pub with-own : (s : State) (b : ℕ) → withTable s b (s .tables b) ≡ s
 with-own s b = ap (λ (f : ℕ → Table). record { tableCount = s .tableCount; tables = f; objectCount = s .objectCount; objects = s .objects; frameCount = s .frameCount; frames = s .frames; book = s .book }) (put-own (s .tables) b)
 
 pub with-over : (s : State) (b : ℕ) (t u : Table) → withTable (withTable s b t) b u ≡ withTable s b u
-with-over s b t u = ap (λ (f : ℕ → Table). record { tableCount = s .tableCount; tables = f; objectCount = s .objectCount; objects = s .objects; frameCount = s .frameCount; frames = s .frames; book = s .book }) (put-over (s .tables) b t u)
+with-over s b t u = ap (λ (f : ℕ → Table). record { tableCount = s .tableCount; tables = f; objectCount = s .objectCount; objects = s .objects; frameCount = s .frameCount; frames = s .frames; book = s .book }) (put-put (s .tables) b u t)
 
 pub with-table-at : (s : State) (b : ℕ) (t : Table) → withTable s b t .tables b ≡ t
 with-table-at s b t = rw (eq-eqb b b refl)

@@ -6,19 +6,41 @@ ghost use Rattle.layout.specs.Layout.{load as loadAt};
 ghost use Rattle.book.specs.Ops.{rowLink, spare, openW, handleW, shiftW, closeW, shrinkW, vacateItemsW, spendW};
 use layout::Shape;
 
-// The place of the row in use with an id, plus 1; 0 if there is none.
+// Word 1 of a row.
+pub const RESERVATION: u64 = 1;
+
+pub const CLAIM: u64 = 2;
+
+pub const PARCEL: u64 = 3;
+
+// The id that is never given out.
+pub const LAST_ID: u64 = 0xffff_ffff_ffff_ffff;
+
+// Word 0 of an item of a claim's row: "operations: 0 Move, 1 Copy".
+pub const MOVE: u64 = 0;
+
+pub const COPY: u64 = 1;
+
+// The place of the row in use with an id, plus 1; 0 if there is none. Ids rise with rank, so that each look leaves half of the ranks.
 pub fn row_of(s: &[u64], sh: Shape, id: u64) -> u64
     ensures { λ r. ⌜ r ≡ rowLink (loadAt (now (s .entry)) sh) sh id ⌝ }
 {
     let rows = sh.rows as u64;
-    let n = words::smaller(layout::root_word(s, sh, 6), rows);
+    let mut n = words::smaller(layout::root_word(s, sh, 6), rows);
     let mut i: u64 = 0;
-    while i < n {
-        let x = layout::index_word(s, sh, i);
-        if words::eq(layout::row_word(s, sh, x, 0), id) {
+    while 0 < n {
+        let half = n / 2;
+        let x = layout::index_word(s, sh, i + half);
+        let w = layout::row_word(s, sh, x, 0);
+        if words::eq(w, id) {
             return words::inc(x);
         }
-        i += 1;
+        if words::lt(w, id) {
+            i = i + half + 1;
+            n = n - half - 1;
+            continue;
+        }
+        n = half;
     }
     0
 }

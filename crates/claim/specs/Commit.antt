@@ -20,14 +20,13 @@ use Rattle.invariant.specs.Pointwise.{vacateAll-slots}
 use Rattle.layout.specs.declared.Shape.{Shape}
 use Rattle.layout.specs.Layout.{total, row, item, in-row, load, save, load-save}
 use Rattle.representation.specs.Represents.{BodyIs, isMarked, Rep}
-use Rattle.storage.specs.Reps.{Held}
+use Rattle.storage.specs.Reps.{Held, held-of}
 use Rattle.book.specs.Ops.{Fills, fills-then, fills-row}
 use Rattle.book.specs.Find.{fits-of, RowAt}
 use Rattle.book.specs.Marks.{Unnamed}
 use Rattle.book.specs.Swap.{swap-held}
 use Rattle.book.specs.Vacated.{with-table-at as table-at}
 use Rattle.answer.specs.Does.{Does, does-refused, does-accepted}
-use Rattle.reserve.specs.Ends.{held-of}
 use Rattle.parcel.specs.Keeps.{Keeps, handles-same}
 use Rattle.claim.specs.Ops.{claimLink, leftW, sentW, committedW, commitR}
 use Rattle.claim.specs.Found.{Claimed, claim-none, claim-some, own, range, freed}

@@ -27,6 +27,7 @@ use Rattle.invariant.specs.Marks.{Owns, not-both}
 use Rattle.invariant.specs.Pages.{till-sane}
 use Rattle.invariant.specs.Pointwise.{vacateAll-out, fillAll-slots}
 use Rattle.invariant.specs.StorageDecisions.{reservation-owns}
+use Rattle.invariant.specs.RowsClosed.{two-rows}
 use Rattle.layout.specs.declared.Shape.{Shape}
 use Rattle.layout.specs.Layout.{load}
 use Rattle.representation.specs.Represents.{isMarked, Rep}
@@ -42,12 +43,13 @@ use Rattle.answer.specs.Does.{Both, Does, does-refused, does-accepted}
 use Rattle.reserve.specs.Found.{Open}
 use Rattle.reserve.specs.Ends.{abort-does}
 use Rattle.parcel.specs.Keeps.{Keeps, keeps-then}
+use Rattle.parcel.specs.Published.{bare-given}
 use Rattle.claim.specs.Ops.{rolledW, leftW, filledW, directW, directCommitR, directRollbackR}
 use Rattle.claim.specs.Found.{Claimed, own}
-use Rattle.claim.specs.Entries.{Busy, undone, filled-keeps, bare-given}
+use Rattle.claim.specs.Entries.{Busy, undone, filled-keeps}
 use Rattle.claim.specs.Rollback.{rolled-held, rolls}
 use Rattle.claim.specs.Commit.{left, left-kept, left-free}
-use Rattle.claim.specs.Pairs.{Pair, on-pair, two-rows, pairs}
+use Rattle.claim.specs.Pairs.{Pair, on-pair, pairs}
 
 module _ (ws : List ℕ) (sh : Shape) (s : State) (r : Rep ws sh s) where
   f : Fits s

@@ -1,28 +1,27 @@
 -- The entries of a claim, one by one: undone, their slots vacated, or put into a reservation's slots. What each leaves is the model's state,
 -- and every row stays where it is. Assumes nothing.
 use mathlib.Core.Path.{_≡_, refl, ap, _∙_}
-use mathlib.Core.Bool.{true, false}
+use mathlib.Core.Bool.{true}
 use mathlib.Core.List.{List, [], _∷_, map}
-use Prim.Native.Nat.{ℕ, suc, _+_, _≤_, _<_}
+use Prim.Native.Nat.{ℕ, suc, _≤_, _<_}
 use native.Mathlib.Omega.{arith}
 use lib.ListN.{length}
-use lib.Dec.{eqb}
 use borrow.Author.Tests.{ne-eqb}
-use Rattle.words.specs.Pick.{bool}
 use Rattle.model.specs.Base.{occurs}
-use Rattle.model.specs.State.{till, Handle, Slot, Slot.occupied, Table, Entry, Entry.moved, Entry.copied, State, isBusy}
+use Rattle.model.specs.State.{till, Handle, Slot.occupied, Table, Entry, Entry.moved, Entry.copied, State, isBusy}
 use Rattle.model.specs.Storage.{keep, vacate, vacateAll}
 use Rattle.model.specs.Change.{withTable, withObjects}
 use Rattle.model.specs.Objects.{lower, change, release}
 use Rattle.model.specs.Book.{movedOf, copiesOf, sentOf}
 use Rattle.model.specs.Step.{fillAll, restoreAll}
-use Rattle.invariant.specs.Pointwise.{given, filled, vacateAll-out}
+use Rattle.model.specs.Counting.{bit-same}
+use Rattle.invariant.specs.Pointwise.{vacateAll-out}
 use Rattle.invariant.specs.StorageState.{InRange}
 use Rattle.invariant.specs.StorageViews.{fillAll-busy}
 use Rattle.layout.specs.declared.Shape.{Shape}
 use Rattle.layout.specs.Layout.{Mem, item, load}
-use Rattle.representation.specs.Represents.{EntryIs, Items, isMarked}
-use Rattle.storage.specs.Order.{occurs-head, bit-same}
+use Rattle.representation.specs.Represents.{EntryIs, Items}
+use Rattle.storage.specs.Order.{occurs-head}
 use Rattle.storage.specs.Ops.{vacateW, occupyW}
 use Rattle.storage.specs.Turns.{vacate-turns}
 use Rattle.storage.specs.Whole.{off-table}
@@ -179,10 +178,3 @@ module _ (sh : Shape) (c y x : ℕ) where
       (rw (table-at s c u, table-twice s c u (fillAll till ks (map sentOf es) u)) at rest))
 
 -- ---- slots that hold a handle, or are vacant, are marked no longer
-
-pub bare-given : (ks : List ℕ) (hs : List Handle) (k : ℕ) (x : Slot) → length hs ≡ length ks → 0 < occurs k ks → isMarked (filled (given ks hs k) x) ≡ false
-bare-given [] hs k x l o = absurd (omega arith)
-bare-given (j ∷ ks) [] k x l o = absurd (omega arith)
-bare-given (j ∷ ks) (h ∷ hs) k x l o = bool (eqb k j)
-    (λ e. rw e)
-    (λ e. let o′ : 0 < 0 + occurs k ks = rw e at o in rw e (bare-given ks hs k x (omega arith) (omega arith)))

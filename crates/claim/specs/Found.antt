@@ -20,9 +20,10 @@ use Rattle.layout.specs.declared.Shape.{Shape}
 use Rattle.layout.specs.Layout.{Mem, row, load}
 use Rattle.representation.specs.Represents.{BodyIs, isMarked, Rep}
 use Rattle.book.specs.Ops.{rowLink}
-use Rattle.book.specs.Find.{fits-of, RowAt, row-found, row-none}
+use Rattle.book.specs.Find.{fits-of, RowAt, row-none}
 use Rattle.book.specs.Marks.{Moves, moved-occurs, Unnamed, unnamed, named-claim}
 use Rattle.book.specs.Fades.{Fades, named-fades}
+use Rattle.reserve.specs.Found.{by-row}
 use Rattle.claim.specs.Ops.{claimLink}
 
 -- word 1 of a row tells a claim
@@ -42,9 +43,6 @@ pub record Claimed (m : Mem) (s : State) (x i b : ℕ) (es : List Entry) : Type 
   pub row : RowAt m s x i (claim b es)
 
 module _ (ws : List ℕ) (sh : Shape) (s : State) (r : Rep ws sh s) (i : ℕ) where
-  by-row : (x : ℕ) → rowLink (load ws sh) sh i ≡ suc x → (y : Body) × (find i (s .book .rows) ≡ some y) × RowAt (load ws sh) s x i y
-  by-row x e = row-found sh (load ws sh) s (r .reps .memory) (fits-of s (r .wellFormed)) (r .reps .shaped .limits .few-rows) i x e
-
   -- "unknown .. open row of the kind named": 18
   pub claim-none : claimLink (load ws sh) sh i ≡ 0 → (f : ℕ → List Entry → Decision) → onClaim s i f ≡ refusal 18
   unfolding claimLink
@@ -53,7 +51,7 @@ module _ (ws : List ℕ) (sh : Shape) (s : State) (r : Rep ws sh s) (i : ℕ) wh
       go : (l : ℕ) → rowLink (load ws sh) sh i ≡ l → claimLink (load ws sh) sh i ≡ 0 → onClaim s i f ≡ refusal 18
       go zero q d = ap (λ (o : Option Body). asClaim o f) (row-none sh (load ws sh) s (r .reps .memory) (fits-of s (r .wellFormed)) i q)
       go (suc x) q d =
-          let p = by-row x q in
+          let p = by-row ws sh s r i x q in
           let z : rowLink (load ws sh) sh i - 1 ≡ x = omega arith in
           ap (λ (o : Option Body). asClaim o f) (p .1) ∙ no-claim (load ws sh) x (p .0) (p .2 .body) (λ k.
           let g : rowLink (load ws sh) sh i ≡ 0 = rw (z, k) at d in omega arith) f
@@ -66,7 +64,7 @@ module _ (ws : List ℕ) (sh : Shape) (s : State) (r : Rep ws sh s) (i : ℕ) wh
   unfolding claimLink
   claim-some x e = bool (eqb (load ws sh (row (rowLink (load ws sh) sh i - 1) 1)) 2)
       (λ q. let l : rowLink (load ws sh) sh i ≡ suc x = rw q at e in
-      let p = by-row x l in
+      let p = by-row ws sh s r i x l in
       let z : rowLink (load ws sh) sh i - 1 ≡ x = omega arith in
       let k : load ws sh (row x 1) ≡ 2 = ap (λ (v : ℕ). load ws sh (row v 1)) (sym z) ∙ eqb-true (load ws sh (row (rowLink (load ws sh) sh i - 1) 1)) 2 q in
       let g = a-claim (load ws sh) x (p .0) (p .2 .body) k in

@@ -1,18 +1,15 @@
 -- A claim and a reservation of one length, named by two ids. Assumes nothing.
-use mathlib.Core.Path.{_≡_, refl, ap, _∙_}
+use mathlib.Core.Path.{_≡_, refl, _∙_}
 use mathlib.Core.Bool.{Bool, true, false}
 use mathlib.Core.Logic.{_⊎_, inl, inr}
 use mathlib.Core.List.{List}
-use mathlib.Core.Option.{some}
 use Prim.Native.Nat.{ℕ, zero, suc, _-_}
 use native.Mathlib.Omega.{arith}
 use lib.ListN.{length}
 use lib.Dec.{eqb}
 use borrow.Author.Tests.{eqb-true, eq-eqb, ne-eqb}
 use Rattle.words.specs.Pick.{bool}
-use Rattle.model.specs.State.{Entry, Body.reservation, Body.claim, Row, State}
-use Rattle.model.specs.Book.{find}
-use Rattle.model.specs.Tests.{apart}
+use Rattle.model.specs.State.{Entry, State}
 use Rattle.model.specs.Decision.{Decision, Decision.refusal, unless_refuse_then_, onClaim, onReservation}
 use Rattle.layout.specs.declared.Shape.{Shape}
 use Rattle.layout.specs.Layout.{Mem, row, load}
@@ -43,10 +40,6 @@ pub record Pair (m : Mem) (sh : Shape) (s : State) (i j : ℕ) : Type 0 where
 -- the pair decides
 pub on-pair : (m : Mem) (sh : Shape) (s : State) (i j : ℕ) (p : Pair m sh s i j) (f : ℕ → List Entry → ℕ → List ℕ → Decision) → onPair s i j f ≡ f (p .b) (p .es) (p .c) (p .ks)
 on-pair m sh s i j p f = rw (p .from .found, p .to .found, p .long, eq-eqb (length (p .ks)) (length (p .ks)) refl)
-
--- they are two rows
-pub two-rows : (i j b c : ℕ) (es : List Entry) (ks : List ℕ) (rs : List Row) → find i rs ≡ some (claim b es) → find j rs ≡ some (reservation c ks) → j ≡ i → ⊥
-two-rows i j b c es ks rs e f z = let e′ : find j rs ≡ some (claim b es) = ap (λ (t : ℕ). find t rs) z ∙ e in apart (cc)
 
 module _ (m : Mem) (l k : ℕ) where
   none-first : l ≡ 0 → paired m l k ≡ false

@@ -19,16 +19,16 @@ use Rattle.invariant.specs.StorageState.{copies-range}
 use Rattle.layout.specs.declared.Shape.{Shape}
 use Rattle.layout.specs.Layout.{load}
 use Rattle.representation.specs.Represents.{isMarked, Rep}
-use Rattle.storage.specs.Reps.{Held}
+use Rattle.storage.specs.Reps.{Held, held-of}
 use Rattle.book.specs.Find.{fits-of}
 use Rattle.book.specs.Close.{close-held}
 use Rattle.book.specs.Vacated.{with-table-at as table-at}
 use Rattle.answer.specs.Does.{Does, does-refused, does-accepted}
-use Rattle.reserve.specs.Ends.{held-of}
 use Rattle.parcel.specs.Keeps.{Keeps}
+use Rattle.parcel.specs.Published.{bare-given}
 use Rattle.claim.specs.Ops.{claimLink, undoneW, rolledW, rollbackR}
 use Rattle.claim.specs.Found.{Claimed, claim-none, claim-some, own, range, freed}
-use Rattle.claim.specs.Entries.{undone, undone-keeps, bare-given}
+use Rattle.claim.specs.Entries.{undone, undone-keeps}
 
 module _ (ws : List ℕ) (sh : Shape) (s : State) (r : Rep ws sh s) where
   module _ (x i b : ℕ) (es : List Entry) (o : Claimed (load ws sh) s x i b es) where

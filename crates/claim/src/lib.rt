@@ -11,18 +11,12 @@ ghost use Rattle.claim.specs.Ops.{paired, filledW, directW, directCommit
 use codec::ReservationId;
 use layout::Shape;
 
-// Word 1 of a claim's row.
-pub const CLAIM: u64 = 2;
-
-// Word 0 of an entry that moves its handle: "operations: 0 Move, 1 Copy".
-pub const MOVE: u64 = 0;
-
 // The place of the open claim with an id, plus 1; 0 if there is none.
 pub fn claim_of(s: &[u64], sh: Shape, id: ReservationId) -> u64
     ensures { λ r. ⌜ r ≡ claimLink (loadAt (now (s .entry)) sh) sh (id .0) ⌝ }
 {
     let link = book::row_of(s, sh, id.0);
-    if words::eq(layout::row_word(s, sh, words::dec(link), 1), CLAIM) {
+    if words::eq(layout::row_word(s, sh, words::dec(link), 1), book::CLAIM) {
         return link;
     }
     0
@@ -34,7 +28,7 @@ fn undo_entry(s: &mut [u64], sh: Shape, b: u64, x: u64, j: u64)
     ensures words { λ _. ⌜ now (s .exit) ≡ undoW (now (s .entry)) sh b x j ⌝ }
 {
     let o = layout::item_word(s, sh, x, j, 2);
-    if words::eq(layout::item_word(s, sh, x, j, 0), MOVE) {
+    if words::eq(layout::item_word(s, sh, x, j, 0), book::MOVE) {
         let k = layout::item_word(s, sh, x, j, 1);
         let r = layout::item_word(s, sh, x, j, 3);
         let f = layout::item_word(s, sh, x, j, 4);
@@ -82,7 +76,7 @@ pub fn rollback(s: &mut [u64], sh: Shape, id: ReservationId, out: &mut [u64], ba
 fn sent_rights(s: &[u64], sh: Shape, x: u64, j: u64) -> u64
     ensures { λ r. ⌜ r ≡ sentRights (loadAt (now (s .entry)) sh) x j ⌝ }
 {
-    if words::eq(layout::item_word(s, sh, x, j, 0), MOVE) {
+    if words::eq(layout::item_word(s, sh, x, j, 0), book::MOVE) {
         return layout::item_word(s, sh, x, j, 5);
     }
     layout::item_word(s, sh, x, j, 3)
@@ -92,7 +86,7 @@ fn sent_rights(s: &[u64], sh: Shape, x: u64, j: u64) -> u64
 fn leave_entry(s: &mut [u64], sh: Shape, b: u64, x: u64, j: u64)
     ensures words { λ _. ⌜ now (s .exit) ≡ leaveW (now (s .entry)) sh b x j ⌝ }
 {
-    if words::eq(layout::item_word(s, sh, x, j, 0), MOVE) {
+    if words::eq(layout::item_word(s, sh, x, j, 0), book::MOVE) {
         let k = layout::item_word(s, sh, x, j, 1);
         storage::vacate(s, sh, b, k);
     }
@@ -129,7 +123,7 @@ fn commit_row(s: &mut [u64], sh: Shape, x: u64)
     let n = layout::row_word(s, sh, x, 3);
     leave_entries(s, sh, b, x, n);
     send_entries(s, sh, x, n);
-    layout::put_row(s, sh, x, 1, parcel::PARCEL);
+    layout::put_row(s, sh, x, 1, book::PARCEL);
 }
 
 // "Commit turns a claim's row into a parcel of the same id."

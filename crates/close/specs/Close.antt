@@ -15,8 +15,7 @@ use Rattle.layout.specs.declared.Shape.{Shape}
 use Rattle.layout.specs.Layout.{load}
 use Rattle.representation.specs.Represents.{Rep}
 use Rattle.storage.specs.Ops.{vacateW}
-use Rattle.storage.specs.Whole.{placed-of}
-use Rattle.storage.specs.Reps.{Held, vacate-held}
+use Rattle.storage.specs.Reps.{Held, vacate-held, held-of}
 use Rattle.object.specs.Words.{lowerW}
 use Rattle.object.specs.Reps.{lower-held}
 use Rattle.answer.specs.Does.{Both, both, answered, refuseR, Does, does-refused, does-accepted}
@@ -36,15 +35,12 @@ unfoldable pub closeR : List ℕ → List ℕ → Shape → ℕ → ℕ → ℕ 
 closeR ws os sh base b v = onOpened (openOf (load ws sh) sh b v) (λ n. refuseR ws os base n) (λ h. closedR ws os sh base b h)
 
 module _ (ws : List ℕ) (sh : Shape) (s : State) (i : Rep ws sh s) (b v : ℕ) where
-  held : Held ws sh s
-  held = record { reps = i .reps; placed = placed-of s (i .wellFormed) }
-
   closed-held : (h : PreparedHandle) → Opens s b v h
       → Held (lowerW (vacateW ws sh b (h .slot)) sh (h .object)) sh (release (withTable s b (vacate till (s .tables b) (h .slot))) (handleOf h ∷ []))
   closed-held h o =
       let was : isBusy (s .tables b .slots (h .slot)) ≡ true = ap isBusy (o .slot) in
       lower-held (vacateW ws sh b (h .slot)) sh (withTable s b (vacate till (s .tables b) (h .slot)))
-      (vacate-held ws sh s held b (o .table .known) (h .slot) was) (h .object) (opened-known ws sh s i b v h o)
+      (vacate-held ws sh s (held-of ws sh s i) b (o .table .known) (h .slot) was) (h .object) (opened-known ws sh s i b v h o)
 
   -- CLOSE is the model's step
   pub close-does : (os : List ℕ) (base : ℕ) → Does ws os sh base s (close b v) (closeR ws os sh base b v)

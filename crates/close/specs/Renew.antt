@@ -14,7 +14,7 @@ use Rattle.model.specs.State.{till, Handle, Slot, Slot.occupied, Table, State, 
 use Rattle.model.specs.Storage.{busyOf, place}
 use Rattle.model.specs.Change.{withTable}
 use Rattle.model.specs.Objects.{withRights}
-use Rattle.model.specs.Tests.{and-false}
+use Rattle.model.specs.Tests.{and-false, put-same, put-other}
 use Rattle.invariant.specs.Pointwise.{place-alike, place-slots}
 use Rattle.invariant.specs.Pages.{till-sane, busy-there, busy-vacant, busy-other}
 use Rattle.invariant.specs.Orders.{Sound, attached-below, attached-of, place-busy}
@@ -174,14 +174,8 @@ renew-held ws sh s h b l k g₀ x was g r good =
     let y : Slot = occupied g (withRights x r) in
     turned ws (renewW ws sh b k g r) sh s h b l k _ (place till t k y) (renew-turns ws sh b t (ready-of ws sh s h b l) k g₀ x was g r) (place-alike till t k y)
     (renew-sound t k y (h .placed .sound b l) (ap isBusy was) refl good)
-    (λ i n. ap (λ (f : ℕ → Slot). f i) (place-slots till t k y) ∙ put-off (t .slots) k y i n)
-    (λ e. clash (sym (ap isMarked (ap (λ (f : ℕ → Slot). f k) (place-slots till t k y) ∙ put-on (t .slots) k y)) ∙ e) refl)
-  where
-    put-off : (f : ℕ → Slot) (k : ℕ) (x : Slot) (j : ℕ) → (j ≡ k → ⊥) → put f k x j ≡ f j
-    put-off f k x j n = rw (ne-eqb j k n)
-
-    put-on : (f : ℕ → Slot) (k : ℕ) (x : Slot) → put f k x k ≡ x
-    put-on f k x = rw (eq-eqb k k refl)
+    (λ i n. ap (λ (f : ℕ → Slot). f i) (place-slots till t k y) ∙ put-other (t .slots) k y i n)
+    (λ e. clash (sym (ap isMarked (ap (λ (f : ℕ → Slot). f k) (place-slots till t k y) ∙ put-same (t .slots) k y)) ∙ e) refl)
 
 -- ---- what the code says
 

@@ -2,21 +2,24 @@
 use mathlib.Core.Path.{_≡_, refl, sym, ap, _∙_}
 use mathlib.Core.Bool.{Bool, true, false}
 use mathlib.Core.List.{List, [], _∷_}
-use Prim.Native.Nat.{ℕ, _+_, _-_, _*_, min, _≤_, _<_}
+use Prim.Native.Nat.{ℕ, suc, _+_, _-_, _*_, _/_, _%_, min, _≤_, _<_}
 use native.Mathlib.Omega.{arith}
-use lib.ListN.{set}
 use lib.Dec.{eqb, ltb}
 use borrow.Author.Tests.{lt-ltb, le-ltb}
-use Rattle.words.specs.Pick.{yes-is, no-is}
+use Rattle.words.specs.Pick.{pick, bool, yes-is, no-is}
 use Rattle.codec.specs.declared.Decoded.{Decoded}
 use Rattle.codec.specs.declared.Decoded.the-variants.{At, Invalid as NoSlot}
 use Rattle.authority.specs.Rights.{contains}
 use Rattle.codec.specs.declared.HandleValue.{HandleValue}
 use Rattle.codec.specs.Codec.{decodeOf, encode}
 use Rattle.model.specs.State.{maxSlots}
+use Rattle.model.specs.Tests.{apart}
 use Rattle.layout.specs.declared.Shape.{Shape}
-use Rattle.layout.specs.Layout.{Mem, head, object, load}
-use Rattle.representation.specs.Represents.{slotWord}
+use Rattle.layout.specs.declared.CellWords.{CellWords}
+use Rattle.layout.specs.Layout.{Mem, head, entry, cell, object, load}
+use Rattle.layout.specs.Cells.{cellAt}
+use Rattle.representation.specs.Represents.{wordIn, frameOf, slotWord}
+use Rattle.storage.specs.Cells.{cellIn, slotAt, cell-some}
 use Rattle.lookup.specs.declared.PreparedHandle.{PreparedHandle}
 use Rattle.lookup.specs.declared.View.{View}
 use Rattle.lookup.specs.declared.View.the-variants.{Invalid, Busy, Holds}
@@ -24,51 +27,95 @@ use Rattle.lookup.specs.declared.Opened.{Opened}
 use Rattle.lookup.specs.declared.Opened.the-variants.{Refused, Handle as Found}
 use Rattle.lookup.specs.declared.HandleInfo.{HandleInfo}
 use Rattle.answer.specs.Does.{Both, both, answered, refuseR}
-use Rattle.lookup.specs.View.{handleAt, slotView, decodedView, viewOf, tableRefusal, viewOpened, openOf}
+use Rattle.lookup.specs.View.{handleBy, handleAt, slotRefusal, slotView, decodedView, viewOf, tableRefusal, viewOpened, openOf}
 use Rattle.lookup.specs.Read.{onOpened, infoAt, infoList, getInfoR, resolvedR, resolveR}
 use Rattle.lookup.specs.declared.SnapshotEntry.{SnapshotEntry}
 use Rattle.lookup.specs.declared.NextCursor.{NextCursor}
 use Rattle.lookup.specs.declared.NextCursor.the-variants.{At as NextAt, End}
 use Rattle.lookup.specs.declared.SnapshotPage.{SnapshotPage}
-use Rattle.lookup.specs.Scan.{lengthAt, entryOf, addedOf, steppedOf, nextAt, endedOf}
+use Rattle.lookup.specs.Scan.{lengthAt, entryBy, entryOf, FrameFor, nextAt, endedOf}
 
--- `view_slot`
-module _ (m : Mem) (b k g found tag : ℕ) (e₁ : found ≡ slotWord m b k 1) (e₂ : tag ≡ slotWord m b k 0) (t₁ : Bool) (q₁ : t₁ ≡ eqb g found) where
-  same-generation : eqb g (slotWord m b k 1) ≡ t₁
-  same-generation = sym (q₁ ∙ ap (eqb g) e₁)
+-- `slot_frame`
+module _ (m : Mem) (b k : ℕ) where
+  pub frame-far : 16777215 ≤ k → 0 ≡ frameOf m b k
+  unfolding maxSlots
+  frame-far h = rw (le-ltb k 16777215 h)
 
-  pub view-other : t₁ ≡ false → Invalid ≡ slotView m b k g
+  module _ (h : k < 16777215) (n : ℕ) (q : n ≡ m (head b 5)) where
+    pub frame-past : n ≤ k / 64 → 0 ≡ frameOf m b k
+    unfolding maxSlots
+    frame-past l = rw (lt-ltb k 16777215 h, le-ltb (k / 64) (m (head b 5)) (omega arith))
+
+    pub frame-read : (e r : ℕ) → k / 64 < n → e ≡ m (head b 10) → r ≡ m (entry (e + k / 64) 0) → r ≡ frameOf m b k
+    unfolding maxSlots
+    frame-read e r l d i = rw (lt-ltb k 16777215 h, lt-ltb (k / 64) (m (head b 5)) (omega arith)) (i ∙ ap (λ (x : ℕ). m (entry (x + k / 64) 0)) d)
+
+-- `slot_words`
+pub words-by : (m : Mem) (fr j x : ℕ) (w : CellWords) → 0 < fr → x ≡ fr - 1 → w ≡ cellAt m x j → w ≡ cellIn m fr j
+words-by m fr j x w h e i = cell-some m fr j w h (i ∙ ap (λ (y : ℕ). cellAt m y j) e)
+
+-- `tag_in`
+pub tag-by : (m : Mem) (fr j t : ℕ) → 0 < fr → t ≡ m (cell (fr - 1) j 0) → t ≡ wordIn m fr j 0
+tag-by m fr j t h e = let z : suc (fr - 1) ≡ fr = omega arith in e ∙ ap (λ (x : ℕ). wordIn m x j 0) z
+
+-- the frame's slot is the table's
+pub words-of : (m : Mem) (b k fr : ℕ) (w : CellWords) → fr ≡ frameOf m b k → w ≡ cellIn m fr (k % 64) → w ≡ slotAt m b k
+words-of m b k fr w e i = i ∙ ap (λ (x : ℕ). cellIn m x (k % 64)) e
+
+-- `open_slot`
+module _ (m : Mem) (b k g : ℕ) (w : CellWords) (n : ℕ) (e : w ≡ slotAt m b k) (d : n ≡ slotRefusal g w) where
+  number : n ≡ slotRefusal g (slotAt m b k)
+  number = d ∙ ap (slotRefusal g) e
+
+  open-by : viewOpened (slotView m b k g) ≡ pick (eqb (slotRefusal g (slotAt m b k)) 0) (Found (handleAt m b k)) (Refused (slotRefusal g (slotAt m b k)))
   unfolding slotView
-  view-other n = no-is _ _ _ _ (same-generation ∙ n) refl
+  open-by = bool (eqb g (slotWord m b k 1))
+      (λ p. bool (eqb (slotWord m b k 0) 3) (λ q. rw (p, q)) (λ q. bool (eqb (slotWord m b k 0) 2) (λ r. rw (p, q, r)) (λ r. rw (p, q, r))))
+      (λ p. rw p)
 
-  module _ (y : t₁ ≡ true) (t₂ : Bool) (q₂ : t₂ ≡ eqb tag 3) where
-    pub view-holds : (h : PreparedHandle) → t₂ ≡ true → h ≡ handleAt m b k → Holds h ≡ slotView m b k g
-    unfolding slotView
-    view-holds h z p = yes-is _ _ _ _ (same-generation ∙ y) (yes-is _ _ _ _ (ap (λ (x : ℕ). eqb x 3) (sym e₂) ∙ sym q₂ ∙ z) (ap Holds p))
+  module _ (t : Bool) (q : t ≡ eqb n 0) where
+    none : eqb (slotRefusal g (slotAt m b k)) 0 ≡ t
+    none = sym (q ∙ ap (λ (x : ℕ). eqb x 0) number)
 
-    module _ (n : t₂ ≡ false) (t₃ : Bool) (q₃ : t₃ ≡ eqb tag 2) where
-      pub view-busy : t₃ ≡ true → Busy ≡ slotView m b k g
-      unfolding slotView
-      view-busy z = yes-is _ _ _ _ (same-generation ∙ y)
-          (no-is _ _ _ _ (ap (λ (x : ℕ). eqb x 3) (sym e₂) ∙ sym q₂ ∙ n) (yes-is _ _ _ _ (ap (λ (x : ℕ). eqb x 2) (sym e₂) ∙ sym q₃ ∙ z) refl))
+    held : (h : PreparedHandle) → h ≡ handleBy k w → h ≡ handleAt m b k
+    held h i = i ∙ ap (handleBy k) e
 
-      pub view-vacant : t₃ ≡ false → Invalid ≡ slotView m b k g
-      unfolding slotView
-      view-vacant z = yes-is _ _ _ _ (same-generation ∙ y)
-          (no-is _ _ _ _ (ap (λ (x : ℕ). eqb x 3) (sym e₂) ∙ sym q₂ ∙ n) (no-is _ _ _ _ (ap (λ (x : ℕ). eqb x 2) (sym e₂) ∙ sym q₃ ∙ z) refl))
+    pub open-holds : (h : PreparedHandle) → t ≡ true → h ≡ handleBy k w → Found h ≡ viewOpened (slotView m b k g)
+    open-holds h y i = yes-is _ _ _ _ (none ∙ y) (ap Found (held h i)) ∙ sym open-by
 
--- `find_handle`
+    pub open-not : t ≡ false → Refused n ≡ viewOpened (slotView m b k g)
+    open-not z = no-is _ _ _ _ (none ∙ z) (ap Refused number) ∙ sym open-by
+
+-- `open_value`
 module _ (m : Mem) (b v mask : ℕ) (d : Decoded) (e : mask ≡ m (head b 1)) (q : d ≡ decodeOf mask v) where
   decoded : decodeOf (m (head b 1)) v ≡ d
   decoded = sym (q ∙ ap (λ (x : ℕ). decodeOf x v) e)
 
-  pub find-at : (k g : ℕ) (r : View) → d ≡ At k g → r ≡ slotView m b k g → r ≡ viewOf m b v
+  pub view-at : (k g : ℕ) → d ≡ At k g → slotView m b k g ≡ viewOf m b v
   unfolding viewOf
-  find-at k g r p i = i ∙ sym (ap (decodedView m b) (decoded ∙ p))
+  view-at k g p = sym (ap (decodedView m b) (decoded ∙ p))
 
-  pub find-none : d ≡ NoSlot → Invalid ≡ viewOf m b v
+  pub view-at-none : d ≡ NoSlot → Invalid ≡ viewOf m b v
   unfolding viewOf
-  find-none p = sym (ap (decodedView m b) (decoded ∙ p))
+  view-at-none p = sym (ap (decodedView m b) (decoded ∙ p))
+
+-- `find_handle`: v is the view of which x is the opening
+pub view-found : (v : View) (x : Opened) (h : PreparedHandle) → x ≡ viewOpened v → x ≡ Found h → Holds h ≡ v
+view-found Invalid x h e p = apart (cc)
+view-found Busy x h e p = apart (cc)
+view-found (Holds y) x h e p = let z : h ≡ y = cc in ap Holds z
+
+view-refused : (v : View) (x : Opened) (n : ℕ) → x ≡ viewOpened v → x ≡ Refused n → pick (eqb n 3) Busy Invalid ≡ v
+view-refused Invalid x n e p = let z : n ≡ 2 = cc in rw z refl
+view-refused Busy x n e p = let z : n ≡ 3 = cc in rw z refl
+view-refused (Holds y) x n e p = apart (cc)
+
+module _ (v : View) (x : Opened) (n : ℕ) (e : x ≡ viewOpened v) (p : x ≡ Refused n) (t : Bool) (q : t ≡ eqb n 3) where
+  pub view-busy : t ≡ true → Busy ≡ v
+  view-busy y = yes-is _ _ _ _ (sym q ∙ y) refl ∙ view-refused v x n e p
+
+  pub view-none : t ≡ false → Invalid ≡ v
+  view-none y = no-is _ _ _ _ (sym q ∙ y) refl ∙ view-refused v x n e p
 
 -- `table_refusal`
 module _ (m : Mem) (sh : Shape) (b : ℕ) (t : Bool) (e : t ≡ ltb b (sh .tables)) where
@@ -94,12 +141,9 @@ module _ (m : Mem) (sh : Shape) (b v n : ℕ) (e : n ≡ tableRefusal m sh b) (t
   unfolding openOf
   open-refused z = no-is _ _ _ _ (tested ∙ z) (ap Refused e)
 
-  pub open-view : (x : View) (r : Opened) → t ≡ true → x ≡ viewOf m b v → r ≡ viewOpened x → r ≡ openOf m sh b v
+  pub open-view : (r : Opened) → t ≡ true → r ≡ viewOpened (viewOf m b v) → r ≡ openOf m sh b v
   unfolding openOf
-  open-view x r z i p = yes-is _ _ _ _ (tested ∙ z) (p ∙ ap viewOpened i)
-
-  pub open-is : (x d : View) → t ≡ true → x ≡ viewOf m b v → x ≡ d → viewOpened d ≡ openOf m sh b v
-  open-is x d z i p = open-view x (viewOpened d) z i (ap viewOpened (sym p))
+  open-view r z i = yes-is _ _ _ _ (tested ∙ z) i
 
 -- `info_of`
 pub info-by : (m : Mem) (h : PreparedHandle) (o k : ℕ) → o ≡ m (object (h .object) 0) → k ≡ m (object (h .object) 1)
@@ -161,33 +205,24 @@ pub length-few : (m : Mem) (b n r : ℕ) → n ≡ m (head b 5) → r ≡ min (n
 unfolding maxSlots
 length-few m b n r e q = q ∙ rw e
 
--- `snapshot_at`
-pub entry-by : (m : Mem) (b k mask : ℕ) (h : PreparedHandle) (v : HandleValue) (i : HandleInfo) → mask ≡ m (head b 1) → h ≡ handleAt m b k → v .0 ≡ encode mask k (h .generation) → i ≡ infoAt m h
-    → _≡_ {A = SnapshotEntry} (record { value = v; info = i }) (entryOf m b k)
-entry-by m b k mask h v i p q r d = let z : v ≡ record { 0 = encode mask k (h .generation) } = value-is v _ r in rw (z, d, q, p)
+-- `snapshot_by`
+pub entry-by : (m : Mem) (mask k : ℕ) (w : CellWords) (h : PreparedHandle) (v : HandleValue) (i : HandleInfo) → h ≡ handleBy k w → v .0 ≡ encode mask k (w .generation) → i ≡ infoAt m h
+    → _≡_ {A = SnapshotEntry} (record { value = v; info = i }) (entryBy m mask k w)
+entry-by m mask k w h v i p r d = let z : v ≡ record { 0 = encode mask k (w .generation) } = value-is v _ r in rw (z, d, p)
   where
     value-is : (v : HandleValue) (x : ℕ) → v .0 ≡ x → v ≡ record { 0 = x }
     value-is v x e = rw (← e)
 
--- `added`
-pub added-room : (p : SnapshotPage) (x : SnapshotEntry) → p .len < 8
-    → _≡_ {A = SnapshotPage} (record { entries = set (p .entries) (p .len) x; len = p .len + 1; next = p .next; examined = p .examined }) (addedOf p x)
-unfolding addedOf
-added-room p x h = yes-is _ _ _ _ (lt-ltb (p .len) 8 h) refl
+-- `snapshot_at`
+pub entry-at : (m : Mem) (b k mask : ℕ) (w : CellWords) (r : SnapshotEntry) → mask ≡ m (head b 1) → w ≡ slotAt m b k → r ≡ entryBy m mask k w → r ≡ entryOf m b k
+entry-at m b k mask w r p q i = i ∙ rw (p, q)
 
-pub added-full : (p : SnapshotPage) (x : SnapshotEntry) → 8 ≤ p .len → p ≡ addedOf p x
-unfolding addedOf
-added-full p x h = no-is _ _ _ _ (le-ltb (p .len) 8 h) refl
-
--- `stepped`
-module _ (m : Mem) (b k : ℕ) (p : SnapshotPage) (w : ℕ) (e : w ≡ slotWord m b k 0) (t : Bool) (q : t ≡ eqb w 3) where
-  pub stepped-hit : (x : SnapshotEntry) (r : SnapshotPage) → t ≡ true → x ≡ entryOf m b k → r ≡ addedOf p x → r ≡ steppedOf m b k p
-  unfolding steppedOf
-  stepped-hit x r y d i = yes-is _ _ _ _ (ap (λ (z : ℕ). eqb z 3) (sym e) ∙ sym q ∙ y) (i ∙ ap (addedOf p) d)
-
-  pub stepped-miss : t ≡ false → p ≡ steppedOf m b k p
-  unfolding steppedOf
-  stepped-miss y = no-is _ _ _ _ (ap (λ (z : ℕ). eqb z 3) (sym e) ∙ sym q ∙ y) refl
+-- `frame_on`
+pub frame-next : (m : Mem) (b k fr : ℕ) → k + 1 < 16777215 → fr ≡ frameOf m b k → FrameFor m b (k + 1) fr
+unfolding maxSlots
+frame-next m b k fr l e off =
+    let z : (k + 1) / 64 ≡ k / 64 = omega arith in
+    e ∙ rw (lt-ltb k 16777215 (omega arith), lt-ltb (k + 1) 16777215 l, z)
 
 -- `next_cursor`
 module _ (stop long : ℕ) (t : Bool) (q : t ≡ ltb stop long) where
@@ -198,6 +233,6 @@ module _ (stop long : ℕ) (t : Bool) (q : t ≡ ltb stop long) where
   next-none y = no-is _ _ _ _ (sym q ∙ y) refl
 
 -- `ended`
-pub ended-by : (p : SnapshotPage) (start stop long : ℕ) (n : NextCursor) → n ≡ nextAt stop long
-    → _≡_ {A = SnapshotPage} (record { entries = p .entries; len = p .len; next = n; examined = stop - start }) (endedOf p start stop long)
-ended-by p start stop long n e = rw e
+pub ended-by : (es : List SnapshotEntry) (len start stop long : ℕ) (n : NextCursor) → n ≡ nextAt stop long
+    → _≡_ {A = SnapshotPage} (record { entries = es; len = len; next = n; examined = stop - start }) (endedOf es len start stop long)
+ended-by es len start stop long n e = rw e

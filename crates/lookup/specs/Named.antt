@@ -4,17 +4,18 @@ use mathlib.Core.Bool.{true, false}
 use Prim.Native.Nat.{ℕ, zero, suc, _%_, _<_}
 use native.Mathlib.Omega.{arith}
 use lib.Dec.{eqb, ltb}
-use borrow.Author.Tests.{eq-eqb, ne-eqb, eqb-true, eqb-false, lt-ltb, ltb-true, ltb-false, le-ltb}
+use borrow.Author.Tests.{ne-eqb, eqb-true, eqb-false, lt-ltb, ltb-true, ltb-false, le-ltb}
 use Rattle.words.specs.Pick.{bool}
 use Rattle.codec.specs.declared.Decoded.{Decoded}
 use Rattle.codec.specs.declared.Decoded.the-variants.{At, Invalid as NoSlot}
-use Rattle.codec.specs.Codec.{pick as pickC, decodes, slotIn as slotNamed, generationIn, decodeOf}
-use Rattle.model.specs.State.{Handle, Slot.occupied, Lifecycle, Lifecycle.active, Lifecycle.tearingDown, Lifecycle.retired, Table, State, isActive, isOccupied}
+use Rattle.codec.specs.Codec.{decodes, slotIn as slotNamed, generationIn, decodeOf}
+use Rattle.model.specs.State.{Handle, Slot.occupied, Lifecycle.active, Table, State, isActive, isOccupied}
 use Rattle.model.specs.Lookup.{View as Named, viewSlot, lookup, onView, onHandle}
 use Rattle.model.specs.Decision.{Decision, Decision.refusal, unless_refuse_then_, onTable}
 use Rattle.layout.specs.declared.Shape.{Shape}
 use Rattle.layout.specs.Layout.{Mem, head, cell}
-use Rattle.representation.specs.Represents.{wordIn, frameOf, slotWord, tagged, slotFrom, slotIn, LifeIs, TableIs, Represents}
+use Rattle.representation.specs.Represents.{wordIn, frameOf, slotWord, tagged, slotFrom, slotIn, TableIs, Represents}
+use Rattle.representation.specs.Told.{life-tells}
 use Rattle.lookup.specs.declared.PreparedHandle.{PreparedHandle}
 use Rattle.lookup.specs.declared.View.{View}
 use Rattle.lookup.specs.declared.View.the-variants.{Invalid, Busy, Holds}
@@ -76,7 +77,7 @@ slot-named m b k g = from-named m (frameOf m b k) (k % 64) k g
 module _ (m : Mem) (b : ℕ) (t : Table) (i : TableIs m b t) where
   -- THE VIEW of a represented table is the model's
   pub view-is : (v : ℕ) → named (viewOf m b v) ≡ lookup t v
-  unfolding viewOf decodeOf pickC
+  unfolding viewOf decodeOf
   view-is v = rw (i .mask) (bool (decodes (t .mask) v)
       (λ e. rw e (slot-named m b (slotNamed (t .mask) v) (generationIn (t .mask) v)
       ∙ ap (viewSlot (slotNamed (t .mask) v) (generationIn (t .mask) v)) (i .slots (slotNamed (t .mask) v))))
@@ -119,11 +120,6 @@ pub record Active (s : State) (b : ℕ) : Type 0 where
 
 pub active-on : (s : State) (b : ℕ) → Active s b → (f : Table → Decision) → onActive s b f ≡ f (s .tables b)
 active-on s b a f = rw (lt-ltb b (s .tableCount) (a .known), a .active)
-
-life-tells : (w c : ℕ) (l : Lifecycle) → LifeIs w c l → eqb w 0 ≡ isActive l
-life-tells w c active e = eq-eqb w 0 e
-life-tells w c (tearingDown n) e = ne-eqb w 0 (λ z. omega arith)
-life-tells w c retired e = ne-eqb w 0 (λ z. omega arith)
 
 -- a handle of an active table, as the model sees it
 pub record Opens (s : State) (b v : ℕ) (h : PreparedHandle) : Type 1 where

@@ -1,21 +1,23 @@
 -- A scan over the memory: the snapshot page of table b from a cursor on. Assumes nothing.
+use mathlib.Core.Path.{_≡_}
 use mathlib.Core.List.{List, [], _∷_, _++_, map}
-use Prim.Native.Nat.{ℕ, zero, suc, _+_, _-_, _*_, min}
-use lib.ListN.{length, set, replicate, take}
+use Prim.Native.Nat.{ℕ, zero, suc, _-_, _*_, _%_, min}
+use lib.ListN.{length, take}
 use lib.Dec.{eqb, ltb}
 use Rattle.words.specs.Pick.{pick}
 use Rattle.codec.specs.Codec.{encode}
 use Rattle.model.specs.State.{till, maxSlots}
 use Rattle.model.specs.Storage.{Walk, walk}
 use Rattle.layout.specs.declared.Shape.{Shape}
+use Rattle.layout.specs.declared.CellWords.{CellWords}
 use Rattle.layout.specs.Layout.{Mem, head, load}
-use Rattle.representation.specs.Represents.{slotWord, slotIn}
+use Rattle.representation.specs.Represents.{frameOf, slotWord, slotIn}
 use Rattle.answer.specs.Does.{Both, both, answered, refuseR}
 use Rattle.lookup.specs.declared.SnapshotEntry.{SnapshotEntry}
 use Rattle.lookup.specs.declared.NextCursor.{NextCursor}
 use Rattle.lookup.specs.declared.NextCursor.the-variants.{At, End}
 use Rattle.lookup.specs.declared.SnapshotPage.{SnapshotPage}
-use Rattle.lookup.specs.View.{handleAt, tableRefusal}
+use Rattle.lookup.specs.View.{handleBy, handleAt, tableRefusal}
 use Rattle.lookup.specs.Read.{infoAt, infoList}
 
 -- "Detached pages still count in the scan's length"
@@ -25,6 +27,10 @@ lengthAt m b = min (m (head b 5) * 64) maxSlots
 -- the entry of an occupied slot: its value and its handle's info
 abbrev pub entryOf : Mem → ℕ → ℕ → SnapshotEntry
 entryOf m b k = record { value = record { 0 = encode (m (head b 1)) k (slotWord m b k 1) }; info = infoAt m (handleAt m b k) }
+
+-- by the slot's words, under a mask
+abbrev pub entryBy : Mem → ℕ → ℕ → CellWords → SnapshotEntry
+entryBy m mask k w = record { value = record { 0 = encode mask k (w .generation) }; info = infoAt m (handleBy k w) }
 
 abbrev pub noEntry : SnapshotEntry
 noEntry = record { value = record { 0 = 0 }; info = record { koid = record { 0 = 0 }; kind = 0; rights = 0; flags = 0 } }
@@ -61,17 +67,12 @@ scanOf m b c = pageOf m b (startAt m b c) (walkAt m b c) (lengthAt m b)
 
 -- ---- steps of the code
 
-abbrev pub emptyPage : SnapshotPage
-emptyPage = record { entries = replicate 8 noEntry; len = 0; next = End; examined = 0 }
+-- a frame, as a link, is that of slot k's page, unless a page begins there
+abbrev pub FrameFor : Mem → ℕ → ℕ → ℕ → Type 0
+FrameFor m b k fr = (k % 64 ≡ 0 → ⊥) → fr ≡ frameOf m b k
 
-unfoldable pub addedOf : SnapshotPage → SnapshotEntry → SnapshotPage
-addedOf p x = pick (ltb (p .len) 8) (record { entries = set (p .entries) (p .len) x; len = p .len + 1; next = p .next; examined = p .examined }) p
-
-unfoldable pub steppedOf : Mem → ℕ → ℕ → SnapshotPage → SnapshotPage
-steppedOf m b k p = pick (eqb (slotWord m b k 0) 3) (addedOf p (entryOf m b k)) p
-
-abbrev pub endedOf : SnapshotPage → ℕ → ℕ → ℕ → SnapshotPage
-endedOf p start stop long = record { entries = p .entries; len = p .len; next = nextAt stop long; examined = stop - start }
+abbrev pub endedOf : List SnapshotEntry → ℕ → ℕ → ℕ → ℕ → SnapshotPage
+endedOf es len start stop long = record { entries = es; len = len; next = nextAt stop long; examined = stop - start }
 
 -- ---- the answer's words
 

@@ -10,7 +10,7 @@ use lib.Dec.{eqb, ltb}
 use borrow.Author.Tests.{eqb-true, eqb-false}
 use Rattle.words.specs.Pick.{bool}
 use Rattle.codec.specs.Codec.{encode}
-use Rattle.model.specs.Base.{bit, orElse, isSome, pick as choose}
+use Rattle.model.specs.Base.{bit, orElse, isSome, pick}
 use Rattle.model.specs.State.{till, Slot, Slot.occupied, Table, State, isOccupied, maxSlots}
 use Rattle.model.specs.Storage.{Walk, walk, lengthOf}
 use Rattle.model.specs.Request.{Request.scanHandles, Answer.scanned, Snapshot}
@@ -48,10 +48,10 @@ walk-words f g h same k (suc n) (suc e) = go (isOccupied (f k)) refl (walk-words
     go true q i j = ap (λ (l : List ℕ). l ++ entryList (map g (walk f (suc k) n e .found))) (same k q) ∙ ap (λ (l : List ℕ). shotWords (h k) ++ l) i
     go false q i j = j
 
-next-has : (stop long : ℕ) → hasNext (nextAt stop long) ≡ bit (isSome (choose (ltb stop long) (some stop) none))
+next-has : (stop long : ℕ) → hasNext (nextAt stop long) ≡ bit (isSome (pick (ltb stop long) (some stop) none))
 next-has stop long = bool (ltb stop long) (λ e. rw e) (λ e. rw e)
 
-next-is : (stop long : ℕ) → nextWord (nextAt stop long) ≡ orElse (choose (ltb stop long) (some stop) none) 0
+next-is : (stop long : ℕ) → nextWord (nextAt stop long) ≡ orElse (pick (ltb stop long) (some stop) none) 0
 next-is stop long = bool (ltb stop long) (λ e. rw e) (λ e. rw e)
 
 -- a page of a walk, and the model's
@@ -62,7 +62,7 @@ pageWith m b c f n =
 
 abbrev answerWith : State → Table → ℕ → Walk → ℕ → List ℕ
 answerWith s t start w long =
-    length (map (snapshotAt s t) (w .found)) ∷ bit (isSome (choose (ltb (w .stop) long) (some (w .stop)) none)) ∷ orElse (choose (ltb (w .stop) long) (some (w .stop)) none) 0
+    length (map (snapshotAt s t) (w .found)) ∷ bit (isSome (pick (ltb (w .stop) long) (some (w .stop)) none)) ∷ orElse (pick (ltb (w .stop) long) (some (w .stop)) none) 0
     ∷ (w .stop - start) ∷ snapshotWords (map (snapshotAt s t) (w .found))
 
 -- an occupied slot's entry is the model's snapshot

@@ -8,6 +8,7 @@ use Rattle.codec.specs.Codec.{decodeOf}
 use Rattle.model.specs.State.{Handle}
 use Rattle.model.specs.Lookup.{View as Named, View.invalid, View.busy, View.holds}
 use Rattle.layout.specs.declared.Shape.{Shape}
+use Rattle.layout.specs.declared.CellWords.{CellWords}
 use Rattle.layout.specs.Layout.{Mem, head}
 use Rattle.representation.specs.Represents.{slotWord}
 use Rattle.lookup.specs.declared.PreparedHandle.{PreparedHandle}
@@ -19,6 +20,14 @@ use Rattle.lookup.specs.declared.Opened.the-variants.{Refused, Handle as
 -- the record in slot k of table b
 abbrev pub handleAt : Mem → ℕ → ℕ → PreparedHandle
 handleAt m b k = record { slot = k; generation = slotWord m b k 1; object = slotWord m b k 2; rights = slotWord m b k 3; flags = slotWord m b k 4 }
+
+-- by the slot's words
+abbrev pub handleBy : ℕ → CellWords → PreparedHandle
+handleBy k w = record { slot = k; generation = w .generation; object = w .object; rights = w .rights; flags = w .flags }
+
+-- 0 where a slot's words show a handle to a value of generation g, else "2 InvalidHandle" or "3 Busy"
+abbrev pub slotRefusal : ℕ → CellWords → ℕ
+slotRefusal g w = pick (eqb g (w .generation)) (pick (eqb (w .tag) 3) 0 (pick (eqb (w .tag) 2) 3 2)) 2
 
 -- what a slot of tag t with the record h shows to a value of generation g: 3 is occupied, 2 TransferReserved
 abbrev pub shown : ℕ → ℕ → PreparedHandle → View

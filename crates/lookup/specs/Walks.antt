@@ -2,21 +2,21 @@
 use mathlib.Core.Path.{_≡_, refl, sym, ap, _∙_}
 use mathlib.Core.Bool.{Bool, true, false}
 use mathlib.Core.List.{List, [], _∷_, _++_, map, append-nil, append-assoc}
-use Prim.Native.Nat.{ℕ, zero, suc, _+_, _-_, min, _≤_, _<_}
+use Prim.Native.Nat.{ℕ, zero, suc, _+_, _-_, _%_, min, _≤_, _<_}
 use native.Mathlib.Omega.{arith}
-use lib.ListN.{length, set, take, length-append, length-map}
-use lib.Dec.{eqb, leb}
-use borrow.Author.Tests.{lt-ltb, leb-true, leb-false}
-use Rattle.words.specs.Pick.{bool}
-use Rattle.model.specs.Base.{pick as choose}
+use lib.ListN.{length, set, replicate, take, length-append, length-map}
+use lib.Dec.{eqb}
+use Rattle.model.specs.Base.{pick}
 use Rattle.model.specs.State.{Slot, isOccupied}
 use Rattle.model.specs.Storage.{Walk, walk}
-use Rattle.layout.specs.Layout.{Mem}
-use Rattle.representation.specs.Represents.{slotWord, slotIn}
+use Rattle.layout.specs.declared.CellWords.{CellWords}
+use Rattle.layout.specs.Layout.{Mem, head}
+use Rattle.representation.specs.Represents.{wordIn, frameOf, slotIn}
+use Rattle.storage.specs.Cells.{cellIn}
 use Rattle.lookup.specs.declared.SnapshotEntry.{SnapshotEntry}
 use Rattle.lookup.specs.declared.SnapshotPage.{SnapshotPage}
 use Rattle.lookup.specs.Named.{slot-tells}
-use Rattle.lookup.specs.Scan.{lengthAt, entryOf, padTo, startAt, nextAt, pageOf, scanOf, emptyPage, addedOf, steppedOf, endedOf}
+use Rattle.lookup.specs.Scan.{lengthAt, entryBy, entryOf, noEntry, padTo, startAt, nextAt, pageOf, scanOf, endedOf}
 
 -- ---- walks
 
@@ -29,8 +29,8 @@ walk-end f k (suc n) (suc e) h = absurd (omega (arith, h (omega arith)))
 -- else it looks at one slot, occupied or not, and goes on
 abbrev pub went : (ℕ → Slot) → ℕ → ℕ → ℕ → Bool → Walk
 went f k n e c = record {
-  found = choose c (k ∷ walk f (suc k) n (choose c e (suc e)) .found) (walk f (suc k) n (choose c e (suc e)) .found);
-  stop = walk f (suc k) n (choose c e (suc e)) .stop;
+  found = pick c (k ∷ walk f (suc k) n (pick c e (suc e)) .found) (walk f (suc k) n (pick c e (suc e)) .found);
+  stop = walk f (suc k) n (pick c e (suc e)) .stop;
 }
 
 pub walk-hit : (f : ℕ → Slot) (k n e : ℕ) → 0 < n → 0 < e → isOccupied (f k) ≡ true
@@ -85,29 +85,29 @@ map-add f (j ∷ ks) k = ap (λ (l : List SnapshotEntry). f j ∷ l) (map-add f 
 
 -- ---- the loop
 
--- the walk over n slots from `start` is what the page has, and then the walk over `left` slots from `at`
-pub record Scanning (m : Mem) (b start n : ℕ) (p : SnapshotPage) (at left : ℕ) : Type 0 where
+-- the walk over n slots from `start` is what stands in the array, and then the walk over `left` slots from `at`
+pub record Scanning (m : Mem) (b start n : ℕ) (es : List SnapshotEntry) (len at left : ℕ) : Type 0 where
   pub slots : List ℕ
-  pub entries : p .entries ≡ padTo 8 (map (entryOf m b) slots)
-  pub len : p .len ≡ length slots
+  pub entries : es ≡ padTo 8 (map (entryOf m b) slots)
+  pub count : len ≡ length slots
   pub room : length slots ≤ 8
   pub place : at + left ≡ start + n
   pub found : walk (slotIn m b) start n 8 .found ≡ slots ++ walk (slotIn m b) at left (8 - length slots) .found
   pub stop : walk (slotIn m b) start n 8 .stop ≡ walk (slotIn m b) at left (8 - length slots) .stop
 
-pub scan-first : (m : Mem) (b start n : ℕ) (p : SnapshotPage) → p ≡ emptyPage → Scanning m b start n p start n
+pub scan-first : (m : Mem) (b start n : ℕ) (x : SnapshotEntry) → x ≡ noEntry → Scanning m b start n (replicate 8 x) 0 start n
 unfolding padTo
-scan-first m b start n p e = rw e (record { slots = []; entries = refl; len = refl; room = omega arith; place = refl; found = refl; stop = refl })
+scan-first m b start n x e = rw e (record { slots = []; entries = refl; count = refl; room = omega arith; place = refl; found = refl; stop = refl })
 
-module _ (m : Mem) (b start n : ℕ) (p : SnapshotPage) (at left : ℕ) (i : Scanning m b start n p at left) where
+module _ (m : Mem) (b start n : ℕ) (es : List SnapshotEntry) (len at left : ℕ) (i : Scanning m b start n es len at left) where
   -- a slot that is not occupied
-  scan-miss : 0 < left → p .len < 8 → isOccupied (slotIn m b at) ≡ false → Scanning m b start n p (at + 1) (left - 1)
+  scan-miss : 0 < left → len < 8 → isOccupied (slotIn m b at) ≡ false → Scanning m b start n es len (at + 1) (left - 1)
   scan-miss h l q =
-      let w = walk-miss (slotIn m b) at left (8 - length (i .slots)) h (omega (arith, i .len)) q in
+      let w = walk-miss (slotIn m b) at left (8 - length (i .slots)) h (omega (arith, i .count)) q in
       record {
         slots = i .slots;
         entries = i .entries;
-        len = i .len;
+        count = i .count;
         room = i .room;
         place = omega (arith, i .place);
         found = i .found ∙ ap (λ (x : List ℕ). i .slots ++ x) (w .0);
@@ -115,45 +115,51 @@ module _ (m : Mem) (b start n : ℕ) (p : SnapshotPage) (at left : ℕ) (i : Sca
       }
 
   -- an occupied one
-  scan-hit : 0 < left → p .len < 8 → isOccupied (slotIn m b at) ≡ true → Scanning m b start n (addedOf p (entryOf m b at)) (at + 1) (left - 1)
-  unfolding addedOf
+  scan-hit : 0 < left → len < 8 → isOccupied (slotIn m b at) ≡ true → Scanning m b start n (set es len (entryOf m b at)) (len + 1) (at + 1) (left - 1)
   scan-hit h l q =
       let ks : List ℕ = i .slots ++ (at ∷ []) in
-      let w = walk-hit (slotIn m b) at left (8 - length (i .slots)) h (omega (arith, i .len)) q in
+      let w = walk-hit (slotIn m b) at left (8 - length (i .slots)) h (omega (arith, i .count)) q in
       let long : length ks ≡ length (i .slots) + 1 = length-append (i .slots) (at ∷ []) in
       let e : 8 - length (i .slots) - 1 ≡ 8 - length ks = omega (arith, long) in
       let f : List ℕ → List ℕ = λ x. i .slots ++ (at ∷ x) in
       let lm : length (map (entryOf m b) (i .slots)) ≡ length (i .slots) = length-map (i .slots) (entryOf m b) in
-      rw (lt-ltb (p .len) 8 l) (record {
+      record {
         slots = ks;
-        entries = ap (λ (x : List SnapshotEntry). set x (p .len) (entryOf m b at)) (i .entries)
-            ∙ ap (λ (x : ℕ). set (padTo 8 (map (entryOf m b) (i .slots))) x (entryOf m b at)) (i .len ∙ sym lm)
-            ∙ pad-add 8 (map (entryOf m b) (i .slots)) (entryOf m b at) (omega (arith, i .len, lm))
+        entries = ap (λ (x : List SnapshotEntry). set x len (entryOf m b at)) (i .entries)
+            ∙ ap (λ (x : ℕ). set (padTo 8 (map (entryOf m b) (i .slots))) x (entryOf m b at)) (i .count ∙ sym lm)
+            ∙ pad-add 8 (map (entryOf m b) (i .slots)) (entryOf m b at) (omega (arith, i .count, lm))
             ∙ ap (padTo 8) (sym (map-add (entryOf m b) (i .slots) at));
-        len = omega (arith, i .len, long);
-        room = omega (arith, i .len, long);
+        count = omega (arith, i .count, long);
+        room = omega (arith, i .count, long);
         place = omega (arith, i .place);
         found = i .found ∙ ap (λ (x : List ℕ). i .slots ++ x) (w .0) ∙ ap (λ (x : ℕ). f (walk (slotIn m b) (at + 1) (left - 1) x .found)) e
             ∙ sym (append-assoc (i .slots) (at ∷ []) (walk (slotIn m b) (at + 1) (left - 1) (8 - length ks) .found));
         stop = i .stop ∙ w .1 ∙ ap (λ (x : ℕ). walk (slotIn m b) (at + 1) (left - 1) x .stop) e;
-      })
+      }
 
-  -- a turn of the loop
-  pub scan-turn : (p′ : SnapshotPage) → 0 < left → p .len < 8 → p′ ≡ steppedOf m b at p → Scanning m b start n p′ (at + 1) (left - 1)
-  unfolding steppedOf
-  scan-turn p′ h l e = rw e (bool (eqb (slotWord m b at 0) 3)
-      (λ q. rw q (scan-hit h l (sym (slot-tells m b at) ∙ q)))
-      (λ q. rw q (scan-miss h l (sym (slot-tells m b at) ∙ q))))
+  -- a turn of the loop: t tells whether the slot is occupied
+  module _ (h : 0 < left) (l : len < 8) (fr tag : ℕ) (t : Bool) (ef : fr ≡ frameOf m b at) (eg : tag ≡ wordIn m fr (at % 64) 0) (et : t ≡ eqb tag 3) where
+    tells : isOccupied (slotIn m b at) ≡ t
+    tells = sym (slot-tells m b at) ∙ sym (et ∙ ap (λ (x : ℕ). eqb x 3) (eg ∙ ap (λ (x : ℕ). wordIn m x (at % 64) 0) ef))
 
-  -- the loop's end: no slot left, or the page full
-  pub scan-end : (c long : ℕ) (r : SnapshotPage) → start ≡ startAt m b c → long ≡ lengthAt m b → n ≡ min 256 (long - start) → (0 < left → 8 ≤ p .len)
-      → r ≡ endedOf p start at long → r ≡ scanOf m b c
+    pub scan-past : t ≡ false → Scanning m b start n es len (at + 1) (left - 1)
+    scan-past q = scan-miss h l (tells ∙ q)
+
+    pub scan-took : (mask : ℕ) (w : CellWords) (x : SnapshotEntry) → t ≡ true → mask ≡ m (head b 1) → w ≡ cellIn m fr (at % 64) → x ≡ entryBy m mask at w
+        → Scanning m b start n (set es len x) (len + 1) (at + 1) (left - 1)
+    scan-took mask w x q p ew d =
+        let z : x ≡ entryOf m b at = d ∙ ap (λ (y : ℕ). entryBy m y at w) p ∙ ap (entryBy m (m (head b 1)) at) (ew ∙ ap (λ (y : ℕ). cellIn m y (at % 64)) ef) in
+        rw z (scan-hit h l (tells ∙ q))
+
+  -- the loop's end: no slot left, or the array full
+  scan-end : (c long : ℕ) (r : SnapshotPage) → start ≡ startAt m b c → long ≡ lengthAt m b → n ≡ min 256 (long - start) → (0 < left → 8 ≤ len)
+      → r ≡ endedOf es len start at long → r ≡ scanOf m b c
   unfolding scanOf
   scan-end c long r e₁ e₂ e₃ full q =
-      let w = walk-end (slotIn m b) at left (8 - length (i .slots)) (λ h. omega (arith, full h, i .len, i .room)) in
+      let w = walk-end (slotIn m b) at left (8 - length (i .slots)) (λ h. omega (arith, full h, i .count, i .room)) in
       let found : walk (slotIn m b) start n 8 .found ≡ i .slots = i .found ∙ ap (λ (x : List ℕ). i .slots ++ x) (w .0) ∙ append-nil (i .slots) in
-      let z : endedOf p start at long ≡ pageOf m b start (walk (slotIn m b) start n 8) long = parts start long (p .entries) _ (p .len) _ at _
-      (i .entries ∙ ap (λ (x : List ℕ). padTo 8 (map (entryOf m b) x)) (sym found)) (i .len ∙ ap length (sym found)) (sym (w .1) ∙ sym (i .stop)) in
+      let z : endedOf es len start at long ≡ pageOf m b start (walk (slotIn m b) start n 8) long = parts start long es _ len _ at _
+      (i .entries ∙ ap (λ (x : List ℕ). padTo 8 (map (entryOf m b) x)) (sym found)) (i .count ∙ ap length (sym found)) (sym (w .1) ∙ sym (i .stop)) in
       q ∙ z ∙ rw (e₃, e₁, e₂)
     where
       parts : (start long : ℕ) (es es′ : List SnapshotEntry) (n n′ k k′ : ℕ) → es ≡ es′ → n ≡ n′ → k ≡ k′
@@ -167,17 +173,7 @@ examined-few m b c =
     let w = walk-bounds (slotIn m b) (startAt m b c) (min 256 (lengthAt m b - startAt m b c)) 8 in
     omega (arith, w .0)
 
--- for the code's proof: `full` gave t
-module _ (m : Mem) (b start n : ℕ) (p : SnapshotPage) (at left : ℕ) (i : Scanning m b start n p at left) where
-  pub scan-on : (p′ : SnapshotPage) (t : Bool) → t ≡ leb 8 (p .len) → t ≡ false → 0 < left → p′ ≡ steppedOf m b at p → Scanning m b start n p′ (at + 1) (left - 1)
-  scan-on p′ t e f h q = scan-turn m b start n p at left i p′ h (leb-false 8 (p .len) (sym e ∙ f)) q
-
-  module _ (c long : ℕ) (r : SnapshotPage) (e₁ : long ≡ lengthAt m b) (e₂ : start ≡ min c long) (e₃ : n ≡ min 256 (long - start)) (q : r ≡ endedOf p start at long) where
-    done : (0 < left → 8 ≤ p .len) → (r ≡ scanOf m b c) × (r .examined ≤ 256)
-    done h = let z : r ≡ scanOf m b c = scan-end m b start n p at left i c long r (e₂ ∙ ap (min c) e₁) e₁ e₃ h q in (z, rw z (examined-few m b c))
-
-    pub scan-full : (t : Bool) → t ≡ leb 8 (p .len) → t ≡ true → (r ≡ scanOf m b c) × (r .examined ≤ 256)
-    scan-full t e f = done (λ h. leb-true 8 (p .len) (sym e ∙ f))
-
-    pub scan-out : left ≤ 0 → (r ≡ scanOf m b c) × (r .examined ≤ 256)
-    scan-out l = done (λ h. absurd (omega arith))
+pub scan-done : (m : Mem) (b start n : ℕ) (es : List SnapshotEntry) (len at left : ℕ) → Scanning m b start n es len at left → (c long : ℕ) (r : SnapshotPage)
+    → long ≡ lengthAt m b → start ≡ min c long → n ≡ min 256 (long - start) → r ≡ endedOf es len start at long → (0 < left → 8 ≤ len) → (r ≡ scanOf m b c) × (r .examined ≤ 256)
+scan-done m b start n es len at left i c long r e₁ e₂ e₃ q h =
+    let z : r ≡ scanOf m b c = scan-end m b start n es len at left i c long r (e₂ ∙ ap (min c) e₁) e₁ e₃ h q in (z, rw z (examined-few m b c))

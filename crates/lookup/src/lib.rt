@@ -7,18 +7,20 @@ ghost use mathlib.Core.Path.{_≡_};
 ghost use mathlib.Core.List.{_∷_};
 ghost use Prim.Native.Nat.{_≤_, _<_};
 ghost use lib.ListN.{take};
-ghost use lib.Dec.{leb};
 ghost use Rattle.layout.specs.Layout.{load as loadAt};
+ghost use Rattle.representation.specs.Represents.{wordIn, frameOf};
+ghost use Rattle.storage.specs.Cells.{cellIn};
 ghost use Rattle.request.specs.Answers.{puts};
 ghost use Rattle.answer.specs.Does.{both, answered};
-ghost use Rattle.lookup.specs.View.{handleAt, slotView, viewOf, tableRefusal, openOf};
+ghost use Rattle.lookup.specs.View.{handleBy, handleAt, slotRefusal, slotView, viewOf, tableRefusal, viewOpened, openOf};
 ghost use Rattle.lookup.specs.Read.{infoAt, getInfoR, resolvedR, resolveR};
-ghost use Rattle.lookup.specs.Scan.{lengthAt, entryOf, emptyPage, addedOf, steppedOf, nextAt, endedOf, scanOf, hasNext, nextWord, entryWords, entryList, pageList, scanR};
+ghost use Rattle.lookup.specs.Scan.{lengthAt, entryBy, entryOf, noEntry, FrameFor, nextAt, endedOf, scanOf, hasNext, nextWord, entryWords, entryList, pageList, scanR};
 use authority::Rights;
 use codec::Decoded;
 use codec::HandleCodec;
 use codec::HandleValue;
 use codec::Koid;
+use layout::CellWords;
 use layout::Shape;
 
 // Tags of slots.
@@ -76,48 +78,40 @@ pub struct SnapshotPage {
     pub examined: u64,
 }
 
+// The handle in slot k, whose words are given.
+fn prepared(k: u64, w: CellWords) -> PreparedHandle
+    ensures { λ r. ⌜ r ≡ handleBy k w ⌝ }
+{
+    PreparedHandle {
+        slot: k,
+        generation: w.generation,
+        object: w.object,
+        rights: w.rights,
+        flags: w.flags,
+    }
+}
+
 // The handle in slot k of table b.
 pub fn handle_at(s: &[u64], sh: Shape, b: u64, k: u64) -> PreparedHandle
     ensures { λ r. ⌜ r ≡ handleAt (loadAt (now (s .entry)) sh) b k ⌝ }
 {
-    PreparedHandle {
-        slot: k,
-        generation: storage::slot_word(s, sh, b, k, 1),
-        object: storage::slot_word(s, sh, b, k, 2),
-        rights: storage::slot_word(s, sh, b, k, 3),
-        flags: storage::slot_word(s, sh, b, k, 4),
-    }
+    prepared(k, storage::slot_at(s, sh, b, k))
 }
 
-// What slot k shows to a value of generation g.
-fn view_slot(s: &[u64], sh: Shape, b: u64, k: u64, g: u64) -> View
-    ensures { λ r. ⌜ r ≡ slotView (loadAt (now (s .entry)) sh) b k g ⌝ }
+// 0 where a slot's words show a handle to a value of generation g, else the number of the refusal.
+fn slot_refusal(g: u64, w: CellWords) -> u64
+    ensures { λ r. ⌜ r ≡ slotRefusal g w ⌝ }
 {
-    let found = storage::slot_word(s, sh, b, k, 1);
-    let tag = storage::slot_word(s, sh, b, k, 0);
-    if words::eq(g, found) {
-        if words::eq(tag, OCCUPIED) {
-            return View::Holds(handle_at(s, sh, b, k));
+    if words::eq(g, w.generation) {
+        if words::eq(w.tag, OCCUPIED) {
+            return format::refusal::DONE;
         }
-        if words::eq(tag, TRANSFER_RESERVED) {
-            return View::Busy;
+        if words::eq(w.tag, TRANSFER_RESERVED) {
+            return format::refusal::BUSY;
         }
-        return View::Invalid;
+        return format::refusal::INVALID_HANDLE;
     }
-    View::Invalid
-}
-
-// What a value names in table b.
-pub fn find_handle(s: &[u64], sh: Shape, b: u64, v: HandleValue) -> View
-    ensures { λ r. ⌜ r ≡ viewOf (loadAt (now (s .entry)) sh) b (v .0) ⌝ }
-{
-    let codec = HandleCodec {
-        mask: layout::head_word(s, sh, b, 1),
-    };
-    match codec.decode(v) {
-        Decoded::At { slot, generation } => view_slot(s, sh, b, slot, generation),
-        Decoded::Invalid => View::Invalid,
-    }
+    format::refusal::INVALID_HANDLE
 }
 
 // 18 for a table that is unknown, 16 for one that is not active, else 0.
@@ -133,17 +127,94 @@ pub fn table_refusal(s: &[u64], sh: Shape, b: u64) -> u64
     format::refusal::MISUSE
 }
 
+// As `storage::frame_link`, for `open_slot` alone: with one caller it is compiled in place, and it reads no more of the table's head than it needs.
+fn slot_frame(s: &[u64], sh: Shape, b: u64, k: u64) -> u64
+    ensures { λ r. ⌜ r ≡ frameOf (loadAt (now (s .entry)) sh) b k ⌝ }
+{
+    if k >= 16777215 {
+        return 0;
+    }
+    let n = layout::head_word(s, sh, b, 5);
+    if k / 64 >= n {
+        return 0;
+    }
+    let e = layout::head_word(s, sh, b, 10);
+    storage::page_word(s, sh, e, k / 64, 0)
+}
+
+// As `storage::cell_in`, for `open_slot` alone, so that the words stay in registers.
+fn slot_words(s: &[u64], sh: Shape, fr: u64, j: u64) -> CellWords
+    ensures { λ r. ⌜ r ≡ cellIn (loadAt (now (s .entry)) sh) fr j ⌝ }
+{
+    if fr == 0 {
+        return CellWords {
+            tag: 0,
+            generation: 0,
+            object: 0,
+            rights: 0,
+            flags: 0,
+            unused: 0,
+        };
+    }
+    let x = fr - 1;
+    CellWords {
+        tag: layout::cell_word(s, sh, x, j, 0),
+        generation: layout::cell_word(s, sh, x, j, 1),
+        object: layout::cell_word(s, sh, x, j, 2),
+        rights: layout::cell_word(s, sh, x, j, 3),
+        flags: layout::cell_word(s, sh, x, j, 4),
+        unused: layout::cell_word(s, sh, x, j, 5),
+    }
+}
+
+// What slot k shows to a value of generation g, as an opening.
+fn open_slot(s: &[u64], sh: Shape, b: u64, k: u64, g: u64) -> Opened
+    ensures { λ r. ⌜ r ≡ viewOpened (slotView (loadAt (now (s .entry)) sh) b k g) ⌝ }
+{
+    let fr = slot_frame(s, sh, b, k);
+    let w = slot_words(s, sh, fr, k % 64);
+    let n = slot_refusal(g, w);
+    if words::eq(n, format::refusal::DONE) {
+        return Opened::Handle(prepared(k, w));
+    }
+    Opened::Refused(n)
+}
+
+// The handle that a value names in table b, active or not.
+fn open_value(s: &[u64], sh: Shape, b: u64, v: HandleValue) -> Opened
+    ensures { λ r. ⌜ r ≡ viewOpened (viewOf (loadAt (now (s .entry)) sh) b (v .0)) ⌝ }
+{
+    let codec = HandleCodec {
+        mask: layout::head_word(s, sh, b, 1),
+    };
+    match codec.decode(v) {
+        Decoded::At { slot, generation } => open_slot(s, sh, b, slot, generation),
+        Decoded::Invalid => Opened::Refused(format::refusal::INVALID_HANDLE),
+    }
+}
+
+// What a value names in table b.
+pub fn find_handle(s: &[u64], sh: Shape, b: u64, v: HandleValue) -> View
+    ensures { λ r. ⌜ r ≡ viewOf (loadAt (now (s .entry)) sh) b (v .0) ⌝ }
+{
+    match open_value(s, sh, b, v) {
+        Opened::Refused(n) => {
+            if words::eq(n, format::refusal::BUSY) {
+                return View::Busy;
+            }
+            View::Invalid
+        }
+        Opened::Handle(h) => View::Holds(h),
+    }
+}
+
 // The handle that a value names in an active table.
 pub fn open_handle(s: &[u64], sh: Shape, b: u64, v: HandleValue) -> Opened
     ensures { λ r. ⌜ r ≡ openOf (loadAt (now (s .entry)) sh) sh b (v .0) ⌝ }
 {
     let n = table_refusal(s, sh, b);
     if words::eq(n, 0) {
-        return match find_handle(s, sh, b, v) {
-            View::Invalid => Opened::Refused(format::refusal::INVALID_HANDLE),
-            View::Busy => Opened::Refused(format::refusal::BUSY),
-            View::Holds(h) => Opened::Handle(h),
-        };
+        return open_value(s, sh, b, v);
     }
     Opened::Refused(n)
 }
@@ -235,25 +306,30 @@ pub fn table_length(s: &[u64], sh: Shape, b: u64) -> u64
     words::smaller(n * 64, most)
 }
 
+// The snapshot of slot k, whose words are given, in a table of that mask.
+fn snapshot_by(s: &[u64], sh: Shape, mask: u64, k: u64, w: CellWords) -> SnapshotEntry
+    ensures { λ r. ⌜ r ≡ entryBy (loadAt (now (s .entry)) sh) mask k w ⌝ }
+{
+    let codec = HandleCodec { mask: mask };
+    SnapshotEntry {
+        value: codec.encode(k, w.generation),
+        info: info_of(s, sh, prepared(k, w)),
+    }
+}
+
 // The snapshot of slot k of table b, which is occupied.
 pub fn snapshot_at(s: &[u64], sh: Shape, b: u64, k: u64) -> SnapshotEntry
     ensures { λ r. ⌜ r ≡ entryOf (loadAt (now (s .entry)) sh) b k ⌝ }
 {
-    let codec = HandleCodec {
-        mask: layout::head_word(s, sh, b, 1),
-    };
-    let h = handle_at(s, sh, b, k);
-    SnapshotEntry {
-        value: codec.encode(k, h.generation),
-        info: info_of(s, sh, h),
-    }
+    let mask = layout::head_word(s, sh, b, 1);
+    let w = storage::slot_at(s, sh, b, k);
+    snapshot_by(s, sh, mask, k, w)
 }
 
-// A page without entries.
-fn empty_page() -> SnapshotPage
-    ensures { λ r. ⌜ r ≡ emptyPage ⌝ }
+fn no_entry() -> SnapshotEntry
+    ensures { λ r. ⌜ r ≡ noEntry ⌝ }
 {
-    let none = SnapshotEntry {
+    SnapshotEntry {
         value: HandleValue(0),
         info: HandleInfo {
             koid: Koid(0),
@@ -261,49 +337,28 @@ fn empty_page() -> SnapshotPage
             rights: 0,
             flags: 0,
         },
-    };
-    SnapshotPage {
-        entries: [none; 8],
-        len: 0,
-        next: NextCursor::End,
-        examined: 0,
     }
 }
 
-// Whether a page has its 8 entries.
-fn full(p: SnapshotPage) -> bool
-    ensures { λ r. ⌜ r ≡ leb 8 (p .len) ⌝ }
+// The frame of the page that slot k stands on, plus 1; fr is that of the slot before it, and is read anew where a page begins.
+fn frame_on(s: &[u64], sh: Shape, b: u64, k: u64, fr: u64) -> u64
+    requires { ⌜ FrameFor (loadAt (now s) sh) b k fr ⌝ }
+    ensures { λ r. ⌜ r ≡ frameOf (loadAt (now (s .entry)) sh) b k ⌝ }
 {
-    8 <= p.len
+    if k % 64 == 0 {
+        return storage::frame_link(s, sh, b, k);
+    }
+    fr
 }
 
-// The page with one entry more, where it has room.
-fn added(p: SnapshotPage, x: SnapshotEntry) -> SnapshotPage
-    ensures { λ r. ⌜ r ≡ addedOf p x ⌝ }
+// The tag of slot j of a frame, given plus 1; 0 where there is none.
+fn tag_in(s: &[u64], sh: Shape, fr: u64, j: u64) -> u64
+    ensures { λ r. ⌜ r ≡ wordIn (loadAt (now (s .entry)) sh) fr j 0 ⌝ }
 {
-    let mut entries = p.entries;
-    let next = p.next;
-    let len = p.len;
-    if len < 8 {
-        entries[len] = x;
-        return SnapshotPage {
-            entries: entries,
-            len: len + 1,
-            next: next,
-            examined: p.examined,
-        };
+    if fr == 0 {
+        return 0;
     }
-    p
-}
-
-// The page after a look at slot k.
-fn stepped(s: &[u64], sh: Shape, b: u64, k: u64, p: SnapshotPage) -> SnapshotPage
-    ensures { λ r. ⌜ r ≡ steppedOf (loadAt (now (s .entry)) sh) b k p ⌝ }
-{
-    if words::eq(storage::slot_word(s, sh, b, k, 0), OCCUPIED) {
-        return added(p, snapshot_at(s, sh, b, k));
-    }
-    p
+    layout::cell_word(s, sh, fr - 1, j, 0)
 }
 
 // Where the next scan goes on after one that stopped.
@@ -317,14 +372,19 @@ fn next_cursor(stop: u64, length: u64) -> NextCursor
 }
 
 // The page of a scan that started and stopped at two slots.
-fn ended(p: SnapshotPage, start: u64, stop: u64, length: u64) -> SnapshotPage
+fn ended(
+    entries: [SnapshotEntry; 8],
+    len: usize,
+    start: u64,
+    stop: u64,
+    length: u64,
+) -> SnapshotPage
     requires { ⌜ start ≤ stop ⌝ }
-    ensures { λ r. ⌜ r ≡ endedOf p start stop length ⌝ }
+    ensures { λ r. ⌜ r ≡ endedOf entries len start stop length ⌝ }
 {
-    let entries = p.entries;
     SnapshotPage {
         entries: entries,
-        len: p.len,
+        len: len,
         next: next_cursor(stop, length),
         examined: stop - start,
     }
@@ -337,18 +397,30 @@ pub fn scan(s: &[u64], sh: Shape, b: u64, cursor: u64) -> SnapshotPage
 {
     let length = table_length(s, sh, b);
     let start = words::smaller(cursor, length);
-    let mut page = empty_page();
+    let mask = layout::head_word(s, sh, b, 1);
+    let none = no_entry();
+    let mut entries = [none; 8];
+    let mut len: usize = 0;
+    let mut fr = storage::frame_link(s, sh, b, start);
     let mut at = start;
     let mut left = words::smaller(256, length - start);
     while 0 < left {
-        if full(page) {
-            return ended(page, start, at, length);
+        if 8 <= len {
+            return ended(entries, len, start, at, length);
         }
-        page = stepped(s, sh, b, at, page);
+        fr = frame_on(s, sh, b, at, fr);
+        if words::eq(tag_in(s, sh, fr, at % 64), OCCUPIED) {
+            let w = storage::cell_in(s, sh, fr, at % 64);
+            entries[len] = snapshot_by(s, sh, mask, at, w);
+            len += 1;
+            at += 1;
+            left -= 1;
+            continue;
+        }
         at += 1;
         left -= 1;
     }
-    ended(page, start, at, length)
+    ended(entries, len, start, at, length)
 }
 
 // 1 where there is a next cursor, else 0.

@@ -1,10 +1,12 @@
 pub mod Ops
 pub mod Code
+pub mod Decided
 pub mod Opened
 pub mod Found
 pub mod Keeps
 pub mod Released
 pub mod Publishing
+pub mod Plain
 pub mod Publish
 pub mod Published
 pub mod PublishCode

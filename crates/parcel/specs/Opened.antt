@@ -22,7 +22,8 @@ use Rattle.model.specs.Words.{usedWords}
 use Rattle.layout.specs.declared.Shape.{Shape}
 use Rattle.layout.specs.Layout.{Mem, root, index, object, item, load, Write.at, load-writes, in-item}
 use Rattle.representation.specs.Represents.{stageWord, HandleIs, ObjectIs, Represents, Rep}
-use Rattle.storage.specs.Reps.{Held}
+use Rattle.representation.specs.Told.{retired-tells}
+use Rattle.storage.specs.Reps.{Held, held-of}
 use Rattle.object.specs.Words.{recordAt, activateW, raiseW, retireW}
 use Rattle.object.specs.Reps.{activate-held, raise-held, retire-held, limit-room}
 use Rattle.book.specs.Ops.{spare, handleW, Fills, fills-handle}
@@ -35,8 +36,8 @@ use Rattle.lookup.specs.declared.Opened.the-variants.{Refused, Handle as Found}
 use Rattle.lookup.specs.View.{tableRefusal, openOf}
 use Rattle.lookup.specs.Named.{Opens, Active, active-on, table-open, table-refused, open-refused-is, open-found-is}
 use Rattle.lookup.specs.Read.{onOpened, opened-known}
-use Rattle.reserve.specs.Ends.{held-of}
 use Rattle.parcel.specs.Ops.{retireR, rowLeft, parcelW, activationRefusal, rowRefusal, newRefusal, newObjectR, copyRefusal, copiedR, duplicateR}
+use Rattle.parcel.specs.Decided.{decidedBy, refused-when, accepted-when, id-after}
 
 -- ---- the words of a parcel of one handle
 
@@ -44,8 +45,9 @@ module _ (ws : List ℕ) (sh : Shape) (s : State) (h : Held ws sh s) (free : len
   abbrev x : ℕ
   x = spare (load ws sh)
 
-  low : spare (load ws sh) < sh .rows
-  low = let r = h .reps .memory in
+  -- the place of the next row
+  pub spare-low : spare (load ws sh) < sh .rows
+  spare-low = let r = h .reps .memory in
       let e : spare (load ws sh) ≡ load ws sh (index (length (s .book .rows))) = ap (λ (i : ℕ). load ws sh (index i)) (r .book .used) in
       omega (arith, r .book .places (length (s .book .rows)) free .0, r .capacity)
 
@@ -56,7 +58,7 @@ module _ (ws : List ℕ) (sh : Shape) (s : State) (h : Held ws sh s) (free : len
     handle-in : HandleIs (load (handleW ws sh (spare (load ws sh)) 0 o r f) sh) (spare (load ws sh)) 0 (record { object = o; rights = r; flags = f })
     unfolding handleW
     handle-in = let e = load-writes ws sh (h .reps .shaped .room) (at (item x 0 2) o ∷ at (item x 0 3) r ∷ at (item x 0 4) f ∷ [])
-        (in-item sh x 0 2 low (omega arith) (omega arith), (in-item sh x 0 3 low (omega arith) (omega arith), (in-item sh x 0 4 low (omega arith) (omega arith), tt))) in
+        (in-item sh x 0 2 spare-low (omega arith) (omega arith), (in-item sh x 0 3 spare-low (omega arith) (omega arith), (in-item sh x 0 4 spare-low (omega arith) (omega arith), tt))) in
         rw (e, eq-eqb (spare (load ws sh)) (spare (load ws sh)) refl) (refl, refl, refl)
 
     same-place : spare (load (handleW ws sh (spare (load ws sh)) 0 o r f) sh) ≡ spare (load ws sh)
@@ -74,11 +76,6 @@ module _ (ws : List ℕ) (sh : Shape) (s : State) (h : Held ws sh s) (free : len
         (rw same-place (refl, refl, (handle-in, tt))) left
 
 -- ---- refusals
-
--- a decision by the number of its refusal, 0 for none
-abbrev decidedBy : ℕ → Decision → Decision
-decidedBy zero d = d
-decidedBy (suc n) d = refusal (suc n)
 
 abbrev activationBy : Bool → Bool → Bool → Bool → ℕ
 activationBy e r a l = pick e (pick r 9 (pick a 10 (pick l 0 11))) 6
@@ -112,12 +109,6 @@ copy-checks true true false true i d = refl
 copy-checks true true false false true d = refl
 copy-checks true true false false false d = refl
 
--- what the words say of a stage
-retired-tells : (g : Stage) → eqb (stageWord g) 2 ≡ isNowRetired g
-retired-tells stillNew = refl
-retired-tells nowActive = refl
-retired-tells nowRetired = refl
-
 active-tells : (g : Stage) → eqb (stageWord g) 1 ≡ isNowActive g
 active-tells stillNew = refl
 active-tells nowActive = refl
@@ -130,15 +121,6 @@ exportable-tells false x y = refl
 activation-is : (m : Mem) (o : ℕ) (x : Object) → ObjectIs m o x → activationRefusal (recordAt m o) ≡ activationBy (x .exportable) (isNowRetired (x .stage)) (isNowActive (x .stage)) (ltb (x .count) (x .limit))
 unfolding activationRefusal recordAt
 activation-is m o x q = rw (q .exportable, q .stage, q .count, q .limit, retired-tells (x .stage), active-tells (x .stage)) (exportable-tells (x .exportable) 6 _)
-
--- nothing was refused, or it was
-refused-when : (n : ℕ) (d a : Decision) → d ≡ decidedBy n a → (n ≡ 0 → ⊥) → d ≡ refusal n
-refused-when zero d a e ne = absurd (ne refl)
-refused-when (suc n) d a e ne = e
-
-accepted-when : (n : ℕ) (d a : Decision) → d ≡ decidedBy n a → n ≡ 0 → d ≡ a
-accepted-when zero d a e z = e
-accepted-when (suc n) d a e z = absurd (omega arith)
 
 -- a refusal of 0 leaves a row and an id
 new-free : (w c k : Bool) (n : ℕ) (i : Bool) → newBy w c k n i ≡ 0 → (w ≡ true) × (i ≡ false)
@@ -164,21 +146,17 @@ module _ (m : Mem) (o : ℕ) (x : Object) (q : ObjectIs m o x) where
   unfolding recordAt
   supported-is = q .supported
 
-  stage-is : recordAt m o .stage ≡ stageWord (x .stage)
+  pub stage-is : recordAt m o .stage ≡ stageWord (x .stage)
   unfolding recordAt
   stage-is = q .stage
 
-  count-is : recordAt m o .count ≡ x .count
+  pub count-is : recordAt m o .count ≡ x .count
   unfolding recordAt
   count-is = q .count
 
-  limit-is : recordAt m o .limit ≡ x .limit
+  pub limit-is : recordAt m o .limit ≡ x .limit
   unfolding recordAt
   limit-is = q .limit
-
-id-after : (n : ℕ) → n < 2 ^ 64 → eqb n lastId ≡ false → n + 1 < 2 ^ 64
-unfolding lastId
-id-after n l e = omega (arith, eqb-false n 18446744073709551615 e)
 
 module _ (ws : List ℕ) (sh : Shape) (s : State) (i : Rep ws sh s) (os : List ℕ) (base : ℕ) where
   held : Held ws sh s

@@ -10,15 +10,15 @@ use lib.Dec.{eqb, ltb}
 use borrow.Author.Tests.{eqb-true, eqb-false, eq-eqb, ne-eqb, ltb-true, ltb-false}
 use Rattle.words.specs.Pick.{pick, bool}
 use Rattle.model.specs.Base.{occurs}
-use Rattle.model.specs.State.{till, Handle, Slot.occupied, Table, Body, Body.reservation, Body.claim, Body.parcel, State, isBusy}
+use Rattle.model.specs.State.{till, Handle, Slot.occupied, Table, Body.parcel, State, isBusy}
 use Rattle.model.specs.Storage.{keep}
 use Rattle.model.specs.Change.{withTable}
 use Rattle.model.specs.Book.{find}
 use Rattle.model.specs.Decision.{asParcel, joined, handlesOf}
 use Rattle.model.specs.Step.{fillAll}
 use Rattle.model.specs.Sums.{occurs-split}
-use Rattle.model.specs.Tests.{apart}
-use Rattle.invariant.specs.Parcels.{Parts}
+use Rattle.model.specs.Tests.{apart, some-same}
+use Rattle.invariant.specs.Parcels.{parts}
 use Rattle.invariant.specs.StorageViews.{fillAll-busy}
 use Rattle.layout.specs.declared.Shape.{Shape}
 use Rattle.layout.specs.Layout.{Mem, row, item, load}
@@ -26,21 +26,12 @@ use Rattle.representation.specs.Represents.{HandleIs, Items}
 use Rattle.storage.specs.Order.{occurs-head}
 use Rattle.storage.specs.Ops.{occupyW}
 use Rattle.storage.specs.Reps.{Held}
-use Rattle.book.specs.Lists.{some-same}
 use Rattle.book.specs.Find.{Fits, RowAt}
 use Rattle.book.specs.Vacated.{with-table-at as table-at, with-own as table-same, with-over as table-twice}
 use Rattle.parcel.specs.Ops.{parcelLink}
 use Rattle.parcel.specs.Found.{parcel-none, parcel-some}
 use Rattle.parcel.specs.Keeps.{Keeps, keeps-none, keeps-then, handles-same, slots-same, occupy-keeps}
 use Rattle.parcel.specs.Publishing.{plus, fits, filledW, publishedW}
-
--- what handles joined come from
-pub parts : (x : Option Body) (r : Option (List Handle)) (hs : List Handle) → joined (asParcel x) r ≡ some hs → Parts x r hs
-parts none r hs e = apart (cc)
-parts (some (reservation b ks)) r hs e = apart (cc)
-parts (some (claim b es)) r hs e = apart (cc)
-parts (some (parcel gs)) none hs e = apart (cc)
-parts (some (parcel gs)) (some fs) hs e = record { first = gs; rest = fs; found = refl; after = refl; whole = cc }
 
 -- ---- the lengths
 

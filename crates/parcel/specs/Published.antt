@@ -7,8 +7,8 @@ use Prim.Native.Nat.{ℕ, zero, suc, _+_, _-_, _≤_, _<_}
 use native.Mathlib.Omega.{arith}
 use lib.ListN.{length}
 use lib.Dec.{eqb}
-use borrow.Author.Tests.{eqb-true, eqb-false, eq-eqb, ne-eqb, not-true}
-use Rattle.words.specs.Pick.{pick, bool, clash}
+use borrow.Author.Tests.{eqb-true, eqb-false, ne-eqb, not-true}
+use Rattle.words.specs.Pick.{pick, bool, clash, eqb-sym}
 use Rattle.model.specs.Base.{nth, occurs, member}
 use Rattle.model.specs.State.{till, Handle, Slot, Table, Body, Body.reservation, Body.parcel, State, maxBatch}
 use Rattle.model.specs.Change.{withTable}
@@ -20,14 +20,14 @@ use Rattle.model.specs.Step.{fillAll, publishOf, decide}
 use Rattle.model.specs.Words.{usedWords}
 use Rattle.model.specs.Tests.{apart, and-left, and-right}
 use Rattle.invariant.specs.Pointwise.{given, filled, fillAll-slots}
-use Rattle.invariant.specs.Parcels.{not-parcel}
+use Rattle.invariant.specs.Parcels.{not-parcel, parts}
 use Rattle.invariant.specs.Marks.{Owns}
 use Rattle.invariant.specs.BookLemmas.{found-range}
 use Rattle.invariant.specs.StorageDecisions.{reservation-owns}
 use Rattle.layout.specs.declared.Shape.{Shape}
 use Rattle.layout.specs.Layout.{Mem, row, load}
 use Rattle.representation.specs.Represents.{isMarked, Rep}
-use Rattle.storage.specs.Reps.{Held}
+use Rattle.storage.specs.Reps.{Held, held-of}
 use Rattle.book.specs.Ops.{rowLink, closeW}
 use Rattle.book.specs.Lists.{nth-occurs}
 use Rattle.book.specs.Find.{Fits, fits-of, RowAt}
@@ -38,12 +38,11 @@ use Rattle.answer.specs.Does.{Both, both, answered, refuseR, Does, does-refused
 use Rattle.reserve.specs.Ops.{reservationLink}
 use Rattle.book.specs.Vacated.{with-table-at as table-at}
 use Rattle.reserve.specs.Found.{Open, reservation-none, reservation-some}
-use Rattle.reserve.specs.Ends.{held-of}
 use Rattle.parcel.specs.Ops.{parcelLink}
 use Rattle.parcel.specs.Found.{parcel-none, parcel-some, row-link}
 use Rattle.parcel.specs.Keeps.{Keeps}
 use Rattle.parcel.specs.Publishing.{fits, publishedW, droppedW, spentW, publishR}
-use Rattle.parcel.specs.Publish.{parts, agreed, fits-is, published-keeps}
+use Rattle.parcel.specs.Publish.{agreed, fits-is, published-keeps}
 
 -- each id names a parcel whose place no marked slot names
 abbrev Parcels : Mem → State → List ℕ → Type 0
@@ -91,17 +90,12 @@ dropped-held sh (i ∷ is) ws s h f d p =
 
 -- ---- the reservation's slots are marked no longer
 
-bare-given : (ks : List ℕ) (hs : List Handle) (k : ℕ) (x : Slot) → length hs ≡ length ks → 0 < occurs k ks → isMarked (filled (given ks hs k) x) ≡ false
+pub bare-given : (ks : List ℕ) (hs : List Handle) (k : ℕ) (x : Slot) → length hs ≡ length ks → 0 < occurs k ks → isMarked (filled (given ks hs k) x) ≡ false
 bare-given [] hs k x l o = absurd (omega arith)
 bare-given (j ∷ ks) [] k x l o = absurd (omega arith)
 bare-given (j ∷ ks) (h ∷ hs) k x l o = bool (eqb k j)
     (λ e. rw e)
     (λ e. let o′ : 0 < 0 + occurs k ks = rw e at o in rw e (bare-given ks hs k x (omega arith) (omega arith)))
-
-eqb-sym : (a b : ℕ) → eqb a b ≡ eqb b a
-eqb-sym a b = bool (eqb b a)
-    (λ e. eq-eqb a b (sym (eqb-true b a e)) ∙ sym e)
-    (λ e. ne-eqb a b (λ z. eqb-false b a e (sym z)) ∙ sym e)
 
 module _ (ws : List ℕ) (sh : Shape) (s : State) (r : Rep ws sh s) where
   h : Held ws sh s

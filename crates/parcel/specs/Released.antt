@@ -17,14 +17,13 @@ use Rattle.invariant.specs.BookLemmas.{found-range}
 use Rattle.layout.specs.declared.Shape.{Shape}
 use Rattle.layout.specs.Layout.{row, item, load}
 use Rattle.representation.specs.Represents.{HandleIs, Items, Rep}
-use Rattle.storage.specs.Reps.{Held}
+use Rattle.storage.specs.Reps.{Held, held-of}
 use Rattle.object.specs.Words.{lowerW}
 use Rattle.book.specs.Find.{fits-of}
 use Rattle.book.specs.Marks.{named-parcel}
 use Rattle.book.specs.Fades.{unnamed-fades}
 use Rattle.book.specs.Close.{close-held}
 use Rattle.answer.specs.Does.{Does, does-refused, does-accepted}
-use Rattle.reserve.specs.Ends.{held-of}
 use Rattle.parcel.specs.Ops.{parcelLink, loweredW, releasedW, releaseR}
 use Rattle.parcel.specs.Found.{Loose, parcel-none, parcel-some}
 use Rattle.parcel.specs.Keeps.{Keeps, keeps-none, keeps-then, handles-same, lower-keeps}

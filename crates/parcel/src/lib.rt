@@ -6,6 +6,8 @@
 ghost use mathlib.Core.Path.{_≡_};
 ghost use Rattle.authority.specs.Rights.{contains};
 ghost use Rattle.model.specs.State.{knownFlags};
+ghost use Rattle.model.specs.Words.{must};
+ghost use Rattle.request.specs.Place.{fieldsAt, endAt};
 ghost use Rattle.layout.specs.Layout.{load as loadAt};
 ghost use Rattle.answer.specs.Does.{both};
 ghost use Rattle.parcel.specs.Ops.{retireR, rowLeft, idRefusal, activationRefusal, rowRefusal, newRefusal, parcelW, newObjectR};
@@ -21,14 +23,8 @@ use lookup::Opened;
 use lookup::PreparedHandle;
 use object::ObjectRecord;
 
-// Word 1 of a parcel's row.
-pub const PARCEL: u64 = 3;
-
 // "Known flags: bits 0 and 1 of 32".
 pub const KNOWN_FLAGS: u64 = 3;
-
-// The id that is never given.
-pub const LAST_ID: u64 = 0xffff_ffff_ffff_ffff;
 
 // "Its owner may retire it by a request accepted in any state"; "unknown .. object": 18.
 pub fn retire_object(s: &mut [u64], sh: Shape, o: u64, out: &mut [u64], base: usize)
@@ -53,7 +49,7 @@ pub fn row_left(s: &[u64], sh: Shape) -> bool
 pub fn id_refusal(s: &[u64], sh: Shape) -> u64
     ensures { λ r. ⌜ r ≡ idRefusal (loadAt (now (s .entry)) sh) ⌝ }
 {
-    if words::eq(layout::root_word(s, sh, 5), LAST_ID) {
+    if words::eq(layout::root_word(s, sh, 5), book::LAST_ID) {
         return format::refusal::RESERVATION_ID_EXHAUSTED;
     }
     format::refusal::DONE
@@ -123,7 +119,7 @@ fn open_parcel(s: &mut [u64], sh: Shape, object: u64, rights: u64, flags: u64)
 {
     let x = book::spare_place(s, sh);
     book::put_handle(s, sh, x, 0, object, rights, flags);
-    book::open_row(s, sh, PARCEL, 0, 1);
+    book::open_row(s, sh, book::PARCEL, 0, 1);
 }
 
 // "New object: 1, 6, 7, activation, 12": its first handle is a parcel.
@@ -228,7 +224,7 @@ pub fn parcel_of(s: &[u64], sh: Shape, id: ReservationId) -> u64
     ensures { λ r. ⌜ r ≡ parcelLink (loadAt (now (s .entry)) sh) sh (id .0) ⌝ }
 {
     let link = book::row_of(s, sh, id.0);
-    if words::eq(layout::row_word(s, sh, words::dec(link), 1), PARCEL) {
+    if words::eq(layout::row_word(s, sh, words::dec(link), 1), book::PARCEL) {
         return link;
     }
     0
@@ -279,6 +275,30 @@ fn add(a: u64, b: u64) -> u64
     }
 }
 
+// The id that the item at a place names: behind the operation, where the record has no other field.
+fn item_id(rq: &[u64], at: usize) -> u64
+    ensures { λ r. ⌜ r ≡ must (fieldsAt (now (rq .entry)) at) 7 ⌝ }
+{
+    if at < rq.len() {
+        if rq[at] == format::PARCEL_ITEM_MUST {
+            return words::word(rq, at + 2);
+        }
+    }
+    request::field(rq, at, format::field::FIELD_ID)
+}
+
+// The place after its record.
+fn item_end(rq: &[u64], at: usize) -> usize
+    ensures { λ r. ⌜ r ≡ endAt (now (rq .entry)) at ⌝ }
+{
+    if at < rq.len() {
+        if rq[at] == format::PARCEL_ITEM_MUST {
+            return at + 3;
+        }
+    }
+    request::record_end(rq, at)
+}
+
 // Whether each of the items names a parcel and the parcels have n handles.
 fn parcels_fit(s: &[u64], sh: Shape, rq: &[u64], at: usize, count: u64, n: u64) -> bool
     ensures { λ r. ⌜ r ≡ fits (loadAt (now (s .entry)) sh) sh (idsAt (now (rq .entry)) at count) n ⌝ }
@@ -287,11 +307,7 @@ fn parcels_fit(s: &[u64], sh: Shape, rq: &[u64], at: usize, count: u64, n: u64) 
     let mut more = count;
     let mut left = n;
     while 0 < more {
-        let link = parcel_of(
-            s,
-            sh,
-            ReservationId(request::field(rq, place, format::field::FIELD_ID)),
-        );
+        let link = parcel_of(s, sh, ReservationId(item_id(rq, place)));
         if words::eq(link, 0) {
             return false;
         }
@@ -300,7 +316,7 @@ fn parcels_fit(s: &[u64], sh: Shape, rq: &[u64], at: usize, count: u64, n: u64) 
             return false;
         }
         left -= c;
-        place = request::record_end(rq, place);
+        place = item_end(rq, place);
         more -= 1;
     }
     words::eq(left, 0)
@@ -313,11 +329,11 @@ fn named(rq: &[u64], at: usize, count: u64, id: u64) -> bool
     let mut place = at;
     let mut more = count;
     while 0 < more {
-        let other = request::field(rq, place, format::field::FIELD_ID);
+        let other = item_id(rq, place);
         if words::eq(id, other) {
             return true;
         }
-        place = request::record_end(rq, place);
+        place = item_end(rq, place);
         more -= 1;
     }
     false
@@ -330,8 +346,8 @@ fn distinct_ids(rq: &[u64], at: usize, count: u64) -> bool
     let mut place = at;
     let mut more = count;
     while 0 < more {
-        let id = request::field(rq, place, format::field::FIELD_ID);
-        let next = request::record_end(rq, place);
+        let id = item_id(rq, place);
+        let next = item_end(rq, place);
         if named(rq, next, more - 1, id) {
             return false;
         }
@@ -365,16 +381,12 @@ fn fill_slots(s: &mut [u64], sh: Shape, b: u64, x: u64, rq: &[u64], at: usize, c
     let mut more = count;
     let mut p: u64 = 0;
     while 0 < more {
-        let link = parcel_of(
-            s,
-            sh,
-            ReservationId(request::field(rq, place, format::field::FIELD_ID)),
-        );
+        let link = parcel_of(s, sh, ReservationId(item_id(rq, place)));
         let y = words::dec(link);
         let n = layout::row_word(s, sh, y, 3);
         fill_from(s, sh, b, x, p, y, n);
         p = add(p, n);
-        place = request::record_end(rq, place);
+        place = item_end(rq, place);
         more -= 1;
     }
 }
@@ -386,10 +398,10 @@ fn close_parcels(s: &mut [u64], sh: Shape, rq: &[u64], at: usize, count: u64)
     let mut place = at;
     let mut more = count;
     while 0 < more {
-        let link = book::row_of(s, sh, request::field(rq, place, format::field::FIELD_ID));
+        let link = book::row_of(s, sh, item_id(rq, place));
         let y = words::dec(link);
         book::close_row(s, sh, y);
-        place = request::record_end(rq, place);
+        place = item_end(rq, place);
         more -= 1;
     }
 }

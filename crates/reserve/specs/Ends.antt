@@ -19,15 +19,11 @@ use Rattle.invariant.specs.BookLemmas.{found-range}
 use Rattle.layout.specs.declared.Shape.{Shape}
 use Rattle.layout.specs.Layout.{row, load}
 use Rattle.representation.specs.Represents.{Rep}
-use Rattle.storage.specs.Whole.{placed-of}
-use Rattle.storage.specs.Reps.{Held}
+use Rattle.storage.specs.Reps.{Held, held-of}
 use Rattle.book.specs.Reservations.{abort-held, trim-held}
 use Rattle.answer.specs.Does.{Does, does-refused, does-accepted}
 use Rattle.reserve.specs.Ops.{reservationLink, abortedW, trimmedW, abortR, trimR}
 use Rattle.reserve.specs.Found.{Open, reservation-none, reservation-some}
-
-pub held-of : (ws : List ℕ) (sh : Shape) (s : State) → Rep ws sh s → Held ws sh s
-held-of ws sh s r = record { reps = r .reps; placed = placed-of s (r .wellFormed) }
 
 module _ (ws : List ℕ) (sh : Shape) (s : State) (r : Rep ws sh s) (x i b : ℕ) (ks : List ℕ) (o : Open (load ws sh) s x i b ks) where
   -- a batch has at most 64 slots

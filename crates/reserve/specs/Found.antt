@@ -37,7 +37,7 @@ module _ (ws : List ℕ) (sh : Shape) (s : State) (r : Rep ws sh s) (i : ℕ) wh
   few : sh .rows ≤ 256
   few = r .reps .shaped .limits .few-rows
 
-  by-row : (x : ℕ) → rowLink (load ws sh) sh i ≡ suc x → (y : Body) × (find i (s .book .rows) ≡ some y) × RowAt (load ws sh) s x i y
+  pub by-row : (x : ℕ) → rowLink (load ws sh) sh i ≡ suc x → (y : Body) × (find i (s .book .rows) ≡ some y) × RowAt (load ws sh) s x i y
   by-row x e = row-found sh (load ws sh) s (r .reps .memory) (fits-of s (r .wellFormed)) few i x e
 
   -- "unknown .. open row of the kind named": 18

@@ -19,10 +19,11 @@ use Rattle.model.specs.Request.{Request.reserve, Answer.batch}
 use Rattle.model.specs.Decision.{Decision, Decision.refusal, Decision.accept, unless_refuse_then_, onSome}
 use Rattle.model.specs.Step.{reserveOf, decide}
 use Rattle.model.specs.Words.{usedWords}
+use Rattle.model.specs.Bounds.{batch-max}
 use Rattle.layout.specs.declared.Shape.{Shape}
 use Rattle.layout.specs.Layout.{root, load}
 use Rattle.representation.specs.Represents.{Rep}
-use Rattle.storage.specs.Reps.{Held}
+use Rattle.storage.specs.Reps.{Held, held-of}
 use Rattle.growth.specs.Words.{pagesNeeded, growW}
 use Rattle.growth.specs.Plan.{needed-some, needed-none, plan-short}
 use Rattle.growth.specs.Grow.{grow-held, grow-enough}
@@ -30,8 +31,8 @@ use Rattle.lookup.specs.View.{tableRefusal}
 use Rattle.lookup.specs.Named.{onActive, Active, active-on, table-open, table-refused}
 use Rattle.answer.specs.Does.{Both, refuseR, Does, does-refused, does-accepted}
 use Rattle.reserve.specs.Ops.{batchRefusal, roomRefusal, listW, batchW, batchWords, openR, reserveR}
-use Rattle.reserve.specs.Tables.{table-at, table-last}
-use Rattle.reserve.specs.Ends.{held-of}
+use Rattle.book.specs.Vacated.{with-table-at as table-at}
+use Rattle.reserve.specs.Tables.{table-last}
 use Rattle.reserve.specs.Batch.{batch-words, batch-held}
 
 -- the checks of the model, after the table's: the batch's size, then the pages that it needs
@@ -51,10 +52,6 @@ sized s b n t = unless ltb 0 n refuse 17 then unless atMost n maxBatch refuse 13
 decided : (s : State) (b n : ℕ) → decide till s (reserve b n) ≡ onActive s b (sized s b n)
 unfolding decide reserveOf
 decided s b n = refl
-
-batch-max : maxBatch ≡ 64
-unfolding maxBatch
-batch-max = refl
 
 last-max : lastId ≡ 18446744073709551615
 unfolding lastId

@@ -27,7 +27,7 @@ use Rattle.book.specs.Find.{RowAt}
 use Rattle.book.specs.Marks.{names-reservation}
 use Rattle.book.specs.Fades.{row-turned}
 use Rattle.reserve.specs.Ops.{takenW, valuesAt}
-use Rattle.reserve.specs.Tables.{table-at, table-same, table-twice}
+use Rattle.book.specs.Vacated.{with-table-at as table-at, with-own as table-same, with-over as table-twice}
 
 -- the head of the free order, by its words
 head-is : (m : Mem) (b : ℕ) (t : Table) → TableIs m b t → (k : ℕ) (l : List ℕ) → t .free ≡ k ∷ l → look m b (hd 6) - 1 ≡ k

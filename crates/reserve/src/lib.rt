@@ -13,24 +13,21 @@ use codec::HandleCodec;
 use codec::ReservationId;
 use layout::Shape;
 
-// Word 1 of a reservation's row.
-pub const RESERVATION: u64 = 1;
-
 // The most slots of a batch.
 pub const MAX_BATCH: u64 = 64;
 
 // What `growth::pages_needed` gives where a new page would pass the limit.
 pub const NO_PLAN: u64 = 65;
 
-// The id that is never given out.
-pub const LAST_ID: u64 = 0xffff_ffff_ffff_ffff;
-
 // The place of the open reservation with an id, plus 1; 0 if there is none.
 pub fn reservation_of(s: &[u64], sh: Shape, id: ReservationId) -> u64
     ensures { λ r. ⌜ r ≡ reservationLink (loadAt (now (s .entry)) sh) sh (id .0) ⌝ }
 {
     let link = book::row_of(s, sh, id.0);
-    if words::eq(layout::row_word(s, sh, words::dec(link), 1), RESERVATION) {
+    if words::eq(
+        layout::row_word(s, sh, words::dec(link), 1),
+        book::RESERVATION,
+    ) {
         return link;
     }
     0
@@ -119,7 +116,7 @@ fn room_refusal(s: &[u64], sh: Shape, p: u64) -> u64
         return format::refusal::ALLOCATION;
     }
     if words::lt(layout::root_word(s, sh, 6), sh.rows as u64) {
-        if words::eq(layout::root_word(s, sh, 5), LAST_ID) {
+        if words::eq(layout::root_word(s, sh, 5), book::LAST_ID) {
             return format::refusal::RESERVATION_ID_EXHAUSTED;
         }
         return format::refusal::DONE;
@@ -166,7 +163,7 @@ fn open_batch(s: &mut [u64], sh: Shape, b: u64, n: u64)
     ensures words { λ _. ⌜ now (s .exit) ≡ batchW (now (s .entry)) sh b n ⌝ }
 {
     let x = book::spare_place(s, sh);
-    book::open_row(s, sh, RESERVATION, b, n);
+    book::open_row(s, sh, book::RESERVATION, b, n);
     take_slots(s, sh, b, x, n);
 }
 

@@ -13,7 +13,7 @@ use Rattle.model.specs.Request.{Operation, Item}
 use Rattle.model.specs.Words.{may, must, operationOf}
 use Rattle.model.specs.Transfer.{isCopy}
 use Rattle.layout.specs.declared.Shape.{Shape}
-use Rattle.layout.specs.Layout.{Mem}
+use Rattle.layout.specs.Layout.{Mem, object}
 use Rattle.request.specs.declared.Optional.{Optional}
 use Rattle.request.specs.declared.Optional.the-variants.{Word, Absent}
 use Rattle.request.specs.Place.{fieldsAt, placesFrom, placeOf, itemAt}
@@ -96,6 +96,19 @@ objectRefusal x route bannedObject bannedKind q =
     (pick (not (agrees (q .offeredKind) (x .kind))) 4
     (pick (not (agrees (q .expectedKind) (x .kind))) 4
     0))))
+
+-- what these checks look at of an object, with 0 for the rest
+unfoldable pub lookedAt : Mem → ℕ → ObjectRecord
+lookedAt m o = record {
+  koid = record { 0 = m (object o 0) };
+  kind = m (object o 1);
+  class = m (object o 2);
+  supported = 0;
+  exportable = 0;
+  stage = 0;
+  count = 0;
+  limit = 0;
+}
 
 unfoldable pub handleRefusal : Mem → PreparedHandle → ℕ → Option ℕ → Option ℕ → Item → ℕ
 handleRefusal m h route bannedObject bannedKind q =

@@ -8,9 +8,9 @@ use lib.Dec.{eqb}
 use Rattle.words.specs.Pick.{yes-is, no-is}
 use Rattle.authority.specs.Rights.{contains}
 use Rattle.layout.specs.declared.Shape.{Shape}
-use Rattle.layout.specs.Layout.{Mem, root, object, item, load, save}
+use Rattle.layout.specs.Layout.{Mem, root, object, item, load}
 use Rattle.storage.specs.Ops.{moveW}
-use Rattle.book.specs.Ops.{spare, openW, handleW}
+use Rattle.book.specs.Ops.{spare, openW}
 use Rattle.answer.specs.Does.{both, answered}
 use Rattle.lookup.specs.declared.PreparedHandle.{PreparedHandle}
 use Rattle.lookup.specs.declared.HandleInfo.{HandleInfo}
@@ -21,13 +21,6 @@ use Rattle.lookup.specs.Read.{infoAt}
 use Rattle.lookup.specs.Code.{on-refused}
 use Rattle.parcel.specs.Ops.{rowLeft, idRefusal}
 use Rattle.transfer.specs.Ops.{movedW, markItemW, markedW, claimW, consumeRefusal, consumedR, consumptionR}
-
--- `put_moved`
-pub moved-is : (ws w₁ w₂ w₃ w₄ : List ℕ) (sh : Shape) (x j : ℕ) (h : PreparedHandle) (r : ℕ)
-    → w₁ ≡ save ws sh (item x j 0) 0 → w₂ ≡ save w₁ sh (item x j 1) (h .slot) → w₃ ≡ handleW w₂ sh x j (h .object) (h .rights) (h .flags) → w₄ ≡ save w₃ sh (item x j 5) r
-    → w₄ ≡ movedW ws sh x j h r
-unfolding movedW handleW
-moved-is ws w₁ w₂ w₃ w₄ sh x j h r a₁ a₂ a₃ a₄ = rw (a₄, a₃, a₂, a₁)
 
 -- `mark_item`
 module _ (ws : List ℕ) (sh : Shape) (b x j w : ℕ) (e : w ≡ load ws sh (item x j 0)) (t : Bool) (q : t ≡ eqb w 0) where

@@ -19,11 +19,11 @@ use Rattle.model.specs.Decision.{Decision, Decision.refusal, Decision.accept, u
 use Rattle.model.specs.Lookup.{lookup, onView, onHandle}
 use Rattle.model.specs.Step.{prepareConsumptionOf, decide}
 use Rattle.model.specs.Words.{usedWords}
+use Rattle.model.specs.Counting.{bit-other}
 use Rattle.layout.specs.declared.Shape.{Shape}
 use Rattle.layout.specs.Layout.{index, load}
 use Rattle.representation.specs.Represents.{Represents, Rep}
-use Rattle.storage.specs.Order.{bit-other}
-use Rattle.storage.specs.Reps.{Held}
+use Rattle.storage.specs.Reps.{Held, held-of}
 use Rattle.book.specs.Ops.{spare}
 use Rattle.answer.specs.Does.{refuseR, Does, does-refused, does-accepted}
 use Rattle.lookup.specs.declared.PreparedHandle.{PreparedHandle}
@@ -32,10 +32,9 @@ use Rattle.lookup.specs.declared.Opened.the-variants.{Refused, Handle as Found}
 use Rattle.lookup.specs.View.{tableRefusal, openOf, handleOf}
 use Rattle.lookup.specs.Named.{Opens, Active, active-on, table-open, table-refused, open-refused-is, open-found-is}
 use Rattle.lookup.specs.Read.{onOpened, opened-known}
-use Rattle.reserve.specs.Ends.{held-of}
+use Rattle.parcel.specs.Decided.{decidedBy, refused-when, accepted-when, left-is, free-place, next-after}
 use Rattle.transfer.specs.Ops.{movedW, claimW, consumeRefusal, consumedR, consumptionR}
 use Rattle.transfer.specs.Claim.{moved-enters, moved-in, enter-fills, claim-held}
-use Rattle.transfer.specs.Decided.{decidedBy, refused-when, accepted-when, left-is, free-place, next-after}
 
 abbrev consumeBy : Bool → Bool → Bool → Bool → ℕ
 consumeBy c k o i = pick c (pick k (pick o (pick i 12 0) 2) 4) 5

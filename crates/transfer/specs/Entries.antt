@@ -1,5 +1,5 @@
 -- The items of a transfer as its claim keeps them, in the row that opens next. Assumes nothing.
-use mathlib.Core.Path.{_≡_, refl, ap, _∙_}
+use mathlib.Core.Path.{_≡_, refl, _∙_}
 use mathlib.Core.List.{List, [], _∷_, map}
 use Prim.Native.Nat.{ℕ, suc, _+_, _≤_, _<_}
 use native.Mathlib.Omega.{arith}
@@ -12,7 +12,7 @@ use Rattle.model.specs.Objects.{withRights}
 use Rattle.model.specs.Transfer.{entryFor}
 use Rattle.model.specs.WellFormed.{WellFormed, All}
 use Rattle.layout.specs.declared.Shape.{Shape}
-use Rattle.layout.specs.Layout.{Mem, total, index, item, load, in-item, load-writes}
+use Rattle.layout.specs.Layout.{Mem, total, item, load, in-item, load-writes}
 use Rattle.representation.specs.Represents.{EntryIs, Items}
 use Rattle.storage.specs.Reps.{Held}
 use Rattle.book.specs.Ops.{spare, Fills, fills-none, fills-then}
@@ -20,6 +20,7 @@ use Rattle.book.specs.Swap.{spare-held}
 use Rattle.lookup.specs.declared.PreparedHandle.{PreparedHandle}
 use Rattle.lookup.specs.declared.View.the-variants.{Holds}
 use Rattle.lookup.specs.View.{viewOf, handleOf}
+use Rattle.parcel.specs.Opened.{spare-low}
 use Rattle.transfer.specs.Ops.{movedW}
 use Rattle.transfer.specs.Preparing.{copiedP, copiedW, handleEntryW, entryW, entriesW}
 use Rattle.transfer.specs.Claim.{Entered, enter-all, enter-fills, moved-enters, moved-in}
@@ -50,11 +51,6 @@ module _ (sh : Shape) (s : State) (w : WellFormed till s) (b : ℕ) (l : b < s .
 
   abbrev x : ℕ
   x = spare (load ws sh)
-
-  low : spare (load ws sh) < sh .rows
-  low = let r = h .reps .memory in
-      let e : spare (load ws sh) ≡ load ws sh (index (length (s .book .rows))) = ap (λ (i : ℕ). load ws sh (index i)) (r .book .used) in
-      omega (arith, r .book .places (length (s .book .rows)) free .0, r .capacity)
 
   -- ONE ENTRY
   record Put (vs : List ℕ) (j : ℕ) (q : Item) (us : List ℕ) : Type 0 where
@@ -88,7 +84,7 @@ module _ (sh : Shape) (s : State) (w : WellFormed till s) (b : ℕ) (l : b < s .
           rw (entry-by vs us j q y v (moves-by vs j q y e))
           (record {
             enters = moved-enters vs sh (held .reps .shaped .room) (spare (load ws sh)) j y (q .rights);
-            is = rw d (moved-in vs sh (held .reps .shaped .room) (spare (load ws sh)) j y (q .rights) low m);
+            is = rw d (moved-in vs sh (held .reps .shaped .room) (spare (load ws sh)) j y (q .rights) (spare-low ws sh (withObjects s os) h free) m);
           })
       go asCopy e (y, v, k, g) =
           let us : List ℕ = copiedW vs sh (spare (load ws sh)) j y (q .rights) in
@@ -96,7 +92,7 @@ module _ (sh : Shape) (s : State) (w : WellFormed till s) (b : ℕ) (l : b < s .
           rw (entry-by vs us j q y v (copies-by vs j q y e))
           (record {
             enters = copied-enters vs sh (held .reps .shaped .room) (spare (load ws sh)) j y (q .rights);
-            is = rw d (copied-in vs sh (held .reps .shaped .room) (spare (load ws sh)) j y (q .rights) low m);
+            is = rw d (copied-in vs sh (held .reps .shaped .room) (spare (load ws sh)) j y (q .rights) (spare-low ws sh (withObjects s os) h free) m);
           })
 
   entries-stop : (vs : List ℕ) (j : ℕ) → entriesW vs sh b (spare (load ws sh)) j [] ≡ vs

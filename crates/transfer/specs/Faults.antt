@@ -12,7 +12,7 @@ use Rattle.words.specs.Pick.{pick, bool}
 use Rattle.authority.specs.Rights.{contains, duplicateRight, transferRight}
 use Rattle.codec.specs.Codec.{decodes, slotIn, generationIn}
 use Rattle.model.specs.Base.{orElse, agrees, bans, member}
-use Rattle.model.specs.State.{till, Handle, Slot, Slot.absent, Slot.vacant, Slot.reserved, Slot.transferReserved, Slot.occupied, Table, Class, Class.leaf, Class.rendezvousOnly, Class.never, Stage, Stage.stillNew, Stage.nowActive, Stage.nowRetired, Object, State}
+use Rattle.model.specs.State.{till, Handle, Slot, Slot.absent, Slot.vacant, Slot.reserved, Slot.transferReserved, Slot.occupied, Table, Class, Class.leaf, Class.rendezvousOnly, Class.never, Object, State}
 use Rattle.model.specs.Request.{Route, Item}
 use Rattle.model.specs.Words.{routeOf}
 use Rattle.model.specs.Objects.{isNowRetired}
@@ -20,10 +20,11 @@ use Rattle.model.specs.Lookup.{View as Named, View.invalid, View.busy, View.hol
 use Rattle.model.specs.Transfer.{Check, _or_, firstFault, permits, isCopy, isHeld, lookupNumber, heldIn, itemChecks, copyChecks, firstOf, itemsFault, entryBy, entryFor}
 use Rattle.model.specs.WellFormed.{WellFormed, All}
 use Rattle.model.specs.Tests.{apart}
-use Rattle.invariant.specs.Items.{stands-at}
+use Rattle.invariant.specs.Items.{stands-at, fault-head, held-view, both-none}
 use Rattle.layout.specs.declared.Shape.{Shape}
 use Rattle.layout.specs.Layout.{Mem}
-use Rattle.representation.specs.Represents.{classWord, stageWord, ObjectIs, Represents}
+use Rattle.representation.specs.Represents.{classWord, ObjectIs, Represents}
+use Rattle.representation.specs.Told.{retired-tells}
 use Rattle.object.specs.Words.{recordAt}
 use Rattle.lookup.specs.declared.PreparedHandle.{PreparedHandle}
 use Rattle.lookup.specs.declared.View.{View}
@@ -31,6 +32,7 @@ use Rattle.lookup.specs.declared.View.the-variants.{Invalid, Busy, Holds}
 use Rattle.lookup.specs.View.{viewOf, handleOf, named}
 use Rattle.lookup.specs.Named.{view-is, view-found}
 use Rattle.lookup.specs.Read.{object-known}
+use Rattle.parcel.specs.Opened.{stage-is, count-is, limit-is}
 use Rattle.transfer.specs.Checks.{routeBars, rightsRefusal, objectRefusal, handleRefusal, viewRefusal, itemRefusal, itemsRefusal}
 use Rattle.transfer.specs.Preparing.{raiseRefusal}
 
@@ -97,23 +99,6 @@ module _ (m : Mem) (o : ℕ) (x : Object) (q : ObjectIs m o x) where
   unfolding recordAt
   class-at = q .class
 
-  stage-at : recordAt m o .stage ≡ stageWord (x .stage)
-  unfolding recordAt
-  stage-at = q .stage
-
-  count-at : recordAt m o .count ≡ x .count
-  unfolding recordAt
-  count-at = q .count
-
-  limit-at : recordAt m o .limit ≡ x .limit
-  unfolding recordAt
-  limit-at = q .limit
-
-retired-tells : (g : Stage) → eqb (stageWord g) 2 ≡ isNowRetired g
-retired-tells stillNew = refl
-retired-tells nowActive = refl
-retired-tells nowRetired = refl
-
 -- THE CHECKS OF A COPY are the model's
 raise-by : (r l : Bool) → Tells (firstFault (not r or 9 ∷ not l or 11 ∷ [])) (pick r 9 (pick l 11 0))
 raise-by true l = (refl, omega arith)
@@ -122,7 +107,7 @@ raise-by false false = refl
 
 pub raise-tells : (m : Mem) (o : ℕ) (x : Object) → ObjectIs m o x → Tells (firstFault (copyChecks x)) (raiseRefusal m o)
 unfolding raiseRefusal
-raise-tells m o x q = rw (stage-at m o x q, retired-tells (x .stage), count-at m o x q, limit-at m o x q) (raise-by (isNowRetired (x .stage)) (eqb (x .count) (x .limit)))
+raise-tells m o x q = rw (stage-is m o x q, retired-tells (x .stage), count-is m o x q, limit-is m o x q) (raise-by (isNowRetired (x .stage)) (eqb (x .count) (x .limit)))
 
 module _ (sh : Shape) (m : Mem) (s : State) (r : Represents sh m s) (w : WellFormed till s) (b : ℕ) (l : b < s .tableCount) (route : ℕ) (bo bk : Option ℕ) where
   abbrev t : Table
@@ -177,20 +162,6 @@ pub record Found (t : Table) (q : Item) : Type 0 where
   pub view : lookup t (q .value) ≡ holds slot handle
   pub stands : t .slots slot ≡ occupied gen handle
   pub entry : entryFor t q ≡ entryBy (q .operation) slot handle (q .rights)
-
-fault-head : (c : Check) (cs : List Check) → firstFault (c ∷ cs) ≡ none → (c .holds ≡ true) × (firstFault cs ≡ none)
-fault-head c cs e = bool (c .holds)
-    (λ q. (q, rw q at e))
-    (λ q. let y : some (c .number) ≡ none = rw q at e in apart (cc))
-
-held-view : (w : Named) → isHeld w ≡ true → (k : ℕ) × (w ≡ holds k (heldIn w))
-held-view invalid e = apart (cc)
-held-view busy e = apart (cc)
-held-view (holds k h) e = (k, refl)
-
-both-none : (a b : Option ℕ) → firstOf a b ≡ none → (a ≡ none) × (b ≡ none)
-both-none none b e = (refl, e)
-both-none (some n) b e = apart (cc)
 
 -- the slot that a lookup names is that of its value
 slot-of : (t : Table) (v k : ℕ) (h : Handle) → lookup t v ≡ holds k h → k ≡ slotIn (t .mask) v

@@ -3,8 +3,10 @@ pub mod Code
 pub mod Checks
 pub mod Preparing
 pub mod TransferCode
+pub mod Plain
+pub mod Seen
+pub mod Stored
 pub mod Claim
-pub mod Decided
 pub mod Consumption
 pub mod Faults
 pub mod Raised

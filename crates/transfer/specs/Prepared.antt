@@ -30,19 +30,18 @@ use Rattle.layout.specs.Regions.{region, in-place}
 use Rattle.layout.specs.Layout.{layout, root, load, save, in-root, load-root}
 use Rattle.representation.specs.Represents.{Represents, Rep}
 use Rattle.request.specs.Place.{requestOf}
-use Rattle.storage.specs.Reps.{Held}
+use Rattle.storage.specs.Reps.{Held, held-of}
 use Rattle.book.specs.Ops.{spare, spendW}
 use Rattle.book.specs.Open.{spend-held}
 use Rattle.answer.specs.Does.{idSpent, Does, does-refused, does-refused-after-id, does-accepted}
 use Rattle.lookup.specs.View.{tableRefusal}
 use Rattle.lookup.specs.Named.{Active, active-on, table-open, table-refused}
 use Rattle.lookup.specs.Read.{object-known}
-use Rattle.reserve.specs.Ends.{held-of}
+use Rattle.parcel.specs.Decided.{decidedBy, refused-when, accepted-when, left-is, free-place, next-after}
 use Rattle.transfer.specs.Ops.{claimW}
 use Rattle.transfer.specs.Checks.{itemsAt, transferRefusal, itemsRefusal}
 use Rattle.transfer.specs.Preparing.{Tried, raisedItems, entriesW, refuseSpentR, openedR, itemsR, transferR, transferAt}
 use Rattle.transfer.specs.Claim.{claim-held}
-use Rattle.transfer.specs.Decided.{decidedBy, refused-when, accepted-when, left-is, free-place, next-after}
 use Rattle.transfer.specs.Faults.{Tells, Found, items-tell, found-all}
 use Rattle.transfer.specs.Raised.{tally, Outcome, raised-outcome}
 use Rattle.transfer.specs.Entries.{entries-listed}

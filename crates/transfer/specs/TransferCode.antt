@@ -15,7 +15,7 @@ use Rattle.model.specs.Request.{Operation, Item}
 use Rattle.model.specs.Words.{may, must, operationOf}
 use Rattle.model.specs.Transfer.{isCopy}
 use Rattle.layout.specs.declared.Shape.{Shape}
-use Rattle.layout.specs.Layout.{Mem, root, item, load, save}
+use Rattle.layout.specs.Layout.{Mem, root, object, item, load}
 use Rattle.request.specs.declared.Optional.{Optional}
 use Rattle.request.specs.declared.Optional.the-variants.{Word, Absent}
 use Rattle.request.specs.Place.{optional, fieldsAt, endAt, placesFrom, placeOf, itemAt}
@@ -23,7 +23,7 @@ use Rattle.request.specs.Lists.{place-later}
 use Rattle.request.specs.Laws.{places-turn, places-end, places-length, place-next}
 use Rattle.object.specs.declared.ObjectRecord.{ObjectRecord}
 use Rattle.object.specs.Words.{recordAt, raiseW, lowerW}
-use Rattle.book.specs.Ops.{spare, handleW, spendW}
+use Rattle.book.specs.Ops.{spare, spendW}
 use Rattle.answer.specs.Does.{Both, both, answered}
 use Rattle.lookup.specs.declared.PreparedHandle.{PreparedHandle}
 use Rattle.lookup.specs.declared.View.{View}
@@ -32,7 +32,7 @@ use Rattle.parcel.specs.Ops.{rowLeft, idRefusal}
 use Rattle.transfer.specs.declared.HandleTransferRequest.{HandleTransferRequest}
 use Rattle.transfer.specs.declared.TransferRules.{TransferRules}
 use Rattle.transfer.specs.Ops.{movedW, claimW}
-use Rattle.transfer.specs.Checks.{asOption, itemBy, RulesAt, itemsAt, earlierAt, transferRefusal, copyDenied, routeBars, rightsRefusal, objectRefusal, handleRefusal, viewRefusal, itemRefusal, itemsRefusal}
+use Rattle.transfer.specs.Checks.{asOption, itemBy, RulesAt, itemsAt, earlierAt, lookedAt, transferRefusal, copyDenied, routeBars, rightsRefusal, objectRefusal, handleRefusal, viewRefusal, itemRefusal, itemsRefusal}
 use Rattle.transfer.specs.Preparing.{viewLink, copyLink, raiseRefusal, Tried, tried, raisedItem, loweredItem, loweredItems, raisedItems, copiedW, handleEntryW, viewEntryW, entryW, entriesW, refuseSpentR, openedR, itemsR, transferR, transferAt}
 
 -- ---- what is read
@@ -255,9 +255,20 @@ module _ (m : Mem) (h : PreparedHandle) (route : ℕ) (bo bk : Option ℕ) (q : 
   unfolding handleRefusal
   handle-rights y = refused-by _ n e t d _ _ _ y e
 
-  pub handle-object : (x : ObjectRecord) (r : ℕ) → t ≡ false → x ≡ recordAt m (h .object) → r ≡ objectRefusal x route bo bk q → r ≡ handleRefusal m h route bo bk q
+  -- the checks do not depend on what `look_at` leaves out
+  looked-same : objectRefusal (lookedAt m (h .object)) route bo bk q ≡ objectRefusal (recordAt m (h .object)) route bo bk q
+  unfolding objectRefusal lookedAt recordAt
+  looked-same = refl
+
+  pub handle-object : (x : ObjectRecord) (r : ℕ) → t ≡ false → x ≡ lookedAt m (h .object) → r ≡ objectRefusal x route bo bk q → r ≡ handleRefusal m h route bo bk q
   unfolding handleRefusal
-  handle-object x r y i a = passed-by _ n e t d _ _ _ y (a ∙ ap (λ (z : ObjectRecord). objectRefusal z route bo bk q) i)
+  handle-object x r y i a = passed-by _ n e t d _ _ _ y (a ∙ ap (λ (z : ObjectRecord). objectRefusal z route bo bk q) i ∙ looked-same)
+
+-- `look_at`
+pub looked-is : (m : Mem) (o koid kind class : ℕ) → koid ≡ m (object o 0) → kind ≡ m (object o 1) → class ≡ m (object o 2)
+    → _≡_ {A = ObjectRecord} (record { koid = record { 0 = koid }; kind = kind; class = class; supported = 0; exportable = 0; stage = 0; count = 0; limit = 0 }) (lookedAt m o)
+unfolding lookedAt
+looked-is m o koid kind class a b c = rw (a, b, c)
 
 -- `listed`
 pub earlier-none : (rq : List ℕ) (at v : ℕ) → member v (earlierAt rq at 0) ≡ false
@@ -346,17 +357,19 @@ module _ (m : Mem) (b : ℕ) (q : HandleTransferRequest) (t : Bool) (e : t ≡ i
   link-view x y r z d i a = yes-is _ _ _ _ (sym e ∙ z) (a ∙ ap viewLink (sym i ∙ d))
 
 -- `raise_refusal`
-module _ (m : Mem) (o : ℕ) (x : ObjectRecord) (d : x ≡ recordAt m o) (t₁ : Bool) (e₁ : t₁ ≡ eqb (x .stage) 2) where
+module _ (m : Mem) (o stage : ℕ) (d : stage ≡ m (object o 5)) (t₁ : Bool) (e₁ : t₁ ≡ eqb stage 2) where
   stage-tells : eqb (recordAt m o .stage) 2 ≡ t₁
-  stage-tells = sym (e₁ ∙ ap (λ (z : ObjectRecord). eqb (z .stage) 2) d)
+  unfolding recordAt
+  stage-tells = sym (e₁ ∙ ap (λ (z : ℕ). eqb z 2) d)
 
   pub raise-retired : t₁ ≡ true → 9 ≡ raiseRefusal m o
   unfolding raiseRefusal
   raise-retired y = yes-is _ _ _ _ (stage-tells ∙ y) refl
 
-  module _ (n₁ : t₁ ≡ false) (t₂ : Bool) (e₂ : t₂ ≡ eqb (x .count) (x .limit)) where
+  module _ (n₁ : t₁ ≡ false) (count limit : ℕ) (f : count ≡ m (object o 6)) (g : limit ≡ m (object o 7)) (t₂ : Bool) (e₂ : t₂ ≡ eqb count limit) where
     count-tells : eqb (recordAt m o .count) (recordAt m o .limit) ≡ t₂
-    count-tells = sym (e₂ ∙ ap (λ (z : ObjectRecord). eqb (z .count) (z .limit)) d)
+    unfolding recordAt
+    count-tells = sym (e₂ ∙ ap (λ (z : ℕ). eqb z limit) f ∙ ap (eqb (m (object o 6))) g)
 
     pub raise-full : t₂ ≡ true → 11 ≡ raiseRefusal m o
     unfolding raiseRefusal
@@ -431,11 +444,6 @@ module _ (sh : Shape) (b : ℕ) (rq us : List ℕ) (at : ℕ) (A : Tried) (i n p
         raised-first next f ∙ sym (yes-is _ _ _ _ (is-none k t c y) refl) ∙ rw (w, items-more rq at i q place p d)
 
 -- ---- entries
-
--- `put_copied`
-pub copied-is : (ws w₁ w₂ : List ℕ) (sh : Shape) (x j : ℕ) (h : PreparedHandle) (r : ℕ) → w₁ ≡ save ws sh (item x j 0) 1 → w₂ ≡ handleW w₁ sh x j (h .object) r (h .flags) → w₂ ≡ copiedW ws sh x j h r
-unfolding copiedW handleW
-copied-is ws w₁ w₂ sh x j h r a₁ a₂ = rw (a₂, a₁)
 
 -- `put_handle_entry`
 module _ (ws vs : List ℕ) (sh : Shape) (x j : ℕ) (h : PreparedHandle) (q : HandleTransferRequest) (t : Bool) (e : t ≡ isCopy (operationOf (q .operation))) where

@@ -6,16 +6,21 @@
 ghost use mathlib.Core.Path.{_≡_};
 ghost use mathlib.Core.Bool.{not};
 ghost use mathlib.Core.List.{[]};
+ghost use Prim.Native.Nat.{_<_, _%_, _^_};
+ghost use lib.ListN.{length};
+ghost use lib.Dec.{eqb};
+ghost use lib.Bits.{bitOr};
 ghost use Rattle.authority.specs.Rights.{contains};
 ghost use Rattle.model.specs.Base.{orElse, agrees, bans, member};
-ghost use Rattle.model.specs.Words.{operationOf};
+ghost use Rattle.model.specs.Words.{must, operationOf};
 ghost use Rattle.model.specs.Transfer.{isCopy};
-ghost use Rattle.layout.specs.Layout.{load as loadAt};
-ghost use Rattle.request.specs.Place.{itemAt};
+ghost use Rattle.layout.specs.Layout.{item, place, load as loadAt};
+ghost use Rattle.request.specs.Place.{fieldsAt, endAt, itemAt};
 ghost use Rattle.book.specs.Ops.{spare};
 ghost use Rattle.answer.specs.Does.{both};
 ghost use Rattle.transfer.specs.Ops.{movedW, markItemW, markedW, claimW, consumeRefusal, consumedR, consumptionR};
-ghost use Rattle.transfer.specs.Checks.{asOption, itemBy, RulesAt, itemsAt, earlierAt, transferRefusal, copyDenied, routeBars, rightsRefusal, objectRefusal, handleRefusal, itemRefusal, itemsRefusal};
+ghost use Rattle.transfer.specs.Checks.{asOption, itemBy, lookedAt, RulesAt, itemsAt, earlierAt, transferRefusal, copyDenied, routeBars, rightsRefusal, objectRefusal, handleRefusal, itemRefusal, itemsRefusal};
+ghost use Rattle.transfer.specs.Seen.{bitOf, Seen};
 ghost use Rattle.transfer.specs.Preparing.{copyLink, raiseRefusal, tried, raisedItem, raisedItems, loweredItem, loweredItems, copiedW, handleEntryW, entryW, entriesW, refuseSpentR, itemsR, transferAt};
 use authority::Rights;
 use codec::HandleValue;
@@ -27,14 +32,6 @@ use lookup::View;
 use object::ObjectRecord;
 use request::Optional;
 
-// Word 1 of a claim's row.
-pub const CLAIM: u64 = 2;
-
-// "operations: 0 Move, 1 Copy".
-pub const MOVE: u64 = 0;
-
-pub const COPY: u64 = 1;
-
 // "class (0 Leaf, 1 RendezvousOnly, 2 Never)".
 pub const LEAF: u64 = 0;
 
@@ -43,21 +40,38 @@ pub const RENDEZVOUS_ONLY: u64 = 1;
 // "Routes: 0 Buffered, 1 Rendezvous, 2 StagedStartup".
 pub const BUFFERED: u64 = 0;
 
+// Where item j of the row in place x stands; where there is none, the length.
+fn item_place(s: &[u64], sh: Shape, x: u64, j: u64) -> usize
+    ensures stands { λ r. ⌜ r ≡ place (length (now (s .entry))) sh (item x j 0) ⌝ }
+    ensures room { λ r. ⌜ r < 2 ^ 62 ⌝ }
+{
+    if j < 64 {
+        if x < sh.rows as u64 {
+            let rows = layout::region_of(sh, layout::ROW);
+            return (rows.low + (x * 65 + j + 1) * 6) as usize;
+        }
+    }
+    s.len()
+}
+
 // The handle h moves, in item j of the row in place x; its receiver gets the rights r.
 fn put_moved(s: &mut [u64], sh: Shape, x: u64, j: u64, h: PreparedHandle, r: u64)
     ensures words { λ _. ⌜ now (s .exit) ≡ movedW (now (s .entry)) sh x j h r ⌝ }
 {
-    layout::put_item(s, sh, x, j, 0, MOVE);
-    layout::put_item(s, sh, x, j, 1, h.slot);
-    book::put_handle(s, sh, x, j, h.object, h.rights, h.flags);
-    layout::put_item(s, sh, x, j, 5, r);
+    let at = item_place(s, sh, x, j);
+    words::put(s, at, book::MOVE);
+    words::put(s, at + 1, h.slot);
+    words::put(s, at + 2, h.object);
+    words::put(s, at + 3, h.rights);
+    words::put(s, at + 4, h.flags);
+    words::put(s, at + 5, r);
 }
 
 // The slot that item j of the claim in place x moves is TransferReserved by it; a copy marks none.
 fn mark_item(s: &mut [u64], sh: Shape, b: u64, x: u64, j: u64)
     ensures words { λ _. ⌜ now (s .exit) ≡ markItemW (now (s .entry)) sh b x j ⌝ }
 {
-    if words::eq(layout::item_word(s, sh, x, j, 0), MOVE) {
+    if words::eq(layout::item_word(s, sh, x, j, 0), book::MOVE) {
         let k = layout::item_word(s, sh, x, j, 1);
         storage::mark_moving(s, sh, b, k, x, j);
     }
@@ -79,7 +93,7 @@ fn open_claim(s: &mut [u64], sh: Shape, b: u64, n: u64)
     ensures words { λ _. ⌜ now (s .exit) ≡ claimW (now (s .entry)) sh b n ⌝ }
 {
     let x = book::spare_place(s, sh);
-    book::open_row(s, sh, CLAIM, b, n);
+    book::open_row(s, sh, book::CLAIM, b, n);
     mark_items(s, sh, b, x, n);
 }
 
@@ -198,8 +212,8 @@ fn read_rules(rq: &[u64], at: usize) -> TransferRules
     }
 }
 
-// The item whose record stands at a place.
-fn read_item(rq: &[u64], at: usize) -> HandleTransferRequest
+// The item whose record stands at a place, whatever its map.
+fn any_item(rq: &[u64], at: usize) -> HandleTransferRequest
     ensures { λ r. ⌜ itemBy r ≡ itemAt (now (rq .entry)) at ⌝ }
 {
     let operation = request::field(rq, at, format::field::FIELD_OP);
@@ -216,6 +230,52 @@ fn read_item(rq: &[u64], at: usize) -> HandleTransferRequest
         offered_kind: offered_kind,
         expected_kind: expected_kind,
     }
+}
+
+// The item whose record stands at a place; the words of one with no optional field are read where they stand.
+fn read_item(rq: &[u64], at: usize) -> HandleTransferRequest
+    ensures { λ r. ⌜ itemBy r ≡ itemAt (now (rq .entry)) at ⌝ }
+{
+    if at < rq.len() {
+        if rq[at] == format::TRANSFER_ITEM_MUST {
+            let operation = words::word(rq, at + 1);
+            let value = words::word(rq, at + 2);
+            let rights = words::word(rq, at + 3);
+            return HandleTransferRequest {
+                operation: operation,
+                value: HandleValue(value),
+                rights: Rights(rights),
+                offered_rights: Optional::Absent,
+                offered_kind: Optional::Absent,
+                expected_kind: Optional::Absent,
+            };
+        }
+    }
+    any_item(rq, at)
+}
+
+// Its value.
+fn item_value(rq: &[u64], at: usize) -> u64
+    ensures { λ r. ⌜ r ≡ must (fieldsAt (now (rq .entry)) at) 4 ⌝ }
+{
+    if at < rq.len() {
+        if rq[at] == format::TRANSFER_ITEM_MUST {
+            return words::word(rq, at + 2);
+        }
+    }
+    request::field(rq, at, format::field::FIELD_VALUE)
+}
+
+// The place after its record.
+fn item_end(rq: &[u64], at: usize) -> usize
+    ensures { λ r. ⌜ r ≡ endAt (now (rq .entry)) at ⌝ }
+{
+    if at < rq.len() {
+        if rq[at] == format::TRANSFER_ITEM_MUST {
+            return at + 4;
+        }
+    }
+    request::record_end(rq, at)
 }
 
 // "Transfer: 16, 17, 13, 1, 12", for n items from table b; 0 for no refusal.
@@ -252,7 +312,7 @@ fn lacks(held: Rights, asked: Rights) -> bool
 fn copies(operation: u64) -> bool
     ensures { λ r. ⌜ r ≡ isCopy (operationOf operation) ⌝ }
 {
-    words::ne(operation, MOVE)
+    words::ne(operation, book::MOVE)
 }
 
 // "a copy without DUPLICATE".
@@ -356,6 +416,25 @@ fn object_refusal(x: ObjectRecord, q: HandleTransferRequest, t: TransferRules) -
     format::refusal::DONE
 }
 
+// What the checks look at of object o, its koid, kind and class, in a record whose other words are 0.
+fn look_at(s: &[u64], sh: Shape, o: u64) -> ObjectRecord
+    ensures { λ r. ⌜ r ≡ lookedAt (loadAt (now (s .entry)) sh) o ⌝ }
+{
+    let koid = layout::object_word(s, sh, o, 0);
+    let kind = layout::object_word(s, sh, o, 1);
+    let class = layout::object_word(s, sh, o, 2);
+    ObjectRecord {
+        koid: Koid(koid),
+        kind: kind,
+        class: class,
+        supported: 0,
+        exportable: 0,
+        stage: 0,
+        count: 0,
+        limit: 0,
+    }
+}
+
 // The checks of an item that names the handle h, from its rights on.
 fn handle_refusal(
     s: &[u64],
@@ -370,7 +449,7 @@ fn handle_refusal(
     if words::ne(n, 0) {
         return n;
     }
-    let x = object::read_object(s, sh, h.object);
+    let x = look_at(s, sh, h.object);
     object_refusal(x, q, t)
 }
 
@@ -381,12 +460,40 @@ fn listed(rq: &[u64], at: usize, n: u64, v: u64) -> bool
     let mut place = at;
     let mut i: u64 = 0;
     while i < n {
-        let other = request::field(rq, place, format::field::FIELD_VALUE);
+        let other = item_value(rq, place);
         if words::eq(v, other) {
             return true;
         }
-        place = request::record_end(rq, place);
+        place = item_end(rq, place);
         i += 1;
+    }
+    false
+}
+
+// Whether the bit of a value, by its remainder, stands in a set of bits.
+fn in_set(seen: u64, v: u64) -> bool
+    ensures { λ r. ⌜ r ≡ eqb (bitOf seen v) 1 ⌝ }
+{
+    let k = v % 64;
+    words::eq((seen >> k) % 2, 1)
+}
+
+// The set with that bit.
+fn joined(seen: u64, v: u64) -> u64
+    ensures { λ r. ⌜ r ≡ bitOr seen (2 ^ (v % 64)) ⌝ }
+{
+    let one: u64 = 1;
+    let k = v % 64;
+    seen | (one << k)
+}
+
+// Whether a value stands in the first n items, whose values' bits stand in a set: no item is read where its own bit does not.
+fn twice(rq: &[u64], at: usize, n: u64, seen: u64, v: u64) -> bool
+    requires { ⌜ Seen (now rq) at n seen ⌝ }
+    ensures { λ r. ⌜ r ≡ member v (earlierAt (now (rq .entry)) at n) ⌝ }
+{
+    if in_set(seen, v) {
+        return listed(rq, at, n, v);
     }
     false
 }
@@ -398,14 +505,16 @@ fn item_refusal(
     rq: &[u64],
     at: usize,
     n: u64,
+    seen: u64,
     b: u64,
     q: HandleTransferRequest,
     t: TransferRules,
 ) -> u64
+    requires { ⌜ Seen (now rq) at n seen ⌝ }
     ensures { λ r. ⌜ r ≡ itemRefusal (loadAt (now (s .entry)) sh) b (t .route) (asOption (t .«forbidden_object»)) (asOption (t .«forbidden_kind»)) (earlierAt (now (rq .entry)) at n) (itemBy q) ⌝ }
 {
     let value = q.value;
-    if listed(rq, at, n, value.0) {
+    if twice(rq, at, n, seen, value.0) {
         return format::refusal::INVALID_HANDLE;
     }
     match lookup::find_handle(s, sh, b, value) {
@@ -429,13 +538,15 @@ fn items_refusal(
 {
     let mut place = at;
     let mut i: u64 = 0;
+    let mut seen: u64 = 0;
     while i < count {
         let q = read_item(rq, place);
-        let n = item_refusal(s, sh, rq, at, i, b, q, t);
+        let n = item_refusal(s, sh, rq, at, i, seen, b, q, t);
         if words::ne(n, 0) {
             return n;
         }
-        place = request::record_end(rq, place);
+        seen = joined(seen, q.value.0);
+        place = item_end(rq, place);
         i += 1;
     }
     format::refusal::DONE
@@ -460,11 +571,13 @@ fn copied_object(s: &[u64], sh: Shape, b: u64, q: HandleTransferRequest) -> u64
 fn raise_refusal(s: &[u64], sh: Shape, o: u64) -> u64
     ensures { λ r. ⌜ r ≡ raiseRefusal (loadAt (now (s .entry)) sh) o ⌝ }
 {
-    let x = object::read_object(s, sh, o);
-    if words::eq(x.stage, object::NOW_RETIRED) {
+    let stage = layout::object_word(s, sh, o, 5);
+    if words::eq(stage, object::NOW_RETIRED) {
         return format::refusal::OBJECT_RETIRED;
     }
-    if words::eq(x.count, x.limit) {
+    let count = layout::object_word(s, sh, o, 6);
+    let limit = layout::object_word(s, sh, o, 7);
+    if words::eq(count, limit) {
         return format::refusal::ACTIVE_HANDLE_LIMIT;
     }
     format::refusal::DONE
@@ -507,7 +620,7 @@ fn lower_items(s: &mut [u64], sh: Shape, rq: &[u64], at: usize, n: u64, b: u64)
     while 0 < more {
         let q = read_item(rq, place);
         lower_item(s, sh, b, q);
-        place = request::record_end(rq, place);
+        place = item_end(rq, place);
         more -= 1;
     }
 }
@@ -525,7 +638,7 @@ fn raise_items(s: &mut [u64], sh: Shape, rq: &[u64], at: usize, count: u64, b: u
             lower_items(s, sh, rq, at, i, b);
             return n;
         }
-        place = request::record_end(rq, place);
+        place = item_end(rq, place);
         i += 1;
     }
     format::refusal::DONE
@@ -535,8 +648,11 @@ fn raise_items(s: &mut [u64], sh: Shape, rq: &[u64], at: usize, count: u64, b: u
 fn put_copied(s: &mut [u64], sh: Shape, x: u64, j: u64, h: PreparedHandle, r: u64)
     ensures words { λ _. ⌜ now (s .exit) ≡ copiedW (now (s .entry)) sh x j h r ⌝ }
 {
-    layout::put_item(s, sh, x, j, 0, COPY);
-    book::put_handle(s, sh, x, j, h.object, r, h.flags);
+    let at = item_place(s, sh, x, j);
+    words::put(s, at, book::COPY);
+    words::put(s, at + 2, h.object);
+    words::put(s, at + 3, r);
+    words::put(s, at + 4, h.flags);
 }
 
 // An item that names the handle h, as its claim keeps it, in item j of the row in place x.
@@ -581,7 +697,7 @@ fn put_entries(s: &mut [u64], sh: Shape, rq: &[u64], at: usize, count: u64, b: u
     while j < count {
         let q = read_item(rq, place);
         put_entry(s, sh, b, x, j, q);
-        place = request::record_end(rq, place);
+        place = item_end(rq, place);
         j += 1;
     }
 }

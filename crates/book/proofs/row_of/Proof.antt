@@ -1,9 +1,9 @@
 use borrow.Author.Needs.{needs}
 use mathlib.Core.Path.{_≡_, refl}
-use Prim.Native.Nat.{_-_, _≤_}
-use Rattle.layout.specs.Layout.{load}
+use Prim.Native.Nat.{_+_, _≤_}
 use native.Mathlib.Omega.{arith}
-use Rattle.book.specs.Code.{link-start, link-yes, link-no, link-end}
+use Rattle.layout.specs.Layout.{load}
+use Rattle.book.specs.Code.{link-start, link-yes, link-above, link-below, link-end}
 use Rattle.book.specs.Ops.{rowLink, linkFrom}
 use Rattle.book.proofs.row_of.Statement.{statement}
 use Rattle.book.proofs.row_of.Tie as tie
@@ -14,19 +14,20 @@ use Rattle.layout.proofs.root_word.Reads as root-word-reads
 use Rattle.layout.proofs.row_word.Reads as row-word-reads
 use Rattle.words.proofs.eq.Reads as eq-reads
 use Rattle.words.proofs.inc.Reads as inc-reads
+use Rattle.words.proofs.lt.Reads as lt-reads
 use Rattle.words.proofs.smaller.Reads as smaller-reads
 
 abbrev Inv-loop : tie.InvT-loop
-Inv-loop s sh id rows n i₀ i = (i ≤ n) × (rowLink (load s sh) sh id ≡ linkFrom (load s sh) id i (n - i))
+Inv-loop s sh id rows n₀ i₀ n i = (i + n ≤ 65535) × (rowLink (load s sh) sh id ≡ linkFrom (load s sh) id n i n)
 
 abbrev μ-loop : tie.MeasureT-loop
-μ-loop s sh id rows n i₀ i = n - i
+μ-loop s sh id rows n₀ i₀ n i = n
 
 -- src/lib.rt:13:16
 cast-rows : tie.Need-cast-rows Inv-loop μ-loop
 cast-rows c = search needs
 
--- src/lib.rt:14:28
+-- src/lib.rt:14:32
 root-word-requires : tie.Need-root-word-requires Inv-loop μ-loop
 root-word-requires c κs = tt
 
@@ -36,39 +37,67 @@ smaller-requires c κs = tt
 
 -- src/lib.rt:16:5
 loop-holds : tie.Need-loop-holds Inv-loop μ-loop
-loop-holds c = (search needs, link-start (load (c .before .before .before .before .args .s .now) (c .before .before .before .before .args .sh)) (c .before .before .before .before .args .sh) (c .before .before .before .before .args .id) _ _ (c .before .root-word .ensures) (c .smaller .ensures))
+loop-holds c = (omega (arith, c .smaller .ensures, c .before .before .before .before .fits), link-start (load (c .before .before .before .before .args .s .now) (c .before .before .before .before .args .sh)) (c .before .before .before .before .args .sh) (c .before .before .before .before .args .id) _ _ (c .before .root-word .ensures) (c .smaller .ensures))
 
--- src/lib.rt:17:13
+-- src/lib.rt:18:43
+add-index-word : tie.Need-add-index-word Inv-loop μ-loop
+add-index-word c = omega (arith, c .before .loop .inv .0)
+
+-- src/lib.rt:18:13
 index-word-requires : tie.Need-index-word-requires Inv-loop μ-loop
 index-word-requires c κs = tt
 
--- src/lib.rt:18:22
+-- src/lib.rt:19:13
 row-word-requires : tie.Need-row-word-requires Inv-loop μ-loop
 row-word-requires c κs = tt
 
--- src/lib.rt:18:12
+-- src/lib.rt:20:12
 eq-requires : tie.Need-eq-requires Inv-loop μ-loop
 eq-requires c κs = tt
 
--- src/lib.rt:19:13
+-- src/lib.rt:21:13
 inc-requires : tie.Need-inc-requires Inv-loop μ-loop
 inc-requires c κs = tt
 
--- src/lib.rt:19:13
+-- src/lib.rt:21:13
 returns : tie.Need-returns Inv-loop μ-loop
-returns c = link-yes (load (c .before .before .before .before .before .before .before .before .before .before .before .args .s .now) (c .before .before .before .before .before .before .before .before .before .before .before .args .sh)) (c .before .before .before .before .before .before .before .before .before .before .before .args .sh) (c .before .before .before .before .before .before .before .before .before .before .before .args .id) _ _ (c .before .before .before .before .before .before .loop .inv .1) (c .before .before .before .before .before .loop-test .taken) _ _ _ (c .before .before .before .before .index-word .ensures) (c .before .before .before .row-word .ensures) (c .before .before .eq .ensures) _ (c .before .if1 .taken) (c .inc .ensures)
+returns c = link-yes (load (c .before .before .before .before .before .before .before .before .before .before .before .args .s .now) (c .before .before .before .before .before .before .before .before .before .before .before .args .sh)) (c .before .before .before .before .before .before .before .before .before .before .before .args .sh) (c .before .before .before .before .before .before .before .before .before .before .before .args .id) _ _ (c .before .before .before .before .before .before .loop .inv .1) (c .before .before .before .before .before .loop-test .taken) _ _ _ _ refl (c .before .before .before .before .index-word .ensures) (c .before .before .before .row-word .ensures) (c .before .before .eq .ensures) _ (c .before .if1 .taken) (c .inc .ensures)
 
--- src/lib.rt:21:9
+-- src/lib.rt:23:12
+lt-requires : tie.Need-lt-requires Inv-loop μ-loop
+lt-requires c κs = tt
+
+-- src/lib.rt:24:17
 add-i : tie.Need-add-i Inv-loop μ-loop
-add-i c = search needs
+add-i c = omega (arith, c .before .before .before .before .before .before .before .loop .inv .0)
+
+-- src/lib.rt:24:17
+add-i-2 : tie.Need-add-i-2 Inv-loop μ-loop
+add-i-2 c = omega (arith, c .before .before .before .before .before .before .before .loop .inv .0)
+
+-- src/lib.rt:25:17
+sub-n : tie.Need-sub-n Inv-loop μ-loop
+sub-n c = omega arith
+
+-- src/lib.rt:25:17
+sub-n-2 : tie.Need-sub-n-2 Inv-loop μ-loop
+sub-n-2 c = omega arith
 
 -- src/lib.rt:16:5
 loop-less : tie.Need-loop-less Inv-loop μ-loop
-loop-less c = search needs
+loop-less c = omega (arith, c .before .before .before .before .before .before .loop-test .taken)
 
 -- src/lib.rt:16:5
 loop-again : tie.Need-loop-again Inv-loop μ-loop
-loop-again c = (search needs, link-no (load (c .before .before .before .before .before .before .before .before .before .before .args .s .now) (c .before .before .before .before .before .before .before .before .before .before .args .sh)) (c .before .before .before .before .before .before .before .before .before .before .args .sh) (c .before .before .before .before .before .before .before .before .before .before .args .id) _ _ (c .before .before .before .before .before .loop .inv .1) (omega arith) _ _ _ (c .before .before .before .index-word .ensures) (c .before .before .row-word .ensures) (c .before .eq .ensures) (c .if1 .left))
+loop-again c = (omega (arith, c .before .before .before .before .before .before .before .loop .inv .0), link-above (load (c .before .before .before .before .before .before .before .before .before .before .before .before .args .s .now) (c .before .before .before .before .before .before .before .before .before .before .before .before .args .sh)) (c .before .before .before .before .before .before .before .before .before .before .before .before .args .sh) (c .before .before .before .before .before .before .before .before .before .before .before .before .args .id) _ _ (c .before .before .before .before .before .before .before .loop .inv .1) (c .before .before .before .before .before .before .loop-test .taken) _ _ _ _ refl (c .before .before .before .before .before .index-word .ensures) (c .before .before .before .before .row-word .ensures) (c .before .before .before .eq .ensures) (c .before .before .if1 .left) _ (c .before .lt .ensures) (c .if2 .taken))
+
+-- src/lib.rt:16:5
+loop-less-2 : tie.Need-loop-less-2 Inv-loop μ-loop
+loop-less-2 c = omega (arith, c .before .before .before .before .before .before .loop-test .taken)
+
+-- src/lib.rt:16:5
+loop-again-2 : tie.Need-loop-again-2 Inv-loop μ-loop
+loop-again-2 c = (omega (arith, c .before .before .before .before .before .before .before .loop .inv .0), link-below (load (c .before .before .before .before .before .before .before .before .before .before .before .before .args .s .now) (c .before .before .before .before .before .before .before .before .before .before .before .before .args .sh)) (c .before .before .before .before .before .before .before .before .before .before .before .before .args .sh) (c .before .before .before .before .before .before .before .before .before .before .before .before .args .id) _ _ (c .before .before .before .before .before .before .before .loop .inv .1) (c .before .before .before .before .before .before .loop-test .taken) _ _ _ _ refl (c .before .before .before .before .before .index-word .ensures) (c .before .before .before .before .row-word .ensures) (c .before .before .before .eq .ensures) (c .before .before .if1 .left) _ (c .before .lt .ensures) (c .if2 .left))
 
 -- src/lib.rt:10:1
 returns-2 : tie.Need-returns-2 Inv-loop μ-loop
@@ -84,12 +113,19 @@ row-of-spec =
     root-word-requires
     smaller-requires
     loop-holds
+    add-index-word
     index-word-requires
     row-word-requires
     eq-requires
     inc-requires
     returns
+    lt-requires
     add-i
+    add-i-2
+    sub-n
+    sub-n-2
     loop-less
     loop-again
+    loop-less-2
+    loop-again-2
     returns-2)

@@ -1,87 +1,108 @@
-use Rattle.lookup.specs.Walks.{Scanning, scan-first, scan-on, scan-full, scan-out}
-use Prim.Native.Nat.{_+_, _≤_}
+use borrow.Author.Needs.{needs}
+use mathlib.Core.Path.{_≡_}
+use Prim.Native.Nat.{_+_, _≤_, _<_}
 use native.Mathlib.Omega.{arith}
+use Rattle.model.specs.State.{maxSlots}
 use Rattle.layout.specs.Layout.{load}
+use Rattle.lookup.specs.Scan.{FrameFor}
+use Rattle.lookup.specs.Code.{frame-next}
+use Rattle.lookup.specs.Walks.{Scanning, scan-first, scan-took, scan-past, scan-done}
 use Rattle.lookup.proofs.scan.Statement.{statement}
 use Rattle.lookup.proofs.scan.Tie as tie
 use Rattle.lookup.proofs.scan.Reads as reads
 use Rattle.lookup.proofs.scan.Lts as lts
-use Rattle.lookup.proofs.empty_page.Reads as empty-page-reads
-use Rattle.lookup.proofs.ended.Reads as ended-reads
-use Rattle.lookup.proofs.full.Reads as full-reads
-use Rattle.lookup.proofs.stepped.Reads as stepped-reads
-use Rattle.lookup.proofs.table_length.Reads as table-length-reads
-use Rattle.words.proofs.smaller.Reads as smaller-reads
 
 abbrev Inv-loop : tie.InvT-loop
-Inv-loop s sh b cursor length start page₀ at₀ left₀ page at left = (start ≤ at) × (at + left ≤ length) × Scanning (load s sh) b start left₀ page at left
+Inv-loop s sh b cursor long start mask entries₀ len₀ fr₀ at₀ left₀ entries len fr at left =
+    (start ≤ at) × (at + left ≤ long) × (long ≤ 16777215) × (len ≤ 8) × (0 < left → FrameFor (load s sh) b at fr) × Scanning (load s sh) b start left₀ entries len at left
 
 abbrev μ-loop : tie.MeasureT-loop
-μ-loop s sh b cursor length start page₀ at₀ left₀ page at left = left
+μ-loop s sh b cursor long start mask entries₀ len₀ fr₀ at₀ left₀ entries len fr at left = left
 
--- src/lib.rt:313:9
 table-length-requires : tie.Need-table-length-requires Inv-loop μ-loop
 table-length-requires c κs = tt
 
--- src/lib.rt:314:9
 smaller-requires : tie.Need-smaller-requires Inv-loop μ-loop
 smaller-requires c κs = tt
 
--- src/lib.rt:315:9
-empty-page-requires : tie.Need-empty-page-requires Inv-loop μ-loop
-empty-page-requires c κs = tt
+head-word-requires : tie.Need-head-word-requires Inv-loop μ-loop
+head-word-requires c κs = tt
 
--- src/lib.rt:317:40
+no-entry-requires : tie.Need-no-entry-requires Inv-loop μ-loop
+no-entry-requires c κs = tt
+
+frame-link-requires : tie.Need-frame-link-requires Inv-loop μ-loop
+frame-link-requires c κs = tt
+
 sub-smaller : tie.Need-sub-smaller Inv-loop μ-loop
-sub-smaller c = omega (arith, c .before .smaller .ensures)
+sub-smaller c = omega (arith, c .before .before .before .smaller .ensures)
 
--- src/lib.rt:317:9
 smaller-requires-2 : tie.Need-smaller-requires-2 Inv-loop μ-loop
 smaller-requires-2 c κs = tt
 
--- src/lib.rt:318:5
 loop-holds : tie.Need-loop-holds Inv-loop μ-loop
-loop-holds c = (omega arith, omega (arith, c .before .before .smaller .ensures, c .smaller2 .ensures), scan-first _ _ _ _ _ (c .before .empty-page .ensures))
+unfolding maxSlots
+loop-holds c = (omega arith, omega (arith, c .before .before .before .before .smaller .ensures, c .smaller2 .ensures), omega (arith, c .before .before .before .before .before .table-length .ensures), omega arith, λ h n. c .before .frame-link .ensures, scan-first _ _ _ _ _ (c .before .before .no-entry .ensures))
 
--- src/lib.rt:319:12
-full-requires : tie.Need-full-requires Inv-loop μ-loop
-full-requires c κs = tt
-
--- src/lib.rt:320:13
 ended-requires : tie.Need-ended-requires Inv-loop μ-loop
 ended-requires c κs = omega arith
 
--- src/lib.rt:320:13
 returns : tie.Need-returns Inv-loop μ-loop
-returns c = scan-full _ _ _ _ _ _ _ (c .before .before .before .before .loop .inv .2) _ _ _ (c .before .before .before .before .before .before .before .before .table-length .ensures) (c .before .before .before .before .before .before .before .smaller .ensures) (c .before .before .before .before .before .smaller2 .ensures) (c .ended .ensures) _ (c .before .before .full .ensures) (c .before .if1 .taken)
+returns c = scan-done _ _ _ _ _ _ _ _ (c .before .before .before .loop .inv .5) (c .before .before .before .before .before .before .before .before .before .before .before .args .cursor) _ _ (c .before .before .before .before .before .before .before .before .before .table-length .ensures) (c .before .before .before .before .before .before .before .before .smaller .ensures) (c .before .before .before .before .smaller2 .ensures) (c .ended .ensures) (λ h. c .before .if1 .taken)
 
--- src/lib.rt:322:9
-stepped-requires : tie.Need-stepped-requires Inv-loop μ-loop
-stepped-requires c κs = tt
+frame-on-requires : tie.Need-frame-on-requires Inv-loop μ-loop
+frame-on-requires c κs = c .before .before .loop .inv .4 (c .before .loop-test .taken)
 
--- src/lib.rt:323:9
+tag-in-requires : tie.Need-tag-in-requires Inv-loop μ-loop
+tag-in-requires c κs = tt
+
+cell-in-requires : tie.Need-cell-in-requires Inv-loop μ-loop
+cell-in-requires c κs = tt
+
+eq-requires : tie.Need-eq-requires Inv-loop μ-loop
+eq-requires c κs = tt
+
+snapshot-by-requires : tie.Need-snapshot-by-requires Inv-loop μ-loop
+snapshot-by-requires c κs = tt
+
+mul-entries : tie.Need-mul-entries Inv-loop μ-loop
+mul-entries c = search needs
+
+array-set-from-entries : tie.Need-array-set-from-entries Inv-loop μ-loop
+array-set-from-entries c = search needs
+
+add-len : tie.Need-add-len Inv-loop μ-loop
+add-len c = omega arith
+
 add-at : tie.Need-add-at Inv-loop μ-loop
 add-at c = omega arith
 
--- src/lib.rt:324:9
 sub-left : tie.Need-sub-left Inv-loop μ-loop
 sub-left c = omega arith
 
--- src/lib.rt:318:5
 loop-less : tie.Need-loop-less Inv-loop μ-loop
 loop-less c = omega arith
 
--- src/lib.rt:318:5
 loop-again : tie.Need-loop-again Inv-loop μ-loop
-loop-again c = (omega arith, omega arith, scan-on _ _ _ _ _ _ _ (c .before .before .before .before .loop .inv .2) _ _ (c .before .before .full .ensures) (c .before .if1 .left) (c .before .before .before .loop-test .taken) (c .stepped .ensures))
+loop-again c = (omega arith, omega arith, c .before .before .before .before .before .before .before .before .loop .inv .2, omega arith, λ h. frame-next (load (c .before .before .before .before .before .before .before .before .before .before .before .before .before .before .before .before .args .s .now) (c .before .before .before .before .before .before .before .before .before .before .before .before .before .before .before .before .args .sh)) (c .before .before .before .before .before .before .before .before .before .before .before .before .before .before .before .before .args .b) _ _ (omega arith) (c .before .before .before .before .before .frame-on .ensures), scan-took _ _ _ _ _ _ _ _ (c .before .before .before .before .before .before .before .before .loop .inv .5) (c .before .before .before .before .before .before .before .loop-test .taken) (omega arith) _ _ _ (c .before .before .before .before .before .frame-on .ensures) (c .before .before .before .before .tag-in .ensures) (c .before .before .before .eq .ensures) _ _ _ (c .before .before .if2 .taken) (c .before .before .before .before .before .before .before .before .before .before .before .before .head-word .ensures) (c .before .cell-in .ensures) (c .snapshot-by .ensures))
 
--- src/lib.rt:326:5
+add-at-2 : tie.Need-add-at-2 Inv-loop μ-loop
+add-at-2 c = omega arith
+
+sub-left-2 : tie.Need-sub-left-2 Inv-loop μ-loop
+sub-left-2 c = omega arith
+
+loop-less-2 : tie.Need-loop-less-2 Inv-loop μ-loop
+loop-less-2 c = omega arith
+
+loop-again-2 : tie.Need-loop-again-2 Inv-loop μ-loop
+loop-again-2 c = (omega arith, omega arith, c .before .before .before .before .before .before .loop .inv .2, omega arith, λ h. frame-next (load (c .before .before .before .before .before .before .before .before .before .before .before .before .before .before .args .s .now) (c .before .before .before .before .before .before .before .before .before .before .before .before .before .before .args .sh)) (c .before .before .before .before .before .before .before .before .before .before .before .before .before .before .args .b) _ _ (omega arith) (c .before .before .before .frame-on .ensures), scan-past _ _ _ _ _ _ _ _ (c .before .before .before .before .before .before .loop .inv .5) (c .before .before .before .before .before .loop-test .taken) (omega arith) _ _ _ (c .before .before .before .frame-on .ensures) (c .before .before .tag-in .ensures) (c .before .eq .ensures) (c .if2 .left))
+
 ended-requires-2 : tie.Need-ended-requires-2 Inv-loop μ-loop
 ended-requires-2 c κs = omega arith
 
--- src/lib.rt:309:1
 returns-2 : tie.Need-returns-2 Inv-loop μ-loop
-returns-2 c = scan-out _ _ _ _ _ _ _ (c .before .before .loop .inv .2) _ _ _ (c .before .before .before .before .before .before .table-length .ensures) (c .before .before .before .before .before .smaller .ensures) (c .before .before .before .smaller2 .ensures) (c .ended2 .ensures) (c .before .loop-test .left)
+returns-2 c = scan-done _ _ _ _ _ _ _ _ (c .before .before .loop .inv .5) (c .before .before .before .before .before .before .before .before .before .before .args .cursor) _ _ (c .before .before .before .before .before .before .before .before .table-length .ensures) (c .before .before .before .before .before .before .before .smaller .ensures) (c .before .before .before .smaller2 .ensures) (c .ended2 .ensures) (λ h. absurd (omega arith))
 
 pub scan-spec : {M : Type 1} → statement M
 scan-spec =
@@ -91,17 +112,29 @@ scan-spec =
     μ-loop
     table-length-requires
     smaller-requires
-    empty-page-requires
+    head-word-requires
+    no-entry-requires
+    frame-link-requires
     sub-smaller
     smaller-requires-2
     loop-holds
-    full-requires
     ended-requires
     returns
-    stepped-requires
+    frame-on-requires
+    tag-in-requires
+    eq-requires
+    cell-in-requires
+    snapshot-by-requires
+    mul-entries
+    array-set-from-entries
+    add-len
     add-at
     sub-left
     loop-less
     loop-again
+    add-at-2
+    sub-left-2
+    loop-less-2
+    loop-again-2
     ended-requires-2
     returns-2)

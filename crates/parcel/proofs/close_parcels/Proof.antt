@@ -9,8 +9,8 @@ use Rattle.parcel.proofs.close_parcels.Reads as reads
 use Rattle.parcel.proofs.close_parcels.Lts as lts
 use Rattle.book.proofs.close_row.Reads as close-row-reads
 use Rattle.book.proofs.row_of.Reads as row-of-reads
-use Rattle.request.proofs.field.Reads as field-reads
-use Rattle.request.proofs.record_end.Reads as record-end-reads
+use Rattle.parcel.proofs.item_id.Reads as item-id-reads
+use Rattle.parcel.proofs.item_end.Reads as item-end-reads
 use Rattle.words.proofs.dec.Reads as dec-reads
 
 abbrev Inv-loop : tie.InvT-loop
@@ -24,8 +24,8 @@ loop-holds : tie.Need-loop-holds Inv-loop μ-loop
 loop-holds c = (refl, refl)
 
 -- src/lib.rt:352:40
-field-requires : tie.Need-field-requires Inv-loop μ-loop
-field-requires c κs = tt
+item-id-requires : tie.Need-item-id-requires Inv-loop μ-loop
+item-id-requires c κs = tt
 
 -- src/lib.rt:352:13
 row-of-requires : tie.Need-row-of-requires Inv-loop μ-loop
@@ -40,8 +40,8 @@ close-row-requires : tie.Need-close-row-requires Inv-loop μ-loop
 close-row-requires c κs = tt
 
 -- src/lib.rt:355:9
-record-end-requires : tie.Need-record-end-requires Inv-loop μ-loop
-record-end-requires c κs = tt
+item-end-requires : tie.Need-item-end-requires Inv-loop μ-loop
+item-end-requires c κs = tt
 
 -- src/lib.rt:356:9
 sub-more : tie.Need-sub-more Inv-loop μ-loop
@@ -53,7 +53,7 @@ loop-less c = search needs
 
 -- src/lib.rt:351:5
 loop-again : tie.Need-loop-again Inv-loop μ-loop
-loop-again c = (search needs, dropped-turn (c .before .before .before .before .before .before .before .before .before .before .before .before .before .args .sh) (c .before .before .before .before .before .before .before .before .before .before .before .before .before .args .rq .now) _ _ _ _ (c .before .before .before .before .before .before .before .before .before .before .loop .inv .1) _ _ _ _ _ (c .before .before .before .before .before .before .before .before .before .loop-test .taken) (c .before .before .before .before .before .before .before .field .ensures) (c .before .before .before .before .before .before .row-of .ensures) (c .before .before .before .before .before .dec .ensures) (c .before .before .before .close-row .ensures) (c .record-end .ensures))
+loop-again c = (search needs, dropped-turn (c .before .before .before .before .before .before .before .before .before .before .before .before .before .args .sh) (c .before .before .before .before .before .before .before .before .before .before .before .before .before .args .rq .now) _ _ _ _ (c .before .before .before .before .before .before .before .before .before .before .loop .inv .1) _ _ _ _ _ (c .before .before .before .before .before .before .before .before .before .loop-test .taken) (c .before .before .before .before .before .before .before .item-id .ensures) (c .before .before .before .before .before .before .row-of .ensures) (c .before .before .before .before .before .dec .ensures) (c .before .before .before .close-row .ensures) (c .item-end .ensures))
 
 -- src/lib.rt:346:1
 same-length : tie.Need-same-length Inv-loop μ-loop
@@ -70,11 +70,11 @@ close-parcels-spec =
     Inv-loop
     μ-loop
     loop-holds
-    field-requires
+    item-id-requires
     row-of-requires
     dec-requires
     close-row-requires
-    record-end-requires
+    item-end-requires
     sub-more
     loop-less
     loop-again

@@ -8,8 +8,8 @@ use Rattle.parcel.proofs.distinct_ids.Tie as tie
 use Rattle.parcel.proofs.distinct_ids.Reads as reads
 use Rattle.parcel.proofs.distinct_ids.Lts as lts
 use Rattle.parcel.proofs.named.Reads as named-reads
-use Rattle.request.proofs.field.Reads as field-reads
-use Rattle.request.proofs.record_end.Reads as record-end-reads
+use Rattle.parcel.proofs.item_id.Reads as item-id-reads
+use Rattle.parcel.proofs.item_end.Reads as item-end-reads
 
 abbrev Inv-loop : tie.InvT-loop
 Inv-loop rq at count place₀ more₀ place more = distinct (idsAt rq at count) ≡ distinct (idsAt rq place more)
@@ -22,12 +22,12 @@ loop-holds : tie.Need-loop-holds Inv-loop μ-loop
 loop-holds c = refl
 
 -- src/lib.rt:300:13
-field-requires : tie.Need-field-requires Inv-loop μ-loop
-field-requires c κs = tt
+item-id-requires : tie.Need-item-id-requires Inv-loop μ-loop
+item-id-requires c κs = tt
 
 -- src/lib.rt:301:13
-record-end-requires : tie.Need-record-end-requires Inv-loop μ-loop
-record-end-requires c κs = tt
+item-end-requires : tie.Need-item-end-requires Inv-loop μ-loop
+item-end-requires c κs = tt
 
 -- src/lib.rt:302:28
 sub-named : tie.Need-sub-named Inv-loop μ-loop
@@ -39,7 +39,7 @@ named-requires c κs = tt
 
 -- src/lib.rt:303:13
 returns : tie.Need-returns Inv-loop μ-loop
-returns c = distinct-no (c .before .before .before .before .before .before .before .args .rq .now) _ _ _ (c .before .before .before .before .before .loop .inv) (c .before .before .before .before .loop-test .taken) _ _ (c .before .before .before .field .ensures) (c .before .before .record-end .ensures) _ (c .before .named .ensures) (c .if1 .taken)
+returns c = distinct-no (c .before .before .before .before .before .before .before .args .rq .now) _ _ _ (c .before .before .before .before .before .loop .inv) (c .before .before .before .before .loop-test .taken) _ _ (c .before .before .before .item-id .ensures) (c .before .before .item-end .ensures) _ (c .before .named .ensures) (c .if1 .taken)
 
 -- src/lib.rt:306:9
 sub-more : tie.Need-sub-more Inv-loop μ-loop
@@ -51,7 +51,7 @@ loop-less c = search needs
 
 -- src/lib.rt:299:5
 loop-again : tie.Need-loop-again Inv-loop μ-loop
-loop-again c = distinct-turn (c .before .before .before .before .before .before .before .args .rq .now) _ _ _ (c .before .before .before .before .before .loop .inv) (c .before .before .before .before .loop-test .taken) _ _ (c .before .before .before .field .ensures) (c .before .before .record-end .ensures) _ (c .before .named .ensures) (c .if1 .left)
+loop-again c = distinct-turn (c .before .before .before .before .before .before .before .args .rq .now) _ _ _ (c .before .before .before .before .before .loop .inv) (c .before .before .before .before .loop-test .taken) _ _ (c .before .before .before .item-id .ensures) (c .before .before .item-end .ensures) _ (c .before .named .ensures) (c .if1 .left)
 
 -- src/lib.rt:294:1
 returns-2 : tie.Need-returns-2 Inv-loop μ-loop
@@ -64,8 +64,8 @@ distinct-ids-spec =
     Inv-loop
     μ-loop
     loop-holds
-    field-requires
-    record-end-requires
+    item-id-requires
+    item-end-requires
     sub-named
     named-requires
     returns

@@ -11,8 +11,8 @@ use Rattle.layout.proofs.row_word.Reads as row-word-reads
 use Rattle.parcel.proofs.add.Reads as add-reads
 use Rattle.parcel.proofs.fill_from.Reads as fill-from-reads
 use Rattle.parcel.proofs.parcel_of.Reads as parcel-of-reads
-use Rattle.request.proofs.field.Reads as field-reads
-use Rattle.request.proofs.record_end.Reads as record-end-reads
+use Rattle.parcel.proofs.item_id.Reads as item-id-reads
+use Rattle.parcel.proofs.item_end.Reads as item-end-reads
 use Rattle.words.proofs.dec.Reads as dec-reads
 
 abbrev Inv-loop : tie.InvT-loop
@@ -26,8 +26,8 @@ loop-holds : tie.Need-loop-holds Inv-loop μ-loop
 loop-holds c = (refl, refl)
 
 -- src/lib.rt:335:51
-field-requires : tie.Need-field-requires Inv-loop μ-loop
-field-requires c κs = tt
+item-id-requires : tie.Need-item-id-requires Inv-loop μ-loop
+item-id-requires c κs = tt
 
 -- src/lib.rt:335:13
 parcel-of-requires : tie.Need-parcel-of-requires Inv-loop μ-loop
@@ -50,8 +50,8 @@ add-requires : tie.Need-add-requires Inv-loop μ-loop
 add-requires c κs = tt
 
 -- src/lib.rt:340:9
-record-end-requires : tie.Need-record-end-requires Inv-loop μ-loop
-record-end-requires c κs = tt
+item-end-requires : tie.Need-item-end-requires Inv-loop μ-loop
+item-end-requires c κs = tt
 
 -- src/lib.rt:341:9
 sub-more : tie.Need-sub-more Inv-loop μ-loop
@@ -63,7 +63,7 @@ loop-less c = search needs
 
 -- src/lib.rt:334:5
 loop-again : tie.Need-loop-again Inv-loop μ-loop
-loop-again c = (search needs, published-turn (c .before .before .before .before .before .before .before .before .before .before .before .before .before .before .before .before .args .sh) (c .before .before .before .before .before .before .before .before .before .before .before .before .before .before .before .before .args .rq .now) _ _ (c .before .before .before .before .before .before .before .before .before .before .before .before .before .before .before .before .args .b) (c .before .before .before .before .before .before .before .before .before .before .before .before .before .before .before .before .args .x) _ _ _ (c .before .before .before .before .before .before .before .before .before .before .before .before .before .loop .inv .1) _ _ _ _ _ _ _ (c .before .before .before .before .before .before .before .before .before .before .before .before .loop-test .taken) (c .before .before .before .before .before .before .before .before .before .before .field .ensures) (c .before .before .before .before .before .before .before .before .before .parcel-of .ensures) (c .before .before .before .before .before .before .before .before .dec .ensures) (c .before .before .before .before .before .before .row-word .ensures) (c .before .before .before .before .fill-from .ensures) (c .before .add .ensures) (c .record-end .ensures))
+loop-again c = (search needs, published-turn (c .before .before .before .before .before .before .before .before .before .before .before .before .before .before .before .before .args .sh) (c .before .before .before .before .before .before .before .before .before .before .before .before .before .before .before .before .args .rq .now) _ _ (c .before .before .before .before .before .before .before .before .before .before .before .before .before .before .before .before .args .b) (c .before .before .before .before .before .before .before .before .before .before .before .before .before .before .before .before .args .x) _ _ _ (c .before .before .before .before .before .before .before .before .before .before .before .before .before .loop .inv .1) _ _ _ _ _ _ _ (c .before .before .before .before .before .before .before .before .before .before .before .before .loop-test .taken) (c .before .before .before .before .before .before .before .before .before .before .item-id .ensures) (c .before .before .before .before .before .before .before .before .before .parcel-of .ensures) (c .before .before .before .before .before .before .before .before .dec .ensures) (c .before .before .before .before .before .before .row-word .ensures) (c .before .before .before .before .fill-from .ensures) (c .before .add .ensures) (c .item-end .ensures))
 
 -- src/lib.rt:328:1
 same-length : tie.Need-same-length Inv-loop μ-loop
@@ -80,13 +80,13 @@ fill-slots-spec =
     Inv-loop
     μ-loop
     loop-holds
-    field-requires
+    item-id-requires
     parcel-of-requires
     dec-requires
     row-word-requires
     fill-from-requires
     add-requires
-    record-end-requires
+    item-end-requires
     sub-more
     loop-less
     loop-again

@@ -7,8 +7,8 @@ use Rattle.parcel.proofs.named.Statement.{statement}
 use Rattle.parcel.proofs.named.Tie as tie
 use Rattle.parcel.proofs.named.Reads as reads
 use Rattle.parcel.proofs.named.Lts as lts
-use Rattle.request.proofs.field.Reads as field-reads
-use Rattle.request.proofs.record_end.Reads as record-end-reads
+use Rattle.parcel.proofs.item_id.Reads as item-id-reads
+use Rattle.parcel.proofs.item_end.Reads as item-end-reads
 use Rattle.words.proofs.eq.Reads as eq-reads
 
 abbrev Inv-loop : tie.InvT-loop
@@ -22,8 +22,8 @@ loop-holds : tie.Need-loop-holds Inv-loop μ-loop
 loop-holds c = refl
 
 -- src/lib.rt:283:13
-field-requires : tie.Need-field-requires Inv-loop μ-loop
-field-requires c κs = tt
+item-id-requires : tie.Need-item-id-requires Inv-loop μ-loop
+item-id-requires c κs = tt
 
 -- src/lib.rt:284:12
 eq-requires : tie.Need-eq-requires Inv-loop μ-loop
@@ -31,11 +31,11 @@ eq-requires c κs = tt
 
 -- src/lib.rt:285:13
 returns : tie.Need-returns Inv-loop μ-loop
-returns c = named-yes (c .before .before .before .before .before .before .args .rq .now) _ (c .before .before .before .before .before .before .args .id) _ _ (c .before .before .before .before .loop .inv) (c .before .before .before .loop-test .taken) _ (c .before .before .field .ensures) _ (c .before .eq .ensures) (c .if1 .taken)
+returns c = named-yes (c .before .before .before .before .before .before .args .rq .now) _ (c .before .before .before .before .before .before .args .id) _ _ (c .before .before .before .before .loop .inv) (c .before .before .before .loop-test .taken) _ (c .before .before .item-id .ensures) _ (c .before .eq .ensures) (c .if1 .taken)
 
 -- src/lib.rt:287:9
-record-end-requires : tie.Need-record-end-requires Inv-loop μ-loop
-record-end-requires c κs = tt
+item-end-requires : tie.Need-item-end-requires Inv-loop μ-loop
+item-end-requires c κs = tt
 
 -- src/lib.rt:288:9
 sub-more : tie.Need-sub-more Inv-loop μ-loop
@@ -47,7 +47,7 @@ loop-less c = search needs
 
 -- src/lib.rt:282:5
 loop-again : tie.Need-loop-again Inv-loop μ-loop
-loop-again c = named-turn (c .before .before .before .before .before .before .before .args .rq .now) _ (c .before .before .before .before .before .before .before .args .id) _ _ (c .before .before .before .before .before .loop .inv) (c .before .before .before .before .loop-test .taken) _ (c .before .before .before .field .ensures) _ (c .before .before .eq .ensures) _ (c .before .if1 .left) (c .record-end .ensures)
+loop-again c = named-turn (c .before .before .before .before .before .before .before .args .rq .now) _ (c .before .before .before .before .before .before .before .args .id) _ _ (c .before .before .before .before .before .loop .inv) (c .before .before .before .before .loop-test .taken) _ (c .before .before .before .item-id .ensures) _ (c .before .before .eq .ensures) _ (c .before .if1 .left) (c .item-end .ensures)
 
 -- src/lib.rt:277:1
 returns-2 : tie.Need-returns-2 Inv-loop μ-loop
@@ -60,10 +60,10 @@ named-spec =
     Inv-loop
     μ-loop
     loop-holds
-    field-requires
+    item-id-requires
     eq-requires
     returns
-    record-end-requires
+    item-end-requires
     sub-more
     loop-less
     loop-again

@@ -9,8 +9,8 @@ use Rattle.parcel.proofs.parcels_fit.Reads as reads
 use Rattle.parcel.proofs.parcels_fit.Lts as lts
 use Rattle.layout.proofs.row_word.Reads as row-word-reads
 use Rattle.parcel.proofs.parcel_of.Reads as parcel-of-reads
-use Rattle.request.proofs.field.Reads as field-reads
-use Rattle.request.proofs.record_end.Reads as record-end-reads
+use Rattle.parcel.proofs.item_id.Reads as item-id-reads
+use Rattle.parcel.proofs.item_end.Reads as item-end-reads
 use Rattle.words.proofs.dec.Reads as dec-reads
 use Rattle.words.proofs.eq.Reads as eq-reads
 use Rattle.words.proofs.lt.Reads as lt-reads
@@ -26,8 +26,8 @@ loop-holds : tie.Need-loop-holds Inv-loop μ-loop
 loop-holds c = refl
 
 -- src/lib.rt:261:51
-field-requires : tie.Need-field-requires Inv-loop μ-loop
-field-requires c κs = tt
+item-id-requires : tie.Need-item-id-requires Inv-loop μ-loop
+item-id-requires c κs = tt
 
 -- src/lib.rt:261:13
 parcel-of-requires : tie.Need-parcel-of-requires Inv-loop μ-loop
@@ -39,7 +39,7 @@ eq-requires c κs = tt
 
 -- src/lib.rt:263:13
 returns : tie.Need-returns Inv-loop μ-loop
-returns c = fits-unknown (load (c .before .before .before .before .before .before .before .before .args .s .now) (c .before .before .before .before .before .before .before .before .args .sh)) (c .before .before .before .before .before .before .before .before .args .sh) (c .before .before .before .before .before .before .before .before .args .rq .now) _ _ _ _ (c .before .before .before .before .before .loop .inv) (c .before .before .before .before .loop-test .taken) _ _ (c .before .before .before .field .ensures) (c .before .before .parcel-of .ensures) _ (c .before .eq .ensures) (c .if1 .taken)
+returns c = fits-unknown (load (c .before .before .before .before .before .before .before .before .args .s .now) (c .before .before .before .before .before .before .before .before .args .sh)) (c .before .before .before .before .before .before .before .before .args .sh) (c .before .before .before .before .before .before .before .before .args .rq .now) _ _ _ _ (c .before .before .before .before .before .loop .inv) (c .before .before .before .before .loop-test .taken) _ _ (c .before .before .before .item-id .ensures) (c .before .before .parcel-of .ensures) _ (c .before .eq .ensures) (c .if1 .taken)
 
 -- src/lib.rt:265:41
 dec-requires : tie.Need-dec-requires Inv-loop μ-loop
@@ -55,15 +55,15 @@ lt-requires c κs = tt
 
 -- src/lib.rt:267:13
 returns-2 : tie.Need-returns-2 Inv-loop μ-loop
-returns-2 c = fits-over (load (c .before .before .before .before .before .before .before .before .before .before .before .before .args .s .now) (c .before .before .before .before .before .before .before .before .before .before .before .before .args .sh)) (c .before .before .before .before .before .before .before .before .before .before .before .before .args .sh) (c .before .before .before .before .before .before .before .before .before .before .before .before .args .rq .now) _ _ _ _ (c .before .before .before .before .before .before .before .before .before .loop .inv) (c .before .before .before .before .before .before .before .before .loop-test .taken) _ _ (c .before .before .before .before .before .before .before .field .ensures) (c .before .before .before .before .before .before .parcel-of .ensures) _ (c .before .before .before .before .before .eq .ensures) (c .before .before .before .before .if1 .left) _ _ (c .before .before .before .dec .ensures) (c .before .before .row-word .ensures) _ (c .before .lt .ensures) (c .if2 .taken)
+returns-2 c = fits-over (load (c .before .before .before .before .before .before .before .before .before .before .before .before .args .s .now) (c .before .before .before .before .before .before .before .before .before .before .before .before .args .sh)) (c .before .before .before .before .before .before .before .before .before .before .before .before .args .sh) (c .before .before .before .before .before .before .before .before .before .before .before .before .args .rq .now) _ _ _ _ (c .before .before .before .before .before .before .before .before .before .loop .inv) (c .before .before .before .before .before .before .before .before .loop-test .taken) _ _ (c .before .before .before .before .before .before .before .item-id .ensures) (c .before .before .before .before .before .before .parcel-of .ensures) _ (c .before .before .before .before .before .eq .ensures) (c .before .before .before .before .if1 .left) _ _ (c .before .before .before .dec .ensures) (c .before .before .row-word .ensures) _ (c .before .lt .ensures) (c .if2 .taken)
 
 -- src/lib.rt:269:9
 sub-left : tie.Need-sub-left Inv-loop μ-loop
 sub-left c = room-left _ _ _ (c .before .lt .ensures) (c .if2 .left)
 
 -- src/lib.rt:270:9
-record-end-requires : tie.Need-record-end-requires Inv-loop μ-loop
-record-end-requires c κs = tt
+item-end-requires : tie.Need-item-end-requires Inv-loop μ-loop
+item-end-requires c κs = tt
 
 -- src/lib.rt:271:9
 sub-more : tie.Need-sub-more Inv-loop μ-loop
@@ -75,7 +75,7 @@ loop-less c = search needs
 
 -- src/lib.rt:260:5
 loop-again : tie.Need-loop-again Inv-loop μ-loop
-loop-again c = fits-turn (load (c .before .before .before .before .before .before .before .before .before .before .before .before .before .args .s .now) (c .before .before .before .before .before .before .before .before .before .before .before .before .before .args .sh)) (c .before .before .before .before .before .before .before .before .before .before .before .before .before .args .sh) (c .before .before .before .before .before .before .before .before .before .before .before .before .before .args .rq .now) _ _ _ _ (c .before .before .before .before .before .before .before .before .before .before .loop .inv) (c .before .before .before .before .before .before .before .before .before .loop-test .taken) _ _ (c .before .before .before .before .before .before .before .before .field .ensures) (c .before .before .before .before .before .before .before .parcel-of .ensures) _ (c .before .before .before .before .before .before .eq .ensures) (c .before .before .before .before .before .if1 .left) _ _ (c .before .before .before .before .dec .ensures) (c .before .before .before .row-word .ensures) _ (c .before .before .lt .ensures) _ (c .before .if2 .left) (c .record-end .ensures)
+loop-again c = fits-turn (load (c .before .before .before .before .before .before .before .before .before .before .before .before .before .args .s .now) (c .before .before .before .before .before .before .before .before .before .before .before .before .before .args .sh)) (c .before .before .before .before .before .before .before .before .before .before .before .before .before .args .sh) (c .before .before .before .before .before .before .before .before .before .before .before .before .before .args .rq .now) _ _ _ _ (c .before .before .before .before .before .before .before .before .before .before .loop .inv) (c .before .before .before .before .before .before .before .before .before .loop-test .taken) _ _ (c .before .before .before .before .before .before .before .before .item-id .ensures) (c .before .before .before .before .before .before .before .parcel-of .ensures) _ (c .before .before .before .before .before .before .eq .ensures) (c .before .before .before .before .before .if1 .left) _ _ (c .before .before .before .before .dec .ensures) (c .before .before .before .row-word .ensures) _ (c .before .before .lt .ensures) _ (c .before .if2 .left) (c .item-end .ensures)
 
 -- src/lib.rt:273:5
 eq-requires-2 : tie.Need-eq-requires-2 Inv-loop μ-loop
@@ -92,7 +92,7 @@ parcels-fit-spec =
     Inv-loop
     μ-loop
     loop-holds
-    field-requires
+    item-id-requires
     parcel-of-requires
     eq-requires
     returns
@@ -101,7 +101,7 @@ parcels-fit-spec =
     lt-requires
     returns-2
     sub-left
-    record-end-requires
+    item-end-requires
     sub-more
     loop-less
     loop-again

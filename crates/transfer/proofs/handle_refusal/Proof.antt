@@ -5,7 +5,7 @@ use Rattle.transfer.proofs.handle_refusal.Statement.{statement}
 use Rattle.transfer.proofs.handle_refusal.Tie as tie
 use Rattle.transfer.proofs.handle_refusal.Reads as reads
 use Rattle.transfer.proofs.handle_refusal.Lts as lts
-use Rattle.object.proofs.read_object.Reads as read-object-reads
+use Rattle.transfer.proofs.look_at.Reads as look-at-reads
 use Rattle.transfer.proofs.object_refusal.Reads as object-refusal-reads
 use Rattle.transfer.proofs.rights_refusal.Reads as rights-refusal-reads
 use Rattle.words.proofs.ne.Reads as ne-reads
@@ -23,8 +23,8 @@ returns : tie.Need-returns
 returns c = handle-rights (load (c .before .before .before .before .args .s .now) (c .before .before .before .before .args .sh)) (c .before .before .before .before .args .h) (c .before .before .before .before .args .t .route) (asOption (c .before .before .before .before .args .t .«forbidden_object»)) (asOption (c .before .before .before .before .args .t .«forbidden_kind»)) (itemBy (c .before .before .before .before .args .q)) _ (c .before .before .rights-refusal .ensures) _ (c .before .ne .ensures) (c .if1 .taken)
 
 -- src/lib.rt:373:9
-read-object-requires : tie.Need-read-object-requires
-read-object-requires c κs = tt
+look-at-requires : tie.Need-look-at-requires
+look-at-requires c κs = tt
 
 -- src/lib.rt:374:5
 object-refusal-requires : tie.Need-object-refusal-requires
@@ -32,7 +32,7 @@ object-refusal-requires c κs = tt
 
 -- src/lib.rt:360:1
 returns-2 : tie.Need-returns-2
-returns-2 c = handle-object (load (c .before .before .before .before .before .before .args .s .now) (c .before .before .before .before .before .before .args .sh)) (c .before .before .before .before .before .before .args .h) (c .before .before .before .before .before .before .args .t .route) (asOption (c .before .before .before .before .before .before .args .t .«forbidden_object»)) (asOption (c .before .before .before .before .before .before .args .t .«forbidden_kind»)) (itemBy (c .before .before .before .before .before .before .args .q)) _ (c .before .before .before .before .rights-refusal .ensures) _ (c .before .before .before .ne .ensures) _ _ (c .before .before .if1 .left) (c .before .read-object .ensures) (c .object-refusal .ensures)
+returns-2 c = handle-object (load (c .before .before .before .before .before .before .args .s .now) (c .before .before .before .before .before .before .args .sh)) (c .before .before .before .before .before .before .args .h) (c .before .before .before .before .before .before .args .t .route) (asOption (c .before .before .before .before .before .before .args .t .«forbidden_object»)) (asOption (c .before .before .before .before .before .before .args .t .«forbidden_kind»)) (itemBy (c .before .before .before .before .before .before .args .q)) _ (c .before .before .before .before .rights-refusal .ensures) _ (c .before .before .before .ne .ensures) _ _ (c .before .before .if1 .left) (c .before .look-at .ensures) (c .object-refusal .ensures)
 
 pub handle-refusal-spec : {M : Type 1} → statement M
 handle-refusal-spec =
@@ -41,6 +41,6 @@ handle-refusal-spec =
     rights-refusal-requires
     ne-requires
     returns
-    read-object-requires
+    look-at-requires
     object-refusal-requires
     returns-2)

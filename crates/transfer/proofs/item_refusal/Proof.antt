@@ -10,15 +10,15 @@ use Rattle.transfer.proofs.item_refusal.Reads as reads
 use Rattle.transfer.proofs.item_refusal.Lts as lts
 use Rattle.lookup.proofs.find_handle.Reads as find-handle-reads
 use Rattle.transfer.proofs.handle_refusal.Reads as handle-refusal-reads
-use Rattle.transfer.proofs.listed.Reads as listed-reads
+use Rattle.transfer.proofs.twice.Reads as twice-reads
 
 -- src/lib.rt:408:8
-listed-requires : tie.Need-listed-requires
-listed-requires c κs = tt
+twice-requires : tie.Need-twice-requires
+twice-requires c κs = c .before .before .before .pre
 
 -- src/lib.rt:409:9
 returns : tie.Need-returns
-returns c = item-twice (load (c .before .before .before .before .before .args .s .now) (c .before .before .before .before .before .args .sh)) (c .before .before .before .before .before .args .b) (c .before .before .before .before .before .args .t .route) (asOption (c .before .before .before .before .before .args .t .«forbidden_object»)) (asOption (c .before .before .before .before .before .args .t .«forbidden_kind»)) (earlierAt (c .before .before .before .before .before .args .rq .now) (c .before .before .before .before .before .args .at) (c .before .before .before .before .before .args .n)) (c .before .before .before .before .before .args .q) _ (c .before .listed .ensures) (c .if1 .taken)
+returns c = item-twice (load (c .before .before .before .before .before .args .s .now) (c .before .before .before .before .before .args .sh)) (c .before .before .before .before .before .args .b) (c .before .before .before .before .before .args .t .route) (asOption (c .before .before .before .before .before .args .t .«forbidden_object»)) (asOption (c .before .before .before .before .before .args .t .«forbidden_kind»)) (earlierAt (c .before .before .before .before .before .args .rq .now) (c .before .before .before .before .before .args .at) (c .before .before .before .before .before .args .n)) (c .before .before .before .before .before .args .q) _ (c .before .twice .ensures) (c .if1 .taken)
 
 -- src/lib.rt:411:11
 find-handle-requires : tie.Need-find-handle-requires
@@ -42,21 +42,21 @@ handle-refusal-requires c κs = tt
 
 -- src/lib.rt:395:1
 returns-2 : tie.Need-returns-2
-returns-2 c = item-view (load (c .before .before .before .before .before .before .before .before .args .s .now) (c .before .before .before .before .before .before .before .before .args .sh)) (c .before .before .before .before .before .before .before .before .args .b) (c .before .before .before .before .before .before .before .before .args .t .route) (asOption (c .before .before .before .before .before .before .before .before .args .t .«forbidden_object»)) (asOption (c .before .before .before .before .before .before .before .before .args .t .«forbidden_kind»)) (earlierAt (c .before .before .before .before .before .before .before .before .args .rq .now) (c .before .before .before .before .before .before .before .before .args .at) (c .before .before .before .before .before .before .before .before .args .n)) (c .before .before .before .before .before .before .before .before .args .q) _ (c .before .before .before .before .listed .ensures) _ Invalid _ (c .before .before .before .if1 .left) (c .before .before .find-handle .ensures) (c .enum-told .given .1) refl
+returns-2 c = item-view (load (c .before .before .before .before .before .before .before .before .args .s .now) (c .before .before .before .before .before .before .before .before .args .sh)) (c .before .before .before .before .before .before .before .before .args .b) (c .before .before .before .before .before .before .before .before .args .t .route) (asOption (c .before .before .before .before .before .before .before .before .args .t .«forbidden_object»)) (asOption (c .before .before .before .before .before .before .before .before .args .t .«forbidden_kind»)) (earlierAt (c .before .before .before .before .before .before .before .before .args .rq .now) (c .before .before .before .before .before .before .before .before .args .at) (c .before .before .before .before .before .before .before .before .args .n)) (c .before .before .before .before .before .before .before .before .args .q) _ (c .before .before .before .before .twice .ensures) _ Invalid _ (c .before .before .before .if1 .left) (c .before .before .find-handle .ensures) (c .enum-told .given .1) refl
 
 -- src/lib.rt:395:1
 returns-3 : tie.Need-returns-3
-returns-3 c = item-view (load (c .before .before .before .before .before .before .before .before .args .s .now) (c .before .before .before .before .before .before .before .before .args .sh)) (c .before .before .before .before .before .before .before .before .args .b) (c .before .before .before .before .before .before .before .before .args .t .route) (asOption (c .before .before .before .before .before .before .before .before .args .t .«forbidden_object»)) (asOption (c .before .before .before .before .before .before .before .before .args .t .«forbidden_kind»)) (earlierAt (c .before .before .before .before .before .before .before .before .args .rq .now) (c .before .before .before .before .before .before .before .before .args .at) (c .before .before .before .before .before .before .before .before .args .n)) (c .before .before .before .before .before .before .before .before .args .q) _ (c .before .before .before .before .listed .ensures) _ Busy _ (c .before .before .before .if1 .left) (c .before .before .find-handle .ensures) (c .enum-told2 .given .1) refl
+returns-3 c = item-view (load (c .before .before .before .before .before .before .before .before .args .s .now) (c .before .before .before .before .before .before .before .before .args .sh)) (c .before .before .before .before .before .before .before .before .args .b) (c .before .before .before .before .before .before .before .before .args .t .route) (asOption (c .before .before .before .before .before .before .before .before .args .t .«forbidden_object»)) (asOption (c .before .before .before .before .before .before .before .before .args .t .«forbidden_kind»)) (earlierAt (c .before .before .before .before .before .before .before .before .args .rq .now) (c .before .before .before .before .before .before .before .before .args .at) (c .before .before .before .before .before .before .before .before .args .n)) (c .before .before .before .before .before .before .before .before .args .q) _ (c .before .before .before .before .twice .ensures) _ Busy _ (c .before .before .before .if1 .left) (c .before .before .find-handle .ensures) (c .enum-told2 .given .1) refl
 
 -- src/lib.rt:395:1
 returns-4 : tie.Need-returns-4
-returns-4 c = item-view (load (c .before .before .before .before .before .before .before .before .before .before .args .s .now) (c .before .before .before .before .before .before .before .before .before .before .args .sh)) (c .before .before .before .before .before .before .before .before .before .before .args .b) (c .before .before .before .before .before .before .before .before .before .before .args .t .route) (asOption (c .before .before .before .before .before .before .before .before .before .before .args .t .«forbidden_object»)) (asOption (c .before .before .before .before .before .before .before .before .before .before .args .t .«forbidden_kind»)) (earlierAt (c .before .before .before .before .before .before .before .before .before .before .args .rq .now) (c .before .before .before .before .before .before .before .before .before .before .args .at) (c .before .before .before .before .before .before .before .before .before .before .args .n)) (c .before .before .before .before .before .before .before .before .before .before .args .q) _ (c .before .before .before .before .before .before .listed .ensures) _ _ _ (c .before .before .before .before .before .if1 .left) (c .before .before .before .before .find-handle .ensures) (c .before .before .h .given .1) (c .handle-refusal .ensures)
+returns-4 c = item-view (load (c .before .before .before .before .before .before .before .before .before .before .args .s .now) (c .before .before .before .before .before .before .before .before .before .before .args .sh)) (c .before .before .before .before .before .before .before .before .before .before .args .b) (c .before .before .before .before .before .before .before .before .before .before .args .t .route) (asOption (c .before .before .before .before .before .before .before .before .before .before .args .t .«forbidden_object»)) (asOption (c .before .before .before .before .before .before .before .before .before .before .args .t .«forbidden_kind»)) (earlierAt (c .before .before .before .before .before .before .before .before .before .before .args .rq .now) (c .before .before .before .before .before .before .before .before .before .before .args .at) (c .before .before .before .before .before .before .before .before .before .before .args .n)) (c .before .before .before .before .before .before .before .before .before .before .args .q) _ (c .before .before .before .before .before .before .twice .ensures) _ _ _ (c .before .before .before .before .before .if1 .left) (c .before .before .before .before .find-handle .ensures) (c .before .before .h .given .1) (c .handle-refusal .ensures)
 
 pub item-refusal-spec : {M : Type 1} → statement M
 item-refusal-spec =
     tie.close
     (tie.spec
-    listed-requires
+    twice-requires
     returns
     find-handle-requires
     enum-told

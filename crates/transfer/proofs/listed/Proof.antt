@@ -11,8 +11,8 @@ use Rattle.transfer.proofs.listed.Statement.{statement}
 use Rattle.transfer.proofs.listed.Tie as tie
 use Rattle.transfer.proofs.listed.Reads as reads
 use Rattle.transfer.proofs.listed.Lts as lts
-use Rattle.request.proofs.field.Reads as field-reads
-use Rattle.request.proofs.record_end.Reads as record-end-reads
+use Rattle.transfer.proofs.item_value.Reads as item-value-reads
+use Rattle.transfer.proofs.item_end.Reads as item-end-reads
 use Rattle.words.proofs.eq.Reads as eq-reads
 
 abbrev Inv-loop : tie.InvT-loop
@@ -26,8 +26,8 @@ loop-holds : tie.Need-loop-holds Inv-loop μ-loop
 loop-holds c = (omega arith, place-first (c .before .args .rq .now) (c .before .args .at), earlier-none (c .before .args .rq .now) (c .before .args .at) (c .before .args .v))
 
 -- src/lib.rt:384:13
-field-requires : tie.Need-field-requires Inv-loop μ-loop
-field-requires c κs = tt
+item-value-requires : tie.Need-item-value-requires Inv-loop μ-loop
+item-value-requires c κs = tt
 
 -- src/lib.rt:385:12
 eq-requires : tie.Need-eq-requires Inv-loop μ-loop
@@ -35,11 +35,11 @@ eq-requires c κs = tt
 
 -- src/lib.rt:386:13
 returns : tie.Need-returns Inv-loop μ-loop
-returns c = listed-yes (c .before .before .before .before .before .before .args .rq .now) (c .before .before .before .before .before .before .args .at) (c .before .before .before .before .before .before .args .v) _ _ (c .before .before .before .before .loop .inv .1) _ (c .before .before .field .ensures) _ (c .before .eq .ensures) (c .before .before .before .before .before .before .args .n) (c .before .before .before .loop-test .taken) (c .if1 .taken)
+returns c = listed-yes (c .before .before .before .before .before .before .args .rq .now) (c .before .before .before .before .before .before .args .at) (c .before .before .before .before .before .before .args .v) _ _ (c .before .before .before .before .loop .inv .1) _ (c .before .before .item-value .ensures) _ (c .before .eq .ensures) (c .before .before .before .before .before .before .args .n) (c .before .before .before .loop-test .taken) (c .if1 .taken)
 
 -- src/lib.rt:388:9
-record-end-requires : tie.Need-record-end-requires Inv-loop μ-loop
-record-end-requires c κs = tt
+item-end-requires : tie.Need-item-end-requires Inv-loop μ-loop
+item-end-requires c κs = tt
 
 -- src/lib.rt:389:9
 add-i : tie.Need-add-i Inv-loop μ-loop
@@ -51,7 +51,7 @@ loop-less c = search needs
 
 -- src/lib.rt:383:5
 loop-again : tie.Need-loop-again Inv-loop μ-loop
-loop-again c = (omega (arith, c .before .before .before .before .loop-test .taken), place-turn (c .before .before .before .before .before .before .before .args .rq .now) (c .before .before .before .before .before .before .before .args .at) _ _ _ (c .before .before .before .before .before .loop .inv .1) (c .record-end .ensures), listed-turn (c .before .before .before .before .before .before .before .args .rq .now) (c .before .before .before .before .before .before .before .args .at) (c .before .before .before .before .before .before .before .args .v) _ _ (c .before .before .before .before .before .loop .inv .1) _ (c .before .before .before .field .ensures) _ (c .before .before .eq .ensures) (c .before .if1 .left) (c .before .before .before .before .before .loop .inv .2))
+loop-again c = (omega (arith, c .before .before .before .before .loop-test .taken), place-turn (c .before .before .before .before .before .before .before .args .rq .now) (c .before .before .before .before .before .before .before .args .at) _ _ _ (c .before .before .before .before .before .loop .inv .1) (c .item-end .ensures), listed-turn (c .before .before .before .before .before .before .before .args .rq .now) (c .before .before .before .before .before .before .before .args .at) (c .before .before .before .before .before .before .before .args .v) _ _ (c .before .before .before .before .before .loop .inv .1) _ (c .before .before .before .item-value .ensures) _ (c .before .before .eq .ensures) (c .before .if1 .left) (c .before .before .before .before .before .loop .inv .2))
 
 -- src/lib.rt:378:1
 returns-2 : tie.Need-returns-2 Inv-loop μ-loop
@@ -64,10 +64,10 @@ listed-spec =
     Inv-loop
     μ-loop
     loop-holds
-    field-requires
+    item-value-requires
     eq-requires
     returns
-    record-end-requires
+    item-end-requires
     add-i
     loop-less
     loop-again

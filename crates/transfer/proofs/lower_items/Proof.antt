@@ -8,7 +8,7 @@ use Rattle.transfer.proofs.lower_items.Statement.{statement}
 use Rattle.transfer.proofs.lower_items.Tie as tie
 use Rattle.transfer.proofs.lower_items.Reads as reads
 use Rattle.transfer.proofs.lower_items.Lts as lts
-use Rattle.request.proofs.record_end.Reads as record-end-reads
+use Rattle.transfer.proofs.item_end.Reads as item-end-reads
 use Rattle.transfer.proofs.lower_item.Reads as lower-item-reads
 use Rattle.transfer.proofs.read_item.Reads as read-item-reads
 
@@ -31,8 +31,8 @@ lower-item-requires : tie.Need-lower-item-requires Inv-loop μ-loop
 lower-item-requires c κs = tt
 
 -- src/lib.rt:510:9
-record-end-requires : tie.Need-record-end-requires Inv-loop μ-loop
-record-end-requires c κs = tt
+item-end-requires : tie.Need-item-end-requires Inv-loop μ-loop
+item-end-requires c κs = tt
 
 -- src/lib.rt:511:9
 sub-more : tie.Need-sub-more Inv-loop μ-loop
@@ -44,7 +44,7 @@ loop-less c = search needs
 
 -- src/lib.rt:507:5
 loop-again : tie.Need-loop-again Inv-loop μ-loop
-loop-again c = (search needs, lowered-turn (c .before .before .before .before .before .before .before .before .before .before .args .sh) (c .before .before .before .before .before .before .before .before .before .before .args .b) (c .before .before .before .before .before .before .before .before .before .before .args .rq .now) _ _ _ _ (c .before .before .before .before .before .before .before .loop .inv .1) _ _ _ (c .before .before .before .before .before .before .loop-test .taken) (c .before .before .before .before .before .read-item .ensures) (c .before .before .before .lower-item .ensures) (c .record-end .ensures))
+loop-again c = (search needs, lowered-turn (c .before .before .before .before .before .before .before .before .before .before .args .sh) (c .before .before .before .before .before .before .before .before .before .before .args .b) (c .before .before .before .before .before .before .before .before .before .before .args .rq .now) _ _ _ _ (c .before .before .before .before .before .before .before .loop .inv .1) _ _ _ (c .before .before .before .before .before .before .loop-test .taken) (c .before .before .before .before .before .read-item .ensures) (c .before .before .before .lower-item .ensures) (c .item-end .ensures))
 
 -- src/lib.rt:502:1
 same-length : tie.Need-same-length Inv-loop μ-loop
@@ -63,7 +63,7 @@ lower-items-spec =
     loop-holds
     read-item-requires
     lower-item-requires
-    record-end-requires
+    item-end-requires
     sub-more
     loop-less
     loop-again

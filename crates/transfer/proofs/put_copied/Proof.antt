@@ -1,27 +1,63 @@
-use Rattle.transfer.specs.TransferCode.{copied-is}
+use Rattle.transfer.specs.Stored.{copied-by}
 use borrow.Author.Needs.{needs}
 use Rattle.transfer.proofs.put_copied.Statement.{statement}
 use Rattle.transfer.proofs.put_copied.Tie as tie
 use Rattle.transfer.proofs.put_copied.Reads as reads
 use Rattle.transfer.proofs.put_copied.Lts as lts
-use Rattle.book.proofs.put_handle.Reads as put-handle-reads
-use Rattle.layout.proofs.put_item.Reads as put-item-reads
+use Rattle.transfer.proofs.item_place.Reads as item-place-reads
+use Rattle.words.proofs.put.Reads as put-reads
 
--- src/lib.rt:538:5
-put-item-requires : tie.Need-put-item-requires
-put-item-requires c κs = tt
+-- src/lib.rt:641:9
+item-place-requires : tie.Need-item-place-requires
+item-place-requires c κs = tt
 
--- src/lib.rt:539:5
-put-handle-requires : tie.Need-put-handle-requires
-put-handle-requires c κs = tt
+-- src/lib.rt:642:5
+put-requires : tie.Need-put-requires
+put-requires c κs = tt
 
--- src/lib.rt:535:1
+-- src/lib.rt:643:19
+add-put : tie.Need-add-put
+add-put c = search needs
+
+-- src/lib.rt:643:5
+put-requires-2 : tie.Need-put-requires-2
+put-requires-2 c κs = tt
+
+-- src/lib.rt:644:19
+add-put-2 : tie.Need-add-put-2
+add-put-2 c = search needs
+
+-- src/lib.rt:644:5
+put-requires-3 : tie.Need-put-requires-3
+put-requires-3 c κs = tt
+
+-- src/lib.rt:645:19
+add-put-3 : tie.Need-add-put-3
+add-put-3 c = search needs
+
+-- src/lib.rt:645:5
+put-requires-4 : tie.Need-put-requires-4
+put-requires-4 c κs = tt
+
+-- src/lib.rt:638:1
 same-length : tie.Need-same-length
 same-length c = search needs
 
--- src/lib.rt:535:1
+-- src/lib.rt:638:1
 returns : tie.Need-returns
-returns c = copied-is (c .before .before .before .before .before .before .before .before .before .args .s .now) _ _ (c .before .before .before .before .before .before .before .before .before .args .sh) (c .before .before .before .before .before .before .before .before .before .args .x) (c .before .before .before .before .before .before .before .before .before .args .j) (c .before .before .before .before .before .before .before .before .before .args .h) (c .before .before .before .before .before .before .before .before .before .args .r) (c .before .before .before .before .before .before .put-item .ensures) (c .before .before .put-handle .ensures)
+returns c = copied-by (c .before .before .before .before .before .before .before .before .before .before .before .before .before .before .before .before .before .before .before .args .s .now) (c .before .before .before .before .before .before .before .before .before .before .before .before .before .before .before .before .before .before .before .args .sh) (c .before .before .before .before .before .before .before .before .before .before .before .before .before .before .before .before .before .before .before .args .x) (c .before .before .before .before .before .before .before .before .before .before .before .before .before .before .before .before .before .before .before .args .j) _ (c .before .before .before .before .before .before .before .before .before .before .before .before .before .before .before .before .item-place .ensures .0) _ _ _ _ (c .before .before .before .before .before .before .before .before .before .before .before .before .before .before .before .before .before .before .before .args .h) (c .before .before .before .before .before .before .before .before .before .before .before .before .before .before .before .before .before .before .before .args .r) (c .before .before .before .before .before .before .before .before .before .before .before .before .before .before .put .ensures) (c .before .before .before .before .before .before .before .before .before .before .put2 .ensures) (c .before .before .before .before .before .before .put3 .ensures) (c .before .before .put4 .ensures)
 
 pub put-copied-spec : {M : Type 1} → statement M
-put-copied-spec = tie.close (tie.spec put-item-requires put-handle-requires same-length returns)
+put-copied-spec =
+    tie.close
+    (tie.spec
+    item-place-requires
+    put-requires
+    add-put
+    put-requires-2
+    add-put-2
+    put-requires-3
+    add-put-3
+    put-requires-4
+    same-length
+    returns)

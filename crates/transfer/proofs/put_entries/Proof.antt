@@ -12,7 +12,7 @@ use Rattle.transfer.proofs.put_entries.Tie as tie
 use Rattle.transfer.proofs.put_entries.Reads as reads
 use Rattle.transfer.proofs.put_entries.Lts as lts
 use Rattle.book.proofs.spare_place.Reads as spare-place-reads
-use Rattle.request.proofs.record_end.Reads as record-end-reads
+use Rattle.transfer.proofs.item_end.Reads as item-end-reads
 use Rattle.transfer.proofs.put_entry.Reads as put-entry-reads
 use Rattle.transfer.proofs.read_item.Reads as read-item-reads
 
@@ -39,8 +39,8 @@ put-entry-requires : tie.Need-put-entry-requires Inv-loop μ-loop
 put-entry-requires c κs = tt
 
 -- src/lib.rt:576:9
-record-end-requires : tie.Need-record-end-requires Inv-loop μ-loop
-record-end-requires c κs = tt
+item-end-requires : tie.Need-item-end-requires Inv-loop μ-loop
+item-end-requires c κs = tt
 
 -- src/lib.rt:577:9
 add-j : tie.Need-add-j Inv-loop μ-loop
@@ -52,7 +52,7 @@ loop-less c = search needs
 
 -- src/lib.rt:573:5
 loop-again : tie.Need-loop-again Inv-loop μ-loop
-loop-again c = (search needs, entries-turn (c .before .before .before .before .before .before .before .before .before .before .before .before .args .sh) (c .before .before .before .before .before .before .before .before .before .before .before .before .args .b) _ (c .before .before .before .before .before .before .before .before .before .before .before .before .args .rq .now) _ _ _ _ (c .before .before .before .before .before .before .before .before .before .before .before .before .args .count) (c .before .before .before .before .before .before .before .loop .inv .1) _ _ _ (c .before .before .before .before .before .before .loop-test .taken) (c .before .before .before .before .before .read-item .ensures) (c .before .before .before .put-entry .ensures) (c .record-end .ensures))
+loop-again c = (search needs, entries-turn (c .before .before .before .before .before .before .before .before .before .before .before .before .args .sh) (c .before .before .before .before .before .before .before .before .before .before .before .before .args .b) _ (c .before .before .before .before .before .before .before .before .before .before .before .before .args .rq .now) _ _ _ _ (c .before .before .before .before .before .before .before .before .before .before .before .before .args .count) (c .before .before .before .before .before .before .before .loop .inv .1) _ _ _ (c .before .before .before .before .before .before .loop-test .taken) (c .before .before .before .before .before .read-item .ensures) (c .before .before .before .put-entry .ensures) (c .item-end .ensures))
 
 -- src/lib.rt:567:1
 same-length : tie.Need-same-length Inv-loop μ-loop
@@ -72,7 +72,7 @@ put-entries-spec =
     loop-holds
     read-item-requires
     put-entry-requires
-    record-end-requires
+    item-end-requires
     add-j
     loop-less
     loop-again

@@ -1,43 +1,83 @@
-use Rattle.transfer.specs.Code.{moved-is}
+use Rattle.transfer.specs.Stored.{moved-by}
 use borrow.Author.Needs.{needs}
 use Rattle.transfer.proofs.put_moved.Statement.{statement}
 use Rattle.transfer.proofs.put_moved.Tie as tie
 use Rattle.transfer.proofs.put_moved.Reads as reads
 use Rattle.transfer.proofs.put_moved.Lts as lts
-use Rattle.book.proofs.put_handle.Reads as put-handle-reads
-use Rattle.layout.proofs.put_item.Reads as put-item-reads
+use Rattle.transfer.proofs.item_place.Reads as item-place-reads
+use Rattle.words.proofs.put.Reads as put-reads
 
--- src/lib.rt:30:5
-put-item-requires : tie.Need-put-item-requires
-put-item-requires c κs = tt
+-- src/lib.rt:72:9
+item-place-requires : tie.Need-item-place-requires
+item-place-requires c κs = tt
 
--- src/lib.rt:31:5
-put-item-requires-2 : tie.Need-put-item-requires-2
-put-item-requires-2 c κs = tt
+-- src/lib.rt:73:5
+put-requires : tie.Need-put-requires
+put-requires c κs = tt
 
--- src/lib.rt:32:5
-put-handle-requires : tie.Need-put-handle-requires
-put-handle-requires c κs = tt
+-- src/lib.rt:74:19
+add-put : tie.Need-add-put
+add-put c = search needs
 
--- src/lib.rt:33:5
-put-item-requires-3 : tie.Need-put-item-requires-3
-put-item-requires-3 c κs = tt
+-- src/lib.rt:74:5
+put-requires-2 : tie.Need-put-requires-2
+put-requires-2 c κs = tt
 
--- src/lib.rt:27:1
+-- src/lib.rt:75:19
+add-put-2 : tie.Need-add-put-2
+add-put-2 c = search needs
+
+-- src/lib.rt:75:5
+put-requires-3 : tie.Need-put-requires-3
+put-requires-3 c κs = tt
+
+-- src/lib.rt:76:19
+add-put-3 : tie.Need-add-put-3
+add-put-3 c = search needs
+
+-- src/lib.rt:76:5
+put-requires-4 : tie.Need-put-requires-4
+put-requires-4 c κs = tt
+
+-- src/lib.rt:77:19
+add-put-4 : tie.Need-add-put-4
+add-put-4 c = search needs
+
+-- src/lib.rt:77:5
+put-requires-5 : tie.Need-put-requires-5
+put-requires-5 c κs = tt
+
+-- src/lib.rt:78:19
+add-put-5 : tie.Need-add-put-5
+add-put-5 c = search needs
+
+-- src/lib.rt:78:5
+put-requires-6 : tie.Need-put-requires-6
+put-requires-6 c κs = tt
+
+-- src/lib.rt:69:1
 same-length : tie.Need-same-length
 same-length c = search needs
 
--- src/lib.rt:27:1
+-- src/lib.rt:69:1
 returns : tie.Need-returns
-returns c = moved-is (c .before .before .before .before .before .before .before .before .before .before .before .before .before .before .before .before .before .args .s .now) _ _ _ _ (c .before .before .before .before .before .before .before .before .before .before .before .before .before .before .before .before .before .args .sh) (c .before .before .before .before .before .before .before .before .before .before .before .before .before .before .before .before .before .args .x) (c .before .before .before .before .before .before .before .before .before .before .before .before .before .before .before .before .before .args .j) (c .before .before .before .before .before .before .before .before .before .before .before .before .before .before .before .before .before .args .h) (c .before .before .before .before .before .before .before .before .before .before .before .before .before .before .before .before .before .args .r) (c .before .before .before .before .before .before .before .before .before .before .before .before .before .before .put-item .ensures) (c .before .before .before .before .before .before .before .before .before .before .put-item2 .ensures) (c .before .before .before .before .before .before .put-handle .ensures) (c .before .before .put-item3 .ensures)
+returns c = moved-by (c .before .before .before .before .before .before .before .before .before .before .before .before .before .before .before .before .before .before .before .before .before .before .before .before .before .before .before .args .s .now) (c .before .before .before .before .before .before .before .before .before .before .before .before .before .before .before .before .before .before .before .before .before .before .before .before .before .before .before .args .sh) (c .before .before .before .before .before .before .before .before .before .before .before .before .before .before .before .before .before .before .before .before .before .before .before .before .before .before .before .args .x) (c .before .before .before .before .before .before .before .before .before .before .before .before .before .before .before .before .before .before .before .before .before .before .before .before .before .before .before .args .j) _ (c .before .before .before .before .before .before .before .before .before .before .before .before .before .before .before .before .before .before .before .before .before .before .before .before .item-place .ensures .0) _ _ _ _ _ _ (c .before .before .before .before .before .before .before .before .before .before .before .before .before .before .before .before .before .before .before .before .before .before .before .before .before .before .before .args .h) (c .before .before .before .before .before .before .before .before .before .before .before .before .before .before .before .before .before .before .before .before .before .before .before .before .before .before .before .args .r) (c .before .before .before .before .before .before .before .before .before .before .before .before .before .before .before .before .before .before .before .before .before .before .put .ensures) (c .before .before .before .before .before .before .before .before .before .before .before .before .before .before .before .before .before .before .put2 .ensures) (c .before .before .before .before .before .before .before .before .before .before .before .before .before .before .put3 .ensures) (c .before .before .before .before .before .before .before .before .before .before .put4 .ensures) (c .before .before .before .before .before .before .put5 .ensures) (c .before .before .put6 .ensures)
 
 pub put-moved-spec : {M : Type 1} → statement M
 put-moved-spec =
     tie.close
     (tie.spec
-    put-item-requires
-    put-item-requires-2
-    put-handle-requires
-    put-item-requires-3
+    item-place-requires
+    put-requires
+    add-put
+    put-requires-2
+    add-put-2
+    put-requires-3
+    add-put-3
+    put-requires-4
+    add-put-4
+    put-requires-5
+    add-put-5
+    put-requires-6
     same-length
     returns)

@@ -11,7 +11,7 @@ use Rattle.transfer.proofs.raise_items.Statement.{statement}
 use Rattle.transfer.proofs.raise_items.Tie as tie
 use Rattle.transfer.proofs.raise_items.Reads as reads
 use Rattle.transfer.proofs.raise_items.Lts as lts
-use Rattle.request.proofs.record_end.Reads as record-end-reads
+use Rattle.transfer.proofs.item_end.Reads as item-end-reads
 use Rattle.transfer.proofs.lower_items.Reads as lower-items-reads
 use Rattle.transfer.proofs.raise_item.Reads as raise-item-reads
 use Rattle.transfer.proofs.read_item.Reads as read-item-reads
@@ -52,8 +52,8 @@ returns : tie.Need-returns Inv-loop μ-loop
 returns c = raised-back (c .before .before .before .before .before .before .before .before .before .before .before .before .before .before .before .args .sh) (c .before .before .before .before .before .before .before .before .before .before .before .before .before .before .before .args .b) (c .before .before .before .before .before .before .before .before .before .before .before .before .before .before .before .args .rq .now) _ (c .before .before .before .before .before .before .before .before .before .before .before .before .before .before .before .args .at) _ _ (c .before .before .before .before .before .before .before .before .before .before .before .before .before .before .before .args .count) _ (c .before .before .before .before .before .before .before .before .before .before .before .before .loop .inv .1) (c .before .before .before .before .before .before .before .before .before .before .before .before .loop .inv .2) (c .before .before .before .before .before .before .before .before .before .before .before .loop-test .taken) _ (c .before .before .before .before .before .before .before .before .before .before .read-item .ensures) _ _ (c .before .before .before .before .before .before .before .before .raise-item .ensures) _ (c .before .before .before .before .before .ne .ensures) _ (c .before .before .before .before .if1 .taken) (c .before .before .lower-items .ensures)
 
 -- src/lib.rt:528:9
-record-end-requires : tie.Need-record-end-requires Inv-loop μ-loop
-record-end-requires c κs = tt
+item-end-requires : tie.Need-item-end-requires Inv-loop μ-loop
+item-end-requires c κs = tt
 
 -- src/lib.rt:529:9
 add-i : tie.Need-add-i Inv-loop μ-loop
@@ -65,7 +65,7 @@ loop-less c = search needs
 
 -- src/lib.rt:521:5
 loop-again : tie.Need-loop-again Inv-loop μ-loop
-loop-again c = (search needs, place-turn (c .before .before .before .before .before .before .before .before .before .before .before .before .args .rq .now) (c .before .before .before .before .before .before .before .before .before .before .before .before .args .at) _ _ _ (c .before .before .before .before .before .before .before .before .before .loop .inv .1) (c .record-end .ensures), raised-next (c .before .before .before .before .before .before .before .before .before .before .before .before .args .sh) (c .before .before .before .before .before .before .before .before .before .before .before .before .args .b) (c .before .before .before .before .before .before .before .before .before .before .before .before .args .rq .now) _ (c .before .before .before .before .before .before .before .before .before .before .before .before .args .at) _ _ (c .before .before .before .before .before .before .before .before .before .before .before .before .args .count) _ (c .before .before .before .before .before .before .before .before .before .loop .inv .1) (c .before .before .before .before .before .before .before .before .before .loop .inv .2) (c .before .before .before .before .before .before .before .before .loop-test .taken) _ (c .before .before .before .before .before .before .before .read-item .ensures) _ _ (c .before .before .before .before .before .raise-item .ensures) _ (c .before .before .ne .ensures) _ (c .before .if1 .left) (c .record-end .ensures))
+loop-again c = (search needs, place-turn (c .before .before .before .before .before .before .before .before .before .before .before .before .args .rq .now) (c .before .before .before .before .before .before .before .before .before .before .before .before .args .at) _ _ _ (c .before .before .before .before .before .before .before .before .before .loop .inv .1) (c .item-end .ensures), raised-next (c .before .before .before .before .before .before .before .before .before .before .before .before .args .sh) (c .before .before .before .before .before .before .before .before .before .before .before .before .args .b) (c .before .before .before .before .before .before .before .before .before .before .before .before .args .rq .now) _ (c .before .before .before .before .before .before .before .before .before .before .before .before .args .at) _ _ (c .before .before .before .before .before .before .before .before .before .before .before .before .args .count) _ (c .before .before .before .before .before .before .before .before .before .loop .inv .1) (c .before .before .before .before .before .before .before .before .before .loop .inv .2) (c .before .before .before .before .before .before .before .before .loop-test .taken) _ (c .before .before .before .before .before .before .before .read-item .ensures) _ _ (c .before .before .before .before .before .raise-item .ensures) _ (c .before .before .ne .ensures) _ (c .before .if1 .left) (c .item-end .ensures))
 
 -- src/lib.rt:516:1
 same-length-2 : tie.Need-same-length-2 Inv-loop μ-loop
@@ -88,7 +88,7 @@ raise-items-spec =
     lower-items-requires
     same-length
     returns
-    record-end-requires
+    item-end-requires
     add-i
     loop-less
     loop-again

@@ -1,47 +1,69 @@
-use Rattle.transfer.specs.TransferCode.{item-is}
+use mathlib.Core.Path.{refl}
+use Rattle.transfer.specs.Plain.{plain-item}
+use borrow.Author.Needs.{needs}
 use Rattle.transfer.proofs.read_item.Statement.{statement}
 use Rattle.transfer.proofs.read_item.Tie as tie
 use Rattle.transfer.proofs.read_item.Reads as reads
 use Rattle.transfer.proofs.read_item.Lts as lts
-use Rattle.request.proofs.field.Reads as field-reads
-use Rattle.request.proofs.find.Reads as find-reads
+use Rattle.transfer.proofs.any_item.Reads as any-item-reads
+use Rattle.words.proofs.word.Reads as word-reads
 
--- src/lib.rt:205:9
-field-requires : tie.Need-field-requires
-field-requires c κs = tt
+-- src/lib.rt:229:12
+mul-if2 : tie.Need-mul-if2
+mul-if2 c = search needs
 
--- src/lib.rt:206:9
-field-requires-2 : tie.Need-field-requires-2
-field-requires-2 c κs = tt
+-- src/lib.rt:229:12
+shared-slice-read-if2 : tie.Need-shared-slice-read-if2
+shared-slice-read-if2 c = search needs
 
--- src/lib.rt:207:9
-field-requires-3 : tie.Need-field-requires-3
-field-requires-3 c κs = tt
+-- src/lib.rt:230:45
+add-word : tie.Need-add-word
+add-word c = search needs
 
--- src/lib.rt:208:9
-find-requires : tie.Need-find-requires
-find-requires c κs = tt
+-- src/lib.rt:230:17
+word-requires : tie.Need-word-requires
+word-requires c κs = tt
 
--- src/lib.rt:209:9
-find-requires-2 : tie.Need-find-requires-2
-find-requires-2 c κs = tt
+-- src/lib.rt:231:41
+add-word-2 : tie.Need-add-word-2
+add-word-2 c = search needs
 
--- src/lib.rt:210:9
-find-requires-3 : tie.Need-find-requires-3
-find-requires-3 c κs = tt
+-- src/lib.rt:231:17
+word-requires-2 : tie.Need-word-requires-2
+word-requires-2 c κs = tt
 
--- src/lib.rt:202:1
+-- src/lib.rt:232:42
+add-word-3 : tie.Need-add-word-3
+add-word-3 c = search needs
+
+-- src/lib.rt:232:17
+word-requires-3 : tie.Need-word-requires-3
+word-requires-3 c κs = tt
+
+-- src/lib.rt:233:13
 returns : tie.Need-returns
-returns c = item-is (c .before .before .before .before .before .before .before .args .rq .now) (c .before .before .before .before .before .before .before .args .at) _ (c .before .before .before .before .before .field .ensures) (c .before .before .before .before .field2 .ensures) (c .before .before .before .field3 .ensures) (c .before .before .find .ensures) (c .before .find2 .ensures) (c .find3 .ensures)
+returns c = plain-item (c .before .before .before .before .before .before .before .args .rq .now) (c .before .before .before .before .before .before .before .args .at) (c .before .before .before .if2 .taken) _ (c .before .before .word .ensures) (c .before .word2 .ensures) (c .word3 .ensures) refl refl refl
+
+-- src/lib.rt:243:5
+any-item-requires : tie.Need-any-item-requires
+any-item-requires c κs = tt
+
+-- src/lib.rt:225:1
+returns-2 : tie.Need-returns-2
+returns-2 c = search needs
 
 pub read-item-spec : {M : Type 1} → statement M
 read-item-spec =
     tie.close
     (tie.spec
-    field-requires
-    field-requires-2
-    field-requires-3
-    find-requires
-    find-requires-2
-    find-requires-3
-    returns)
+    mul-if2
+    shared-slice-read-if2
+    add-word
+    word-requires
+    add-word-2
+    word-requires-2
+    add-word-3
+    word-requires-3
+    returns
+    any-item-requires
+    returns-2)

@@ -28,7 +28,7 @@ pub accepted-when : (n : ℕ) (d a : Decision) → d ≡ decidedBy n a → n ≡
 accepted-when zero d a e z = e
 accepted-when (suc n) d a e z = absurd (omega arith)
 
-id-after : (n : ℕ) → n < 2 ^ 64 → eqb n lastId ≡ false → n + 1 < 2 ^ 64
+pub id-after : (n : ℕ) → n < 2 ^ 64 → eqb n lastId ≡ false → n + 1 < 2 ^ 64
 unfolding lastId
 id-after n l e = omega (arith, eqb-false n 18446744073709551615 e)
 
