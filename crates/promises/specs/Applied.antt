@@ -22,6 +22,7 @@ use Rattle.invariant.specs.Pages.{till-sane}
 use Rattle.invariant.specs.Kept.{kept}
 use Rattle.model.specs.Refusals.{spends}
 use Rattle.model.specs.Words.{readList, usedWords, padded, wordsOf, allWords}
+use Rattle.model.specs.Cases.{sameList-equal}
 use Rattle.layout.specs.declared.Shape.{Shape}
 use Rattle.layout.specs.Layout.{head, load, load-root}
 use Rattle.representation.specs.Represents.{slotIn, TableIs, Rep}
@@ -30,7 +31,6 @@ use Rattle.answer.specs.Does.{idSpent}
 use Rattle.create.specs.Parameters.{parametersOf, tablesIn}
 use Rattle.create.specs.Meets.{Meets as Creates}
 use Rattle.noninterference.specs.Runs.{accepted, lowered, withSlots, lowerTable, lowerState}
-use Rattle.noninterference.specs.World.{by-computing}
 use Rattle.contract.specs.Meets.{Called, Meets}
 use Rattle.promises.specs.Lower.{Ending, Ending.rolledBack, Ending.committed, endH, endP, lowerAnswers, rollbackWords, commitWords, closingWords, reads-rollback, reads-commit}
 use Rattle.promises.specs.Terms.{Call, Calls, left, listOf, answersOf, Passed, Together, Each}
@@ -137,7 +137,7 @@ module _ (memory : List ℕ) (room : 2023 ≤ length memory) (made : ℕ) (ws : 
   unfolding ran
   opened-shop m h =
       let d = demand-2 ws openingWords os x m sh new rep opening reads-opening (omega arith) in
-      (d .result, ap (take 504) (d .answers) ∙ by-computing _ _ refl, ap (drop 504) (d .answers), next-word (x .state) shop (d .state), d .beyond)
+      (d .result, ap (take 504) (d .answers) ∙ sameList-equal _ _ refl, ap (drop 504) (d .answers), next-word (x .state) shop (d .state), d .beyond)
 
   -- two cuts of the opening into calls
   two-cuts : (cs ds : List Call) → Calls ws cs → Calls ws ds → listOf cs ≡ openingWords → listOf ds ≡ openingWords → (answersOf cs ≡ answersOf ds) × (getD (left ws cs) 5 0 ≡ getD (left ws ds) 5 0)

@@ -2,20 +2,20 @@
 use mathlib.Core.Path.{_≡_, refl, sym, ap, _∙_}
 use mathlib.Core.Bool.{false, not, _&&_}
 use mathlib.Core.List.{List, [], _∷_}
-use mathlib.Core.Option.{Option, none, some}
+use mathlib.Core.Option.{none, some}
 use Prim.Native.Nat.{ℕ, zero, suc, _+_, _-_, _*_, _≤_, _<_}
 use native.Mathlib.Omega.{arith}
 use native.Mathlib.Nat.{le-div-iff-mul-le, mul-le-mul-right}
 use lib.ListN.{length}
 use lib.Dec.{eqb, ltb}
 use borrow.Author.Tests.{ltb-true, ltb-false, eqb-true, eqb-false, lt-ltb, le-ltb, eq-eqb, ne-eqb}
-use Rattle.model.specs.Base.{bit, pick, put, range, occurs, also}
+use Rattle.model.specs.Base.{bit, pick, put, range, occurs}
 use Rattle.model.specs.State.{Sizes, Slot.absent, Lifecycle.active, Table, Class.leaf, Stage.stillNew, State, noPage, noTable, noObject, isAbsent, isOccupied, maxSlots, maxBatch}
 use Rattle.model.specs.State.{maxTables, maxFrames, maxObjects, maxRows, maxLimit}
 use Rattle.model.specs.Storage.{pageOf, slotsOf, pagesFrom, pagesFor}
 use Rattle.model.specs.Create.{maxPages}
 use Rattle.model.specs.WellFormed.{WellFormed, Orders, isAttached, isFrame, inSlot, isReservedBy, isMovingBy}
-use Rattle.model.specs.Tests.{apart, bool, clash, same, zero-or, and-left, bit-true, bit-small}
+use Rattle.model.specs.Tests.{apart, bool, clash, same, zero-or, and-left, bit-true, bit-small, also-some}
 use Rattle.model.specs.Sums.{range-all, sum-zero}
 use Rattle.invariant.specs.Pages.{Sane}
 
@@ -30,11 +30,6 @@ turn : (S L need q x y : ℕ) → 1 ≤ need → S ≤ q + x → (need - q ≡ 0
 turn S L need q x y h a e i = zero-or (need - q)
     (λ c. rw (e c) (omega arith))
     (λ c. omega arith)
-
--- what stands behind a list that got one more in front
-behind : (a : ℕ) (x : Option (List ℕ)) (ps : List ℕ) → also a x ≡ some ps → (qs : List ℕ) × (x ≡ some qs) × (ps ≡ a ∷ qs)
-behind a none ps e = apart (cc)
-behind a (some qs) ps e = (qs, refl, cc)
 
 -- `last` is the one page below the limit that may lack slots, `lacks` of them
 module _ (z : Sizes) (sane : Sane z) (limit last lacks : ℕ) (slots : (p : ℕ) → p < limit → z .pageSlots ≤ slotsOf z p + bit (eqb last p) * lacks) where
@@ -73,11 +68,11 @@ module _ (z : Sizes) (sane : Sane z) (limit last lacks : ℕ) (slots : (p : ℕ)
   pages-bound (suc fuel) (suc m) [] n l b ps e = bool (eqb n limit)
       (λ q. let x : none ≡ some ps = rw q at e in apart (cc))
       (λ q. let x : n ≡ limit → ⊥ = eqb-false n limit q in
-      let a = behind n (pagesFrom z fuel (suc m - slotsOf z n) [] (suc n) limit) ps (rw q at e) in
+      let a = also-some n (pagesFrom z fuel (suc m - slotsOf z n) [] (suc n) limit) ps (rw q at e) in
       rw (a .2, coming-new n (omega arith)) (first n fuel m [] (suc n) (omega arith) (a .0) (a .1)
       (pages-bound fuel (suc m - slotsOf z n) [] (suc n) (omega arith) b (a .0) (a .1))))
   pages-bound (suc fuel) (suc m) (p ∷ ds) n l b ps e =
-      let a = behind p (pagesFrom z fuel (suc m - slotsOf z p) ds n limit) ps e in
+      let a = also-some p (pagesFrom z fuel (suc m - slotsOf z p) ds n limit) ps e in
       let i = first p fuel m ds n (b p (rw (same p) (omega arith))) (a .0) (a .1)
       (pages-bound fuel (suc m - slotsOf z p) ds n l (λ q c. b q (omega arith)) (a .0) (a .1)) in
       rw (a .2) (omega (arith, i))

@@ -4,8 +4,7 @@ use mathlib.Core.Bool.{false}
 use mathlib.Core.List.{List, [], _∷_, _++_, append-assoc}
 use mathlib.Core.Option.{Option, some}
 use Prim.Native.Nat.{ℕ, _*_, _≤_}
-use native.Mathlib.Omega.{arith}
-use lib.ListN.{length, take, drop, length-append}
+use lib.ListN.{length, take, drop}
 use lib.Seq.{take-at}
 use borrow.Author.Tests.{le-ltb}
 use Rattle.format.specs.Format.{answerWords}
@@ -13,7 +12,7 @@ use Rattle.model.specs.State.{Sizes, till, State}
 use Rattle.model.specs.Request.{Request, Answer}
 use Rattle.model.specs.Step.{step, run}
 use Rattle.model.specs.Words.{readList, Outcome, call, ran, answerShort, wordsOf, allWords}
-use Rattle.model.specs.Lists.{words-length, run-length}
+use Rattle.model.specs.Lists.{run-length, all-length}
 use Rattle.layout.specs.declared.Shape.{Shape}
 use Rattle.representation.specs.Represents.{Rep}
 use Rattle.contract.specs.Meets.{Called, Meets}
@@ -54,13 +53,9 @@ pub all-words-both : (l k : List Answer) → allWords (l ++ k) ≡ allWords l ++
 all-words-both [] k = refl
 all-words-both (a ∷ l) k = ap (λ (x : List ℕ). wordsOf a ++ x) (all-words-both l k) ∙ sym (append-assoc (wordsOf a) (allWords l) (allWords k))
 
-pub all-words-length : (l : List Answer) → length (allWords l) ≡ answerWords * length l
-all-words-length [] = refl
-all-words-length (a ∷ l) = omega (arith, length-append (wordsOf a) (allWords l), words-length a, all-words-length l)
-
 -- the answers' words of a run
 pub run-words : (z : Sizes) (s : State) (rs : List Request) → length (allWords (run z s rs .1)) ≡ answerWords * length rs
-run-words z s rs = all-words-length (run z s rs .1) ∙ ap (λ (n : ℕ). answerWords * n) (run-length z s rs)
+run-words z s rs = all-length (run z s rs .1) ∙ ap (λ (n : ℕ). answerWords * n) (run-length z s rs)
 
 -- ---- calls together
 

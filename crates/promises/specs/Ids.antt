@@ -11,12 +11,13 @@ use lib.ListN.{length, getD, drop, length-append}
 use lib.Dec.{eqb}
 use borrow.Author.Tests.{eqb-true}
 use Rattle.words.specs.Pick.{clash, both}
-use Rattle.format.specs.Format.{pick as choice, musts, mays, transferItemMust, transferItemMay, parcelItemMust, parcelItemMay, fieldKinds, fieldFits, fieldCount}
+use Rattle.format.specs.Format.{musts, mays, transferItemMust, transferItemMay, parcelItemMust, parcelItemMay, fieldKinds, fieldFits, fieldCount}
 use Rattle.model.specs.Base.{pick, nth, orElse}
 use Rattle.model.specs.Request.{Item}
 use Rattle.model.specs.Request.{Request, Request.newObject, Request.duplicate, Request.releaseParcel, Request.retireObject, Request.reserve, Request.trim, Request.abort, Request.publish, Request.getInfo, Request.resolve, Request.replace, Request.close, Request.scanHandles, Request.prepareTransfer, Request.prepareConsumption, Request.rollback, Request.commit, Request.directCommit, Request.directRollback, Request.removeStoppingOwner, Request.teardownStart, Request.teardownStep, Request.teardownFinish, Request.takeEmptyPage}
 use Rattle.model.specs.Words.{Reading, andThen, Fields, odd, readField, readFields, fitAll, may, must, goodRecord, readRecord, readMany, operationOf, readTransferItem, readParcelItem, plainRequests, withItems, readRequest, readUpTo, readList}
 use Rattle.model.specs.Lists.{Front, request-in-front, reading-ends}
+use Rattle.model.specs.Tests.{some-same}
 
 -- ---- the words
 
@@ -74,15 +75,12 @@ requestBy f (takeEmptyPage c) = takeEmptyPage c
 apart {ℓ} : {A : Type 0} {C : Type ℓ} {a : A} → _≡_ {A = Option A} none (some a) → C
 apart e = let z : _≡_ {A = ℕ} 0 1 = cc in absurd (omega arith)
 
-inside : {A : Type 0} (a b : A) → some a ≡ some b → a ≡ b
-inside a b e = cc
-
 then-some : {A B : Type 0} (x : Option A) (g : A → Option B) (b : B) → andThen x g ≡ some b → (a : A) × (x ≡ some a) × (g a ≡ some b)
 then-some none g b e = apart e
 then-some (some a) g b e = (a, refl, e)
 
 pick-some : {A : Type 0} (t : Bool) (a b : A) → pick t (some a) none ≡ some b → (t ≡ true) × (a ≡ b)
-pick-some true a b e = (refl, inside a b e)
+pick-some true a b e = (refl, some-same a b e)
 pick-some false a b e = apart e
 
 -- ---- fields
@@ -123,7 +121,7 @@ idsFit k [] = true
 idsFit k (kind ∷ ks) = (not (isId k) || eqb kind 0) && idsFit (suc k) ks
 
 zero-fits : (kind v : ℕ) → kind ≡ 0 → fieldFits kind v ≡ true
-unfolding fieldFits choice
+unfolding fieldFits
 zero-fits kind v z = rw z
 
 fit-by : (f : ℕ → ℕ) (ks : List ℕ) (fs : Fields) (k : ℕ) → idsFit k ks ≡ true → fitAll ks (fieldsBy f k fs) ≡ fitAll ks fs
@@ -164,7 +162,7 @@ module _ (f : ℕ → ℕ) (z : f 0 ≡ 0) (ys : List ℕ) where
 
   fields-go : (n k m : ℕ) → Fields-go n k m
   fields-go zero k m ws fs rest e =
-      let p : (_≡_ {A = Fields × List ℕ} ([], ws) (fs, rest)) = inside ([], ws) (fs, rest) e in
+      let p : (_≡_ {A = Fields × List ℕ} ([], ws) (fs, rest)) = some-same ([], ws) (fs, rest) e in
       ap (λ (a : Fields × List ℕ). some (fieldsBy f k (a .0), then-ys [] (a .1))) p
   fields-go (suc n) k m ws fs rest e = go (odd m) ws e (fields-go n (suc k) (m / 2))
     where
@@ -176,7 +174,7 @@ module _ (f : ℕ → ℕ) (z : f 0 ≡ 0) (ys : List ℕ) where
       joins x ws ih e =
           let t = then-some (readFields n (m / 2) ws) (λ r. some (x ∷ r .0, r .1)) (fs, rest) e in
           let a : Fields × List ℕ = t .0 in
-          let p : (_≡_ {A = Fields × List ℕ} (x ∷ a .0, a .1) (fs, rest)) = inside (x ∷ a .0, a .1) (fs, rest) (t .2) in
+          let p : (_≡_ {A = Fields × List ℕ} (x ∷ a .0, a .1) (fs, rest)) = some-same (x ∷ a .0, a .1) (fs, rest) (t .2) in
           ap (λ (y : Reading Fields). andThen y λ r. some (fieldBy f (isId k) x ∷ r .0, r .1)) (ih ws (a .0) (a .1) (t .1))
           ∙ ap (λ (b : Fields × List ℕ). some (fieldsBy f k (b .0), then-ys [] (b .1))) p
 
@@ -213,7 +211,7 @@ module _ (f : ℕ → ℕ) (z : f 0 ≡ 0) (ys : List ℕ) where
 
   many-go : {A : Type 0} (read : List ℕ → Reading A) (g : A → A) → Goes read g → (n : ℕ) → Goes (readMany read n) (map g)
   many-go {A} read g h zero ws xs rest e =
-      let p : (_≡_ {A = List A × List ℕ} ([], ws) (xs, rest)) = inside ([], ws) (xs, rest) e in
+      let p : (_≡_ {A = List A × List ℕ} ([], ws) (xs, rest)) = some-same ([], ws) (xs, rest) e in
       ap (λ (a : List A × List ℕ). some (map g (a .0), then-ys [] (a .1))) p
   many-go {A} read g h (suc n) ws xs rest e = first (then-some (read ws) (after-one read n) (xs, rest) e) (many-go read g h n)
     where
@@ -221,7 +219,7 @@ module _ (f : ℕ → ℕ) (z : f 0 ≡ 0) (ys : List ℕ) where
           → after-one read n (g a, then-ys [] v) ≡ some (map g xs, then-ys [] rest)
       last a v ih ((bs, w), i, q) =
           ap (λ (y : Reading (List A)). andThen {B = List A × List ℕ} y λ r. some (g a ∷ r .0, r .1)) (ih v bs w i)
-          ∙ ap (λ (c : List A × List ℕ). some (map g (c .0), then-ys [] (c .1))) (inside (a ∷ bs, w) (xs, rest) q)
+          ∙ ap (λ (c : List A × List ℕ). some (map g (c .0), then-ys [] (c .1))) (some-same (a ∷ bs, w) (xs, rest) q)
 
       first : (a : A × List ℕ) × (read ws ≡ some a) × (after-one read n a ≡ some (xs, rest)) → Goes (readMany read n) (map g) → readMany read (suc n) (then-ys [] ws) ≡ some (map g xs, then-ys [] rest)
       first ((a, v), i, q) ih =
@@ -233,7 +231,7 @@ module _ (f : ℕ → ℕ) (z : f 0 ≡ 0) (ys : List ℕ) where
   one-go {A} mean g first m y q h ws a rest e =
       let t = then-some (readRecord first (λ o. m) (λ o. y) ws) (λ r. some (mean (r .0), r .1)) (a, rest) e in
       let r : Fields × List ℕ = t .0 in
-      let p : (_≡_ {A = A × List ℕ} (mean (r .0), r .1) (a, rest)) = inside (mean (r .0), r .1) (a, rest) (t .2) in
+      let p : (_≡_ {A = A × List ℕ} (mean (r .0), r .1) (a, rest)) = some-same (mean (r .0), r .1) (a, rest) (t .2) in
       ap (λ (x : Reading Fields). andThen x λ r. some (mean (r .0), r .1)) (record-go first (λ o. m) (λ o. y) q ws (r .0) (r .1) (t .1))
       ∙ ap (λ (x : A). some (x, then-ys [] (r .1))) (h (r .0))
       ∙ ap (λ (x : A × List ℕ). some (g (x .0), then-ys [] (x .1))) p
@@ -380,7 +378,7 @@ module _ (f : ℕ → ℕ) (z : f 0 ≡ 0) (ys : List ℕ) where
 
   made : (xs : List (Fields → Request)) (k : ℕ) (x : Fields → Request) → AllMake xs → nth xs k ≡ some x → Makes x
   made [] k x h e = apart e
-  made (y ∷ xs) zero x h e = λ fs. let q : y ≡ x = inside y x e in ap (λ (m : Fields → Request). m (fieldsBy f 0 fs)) (sym q) ∙ h .0 fs ∙ ap (λ (m : Fields → Request). requestBy f (m fs)) q
+  made (y ∷ xs) zero x h e = λ fs. let q : y ≡ x = some-same y x e in ap (λ (m : Fields → Request). m (fieldsBy f 0 fs)) (sym q) ∙ h .0 fs ∙ ap (λ (m : Fields → Request). requestBy f (m fs)) q
   made (y ∷ xs) (suc k) x h e = made xs k x (h .1) e
 
   request-go : Goes readRequest (requestBy f)
@@ -403,10 +401,10 @@ module _ (f : ℕ → ℕ) (z : f 0 ≡ 0) (ys : List ℕ) where
       → readUpTo m (then-ys [] ws) ≡ some (map (requestBy f) rs ++ qs)
   unfolding readList
   up-to-go zero m [] rs qs h l e d =
-      let p : [] ≡ rs = inside [] rs e in
+      let p : [] ≡ rs = some-same [] rs e in
       reading-ends m (length ys) ys l (omega arith) ∙ d ∙ ap (λ (x : List Request). some (map (requestBy f) x ++ qs)) p
   up-to-go (suc n) m [] rs qs h l e d =
-      let p : [] ≡ rs = inside [] rs e in
+      let p : [] ≡ rs = some-same [] rs e in
       reading-ends m (length ys) ys l (omega arith) ∙ d ∙ ap (λ (x : List Request). some (map (requestBy f) x ++ qs)) p
   up-to-go zero m (w ∷ ws) rs qs h l e d = absurd (omega arith)
   up-to-go (suc n) zero (w ∷ ws) rs qs h l e d = absurd (omega arith)
@@ -414,7 +412,7 @@ module _ (f : ℕ → ℕ) (z : f 0 ≡ 0) (ys : List ℕ) where
       let t = then-some (readRequest (w ∷ ws)) (λ r. andThen (readUpTo n (r .1)) λ rs. some (r .0 ∷ rs)) rs e in
       let r : Request × List ℕ = t .0 in
       let u = then-some (readUpTo n (r .1)) (λ rs. some (r .0 ∷ rs)) rs (t .2) in
-      let p : (r .0 ∷ u .0) ≡ rs = inside (r .0 ∷ u .0) rs (u .2) in
+      let p : (r .0 ∷ u .0) ≡ rs = some-same (r .0 ∷ u .0) rs (u .2) in
       let read : readRequest (then-ys [] (w ∷ ws)) ≡ some (requestBy f (r .0), then-ys [] (r .1)) = request-go (w ∷ ws) (r .0) (r .1) (t .1) in
       let short : length (r .1) ≤ n = shorter (w ∷ ws) (r .0) (r .1) n (t .1) h in
       let short′ : length (then-ys [] (r .1)) ≤ m = shorter (then-ys [] (w ∷ ws)) (requestBy f (r .0)) (then-ys [] (r .1)) m read l in

@@ -12,7 +12,7 @@ use lib.Dec.{eqb}
 use borrow.Author.Tests.{eqb-true, eqb-false, ne-eqb, le-ltb}
 use Rattle.words.specs.Pick.{bool, both, clash}
 use Rattle.authority.specs.Rights.{contains}
-use Rattle.format.specs.Format.{pick as choice, musts, mays, fieldKinds, fieldFits, knownOp, fieldCount, answerWords}
+use Rattle.format.specs.Format.{musts, mays, fieldKinds, fieldFits, knownOp, fieldCount, answerWords}
 use Rattle.model.specs.Base.{pick, orElse, every, range}
 use Rattle.model.specs.State.{Sizes, State}
 use Rattle.model.specs.Request.{Answer, Answer.refused, Answer.done, Answer.opened, Answer.batch, Answer.infoOf, Answer.resolved, Answer.renewed, Answer.scanned, Answer.removed, Answer.closed, Answer.taken}
@@ -152,15 +152,15 @@ endP rolledBack b vs = []
 endP committed b vs = closingWords b vs
 
 pub reads-rollback : (t : ℕ) → readList (rollbackWords t) ≡ some (rollback t ∷ [])
-unfolding readList readRequest musts mays fieldKinds fieldFits knownOp choice contains
+unfolding readList readRequest musts mays fieldKinds fieldFits knownOp contains
 reads-rollback t = refl
 
 pub reads-commit : (t : ℕ) → readList (commitWords t) ≡ some (commit t ∷ [])
-unfolding readList readRequest musts mays fieldKinds fieldFits knownOp choice contains
+unfolding readList readRequest musts mays fieldKinds fieldFits knownOp contains
 reads-commit t = refl
 
 reads-closing : (b v : ℕ) → readList (19 ∷ 12 ∷ b ∷ v ∷ []) ≡ some (close b v ∷ [])
-unfolding readList readRequest musts mays fieldKinds fieldFits knownOp choice contains
+unfolding readList readRequest musts mays fieldKinds fieldFits knownOp contains
 reads-closing b v = refl
 
 pub reads-closings : (b : ℕ) (vs : List ℕ) → readList (closingWords b vs) ≡ some (map (close b) vs)

@@ -6,8 +6,8 @@ use Prim.Native.Nat.{ℕ, _≤_}
 use native.Mathlib.Omega.{arith}
 use lib.ListN.{length, replicate}
 use Rattle.authority.specs.Rights.{contains}
-use Rattle.codec.specs.Codec.{pick as choose, encode, payload, maskOf, payloadIn, numberIn, slotIn, generationIn, decodes, nextGeneration}
-use Rattle.format.specs.Format.{pick as choice, musts, mays, fieldKinds, fieldFits, knownOp}
+use Rattle.codec.specs.Codec.{encode, payload, maskOf, payloadIn, numberIn, slotIn, generationIn, decodes, nextGeneration}
+use Rattle.format.specs.Format.{musts, mays, fieldKinds, fieldFits, knownOp}
 use Rattle.model.specs.State.{till, State, maxBatch, maxSlots, knownFlags, lastId, maxTables, maxFrames, maxObjects, maxRows, maxLimit}
 use Rattle.model.specs.Storage.{place, vacate, takeFree, pagesFor, attach, detach}
 use Rattle.model.specs.Create.{created, permitted}
@@ -16,8 +16,8 @@ use Rattle.model.specs.Request.{Request, Request.newObject, Request.duplicate, 
 use Rattle.model.specs.Step.{newObjectOf, duplicateOf, releaseParcelOf, retireObjectOf, reserveOf, trimOf, abortOf, publishOf, getInfoOf, closeOf, replaceOf, resolveOf, scanHandlesOf, prepareTransferOf}
 use Rattle.model.specs.Step.{prepareConsumptionOf, rollbackOf, commitOf, directCommitOf, directRollbackOf, removeStoppingOwnerOf, teardownStartOf, teardownStepOf, teardownFinishOf, takeEmptyPageOf, decide, step, run}
 use Rattle.model.specs.Words.{readRequest, readList, usedWords, padded, wordsOf, allWords}
+use Rattle.model.specs.Cases.{sameList-equal}
 use Rattle.noninterference.specs.Runs.{wantsRow, wantsId, lowered}
-use Rattle.noninterference.specs.World.{by-computing}
 use Rattle.layout.specs.declared.Shape.{Shape}
 use Rattle.representation.specs.Represents.{Rep}
 use Rattle.representation.specs.Unique.{shapeFor}
@@ -31,7 +31,7 @@ use Rattle.promises.specs.Demand2.{demand-2-calls, demand-2-creation}
 
 -- a list run, with all that the checker has to open to compute it
 unfoldable pub ran : State → List Request → State × List Answer
-unfolding contains encode payload maskOf payloadIn numberIn slotIn generationIn decodes nextGeneration choose maxBatch maxSlots knownFlags lastId place vacate takeFree
+unfolding contains encode payload maskOf payloadIn numberIn slotIn generationIn decodes nextGeneration maxBatch maxSlots knownFlags lastId place vacate takeFree
     pagesFor attach detach created parametersOf tablesIn objectsIn newObjectOf duplicateOf releaseParcelOf retireObjectOf reserveOf trimOf abortOf publishOf getInfoOf closeOf replaceOf resolveOf
     scanHandlesOf prepareTransferOf prepareConsumptionOf rollbackOf commitOf directCommitOf directRollbackOf removeStoppingOwnerOf teardownStartOf teardownStepOf
     teardownFinishOf takeEmptyPageOf decide step usedWords wordsOf Rattle.noninterference.specs.Runs.permitted wantsRow wantsId lowered
@@ -39,7 +39,7 @@ ran s rs = run till s rs
 
 -- a list read
 unfoldable pub readBy : List ℕ → Option (List Request)
-unfolding readList readRequest musts mays fieldKinds fieldFits knownOp choice contains
+unfolding readList readRequest musts mays fieldKinds fieldFits knownOp contains
 readBy ws = readList ws
 
 -- ---- creation
@@ -181,7 +181,7 @@ plainAnswers = padded 72 (0 ∷ 6 ∷ 1 ∷ 0x4800000001000045 ∷ []) ++ (padde
 
 pub held-answers : allWords (run till shop (transfer ∷ list) .1) ≡ padded 72 (0 ∷ 6 ∷ []) ++ heldAnswers
 unfolding ran
-held-answers = by-computing (allWords (run till shop (transfer ∷ list) .1)) (padded 72 (0 ∷ 6 ∷ []) ++ heldAnswers) refl
+held-answers = sameList-equal (allWords (run till shop (transfer ∷ list) .1)) (padded 72 (0 ∷ 6 ∷ []) ++ heldAnswers) refl
 
 -- the two refusals alone
 abbrev pub refusedWords : List ℕ

@@ -22,8 +22,9 @@ use Rattle.model.specs.Step.{restoreAll, abortOf, publishOf, rollbackOf, commit
 use Rattle.model.specs.WellFormed.{WellFormed}
 use Rattle.model.specs.Tests.{bool, same}
 use Rattle.model.specs.Decided.{Decided, Any, accepts, with-claim, carried}
+use Rattle.invariant.specs.BookLemmas.{find-swap-same}
 use Rattle.noninterference.specs.Runs.{accepted}
-use Rattle.noninterference.specs.Rows.{find-drop, find-swap, find-swapped}
+use Rattle.noninterference.specs.Rows.{find-drop, find-swap}
 use Rattle.promises.specs.TransfersLemmas.{Steady, steady-self, vacates-same, closings, claimed, claim-in, claim-active, rolled-steady, rolled-held}
 use Rattle.promises.specs.TransfersLemmas.{rolled-others, movesOf, Prepared, prepares, consumes, prepared-steady, prepared-vacates, prepared-held}
 use Rattle.promises.specs.TransfersLemmas.{accepted-leaves, both-dropped, other-row}
@@ -186,7 +187,7 @@ module _ (z : Sizes) (s : State) (i b : ℕ) (es : List Entry) (row : find i (s 
       eq-eqb (length es) (length ks) fits,
       find-swap j i apart-rows x (s .book .rows),
       place,
-      find-swapped i x (claim b es) (s .book .rows) row,
+      find-swap-same i x (claim b es) (s .book .rows) row,
       append-nil (map sentOf es),
       eq-eqb (length (map sentOf es)) (length ks) (length-map es sentOf ∙ fits),
       both-dropped i j x (s .book .rows),

@@ -4,7 +4,7 @@ use mathlib.Core.Path.{_≡_, refl, sym, ap, _∙_}
 use mathlib.Core.Bool.{Bool, true, false, _&&_}
 use mathlib.Core.List.{List, [], _∷_, _++_, map}
 use mathlib.Core.Option.{Option, some}
-use Prim.Native.Nat.{ℕ, _+_, _*_, _≤_, _<_, max}
+use Prim.Native.Nat.{ℕ, _+_, _*_, _≤_, _<_}
 use native.Mathlib.Omega.{arith}
 use lib.ListN.{length}
 use lib.Dec.{ltb, eqb}
@@ -13,7 +13,7 @@ use Rattle.authority.specs.Rights.{contains}
 use Rattle.codec.specs.Codec.{encode, slotIn, generationIn, slotLimit, generationLimit, nextGeneration}
 use Rattle.codec.specs.Laws.{decodes-encoded, slot-encoded, generation-encoded, encode-decoded}
 use Rattle.model.specs.Base.{pick, put, every, occurs, atMost}
-use Rattle.model.specs.State.{Sizes, Handle, Slot, Slot.vacant, Slot.transferReserved, Slot.occupied, Page, Table, Entry, Entry.moved, Entry.copied}
+use Rattle.model.specs.State.{Sizes, Handle, Slot, Slot.vacant, Slot.transferReserved, Slot.occupied, Table, Entry, Entry.moved, Entry.copied}
 use Rattle.model.specs.State.{Body, Body.reservation, Body.claim, Row, State, generation, isBusy, isAbsent, isActive, maxSlots, maxBatch}
 use Rattle.model.specs.Storage.{raised, pageOf, slotsOf, busyOf, emptyAfter, place, keep, keepAll, vacate, vacateAll}
 use Rattle.model.specs.Change.{withTable}
@@ -23,21 +23,23 @@ use Rattle.model.specs.Book.{find, dropId, swapId, freeRow, idLeft, movedOf, co
 use Rattle.model.specs.Decision.{Decision, Decision.refusal, Decision.refusalAfterId, Decision.accept}
 use Rattle.model.specs.Lookup.{View.holds, lookup, valueAt, handleOr}
 use Rattle.model.specs.Transfer.{isCopy, itemsFault, copiesFault, entryBy, entryFor}
-use Rattle.model.specs.Step.{restoreAll, prepareTransferOf, prepareConsumptionOf, closeOf, decide, carry, step, run}
+use Rattle.model.specs.Step.{restoreAll, prepareTransferOf, prepareConsumptionOf, carry, step, run}
 use Rattle.model.specs.WellFormed.{WellFormed}
 use Rattle.model.specs.Tests.{apart, bool, clash, same, bit-small}
 use Rattle.model.specs.Sums.{member-occurs}
 use Rattle.model.specs.Decided.{Decided, Any, accepts, checked, with-view, after-id}
 use Rattle.invariant.specs.Pointwise.{given, given-out, filled, movedHandles, restoreAll-is, fillAll-slots, keepAll-slots}
-use Rattle.invariant.specs.BookLemmas.{found-range}
+use Rattle.invariant.specs.BookLemmas.{found-range, ids-none}
 use Rattle.invariant.specs.Marks.{Owns, owns, both-marks, keys-claim}
 use Rattle.invariant.specs.Items.{stands-at, taken, items-stand, items-once}
 use Rattle.invariant.specs.Pages.{busyIn-equal, busy-there}
 use Rattle.invariant.specs.Orders.{below-of}
 use Rattle.invariant.specs.StorageDecisions.{sound-at}
 use Rattle.noninterference.specs.Runs.{accepted, withSlots}
-use Rattle.noninterference.specs.Rows.{claim-open, find-new, rise-none}
+use Rattle.noninterference.specs.Rows.{claim-open, find-new}
 use Rattle.noninterference.specs.Items.{Names, look-holds, AllName, all-name}
+use Rattle.noninterference.specs.Endings.{vacate-life, vacate-mask, close-is}
+use Rattle.noninterference.specs.Restore.{page-idle}
 
 -- u is t with other slots, each as busy as before and of the same generation
 pub record Steady (t u : Table) : Type 0 where
@@ -64,11 +66,6 @@ module _ (z : Sizes) where
   under-steady {t} {u} p a k e = let h = a k (sym (p .busy k) ∙ e) in
       let i : u .pages (pageOf z k) .high ≡ t .pages (pageOf z k) .high = ap (λ (x : Table). x .pages (pageOf z k) .high) (p .only) in
       omega (arith, p .gen k)
-
-  page-idle : (ps : ℕ → Page) (p g : ℕ) → g ≤ ps p .high → (q : ℕ) → put ps p (raised (ps p) g) q ≡ ps q
-  page-idle ps p g h q = bool (eqb q p)
-      (λ e. let w : max (ps p .high) g ≡ ps p .high = omega arith in rw (e, eqb-true q p e) (λ i. record { frame = ps p .frame; high = w i }))
-      (λ e. rw e)
 
   order-idle : (was is : Bool) (p : ℕ) (f : ℕ → Slot) (e : List ℕ) → was ≡ true → is ≡ true → emptyAfter z was is p f e ≡ e
   order-idle was is p f e a b = rw (a, b)
@@ -187,21 +184,7 @@ module _ (z : Sizes) where
     same g,
   )
 
-  vacate-life : (y : Table) (k : ℕ) → vacate z y k .life ≡ y .life
-  unfolding vacate place
-  vacate-life y k = refl
-
-  vacate-mask : (y : Table) (k : ℕ) → vacate z y k .mask ≡ y .mask
-  unfolding vacate place
-  vacate-mask y k = refl
-
   module _ (b : ℕ) where
-    close-is : (p : State) (v k : ℕ) (h : Handle) → ltb b (p .tableCount) ≡ true → isActive (p .tables b .life) ≡ true
-        → lookup (p .tables b) v ≡ holds k h
-        → step z p (close b v) ≡ (release (withTable p b (vacate z (p .tables b) k)) (h ∷ []), infoOf (infoFor p h))
-    unfolding step decide closeOf
-    close-is p v k h c a l = rw (c, a, l)
-
     -- the values of slots that hold handles are closed one by one: each closing is accepted, and together they vacate the slots in order
     pub closings : (m : ℕ) (g : ℕ → ℕ) (p : State) (y : Table) → p .tables b ≡ y → y .mask ≡ m → ltb b (p .tableCount) ≡ true
         → isActive (y .life) ≡ true
@@ -215,8 +198,8 @@ module _ (z : Sizes) where
         let v : ℕ = encode m k (g k) in
         let u : State = release (withTable p b (vacate z y k)) (i .held ∷ []) in
         let d : step z p (close b v) ≡ (u, infoOf (infoFor p (i .held))) =
-        close-is p v k (i .held) c (rw e a) (rw (e, ← n) (looked y k (g k) i)) ∙ rw e in
-        let w = closings m g u (vacate z y k) (rw (same b)) (vacate-mask y k ∙ n) c (rw (vacate-life y k) a) ks (λ j. omega (arith, o j))
+        close-is z b p v k (i .held) c (rw e a) (rw (e, ← n) (looked y k (g k) i)) ∙ rw e in
+        let w = closings m g u (vacate z y k) (rw (same b)) (vacate-mask z y k ∙ n) c (rw (vacate-life z y k) a) ks (λ j. omega (arith, o j))
         (λ j l. let x : eqb j k ≡ false = bool (eqb j k)
         (λ q. absurd (let f : 1 + occurs j ks ≤ 1 = rw q at (o j) in omega arith)) (λ q. q) in
         held-at (vacate-at y k j ∙ rw x) (h j (omega arith))) in (
@@ -325,7 +308,7 @@ pub record Prepared (z : Sizes) (s : State) (b : ℕ) (values : List ℕ) (u : S
 module _ (z : Sizes) (s : State) (w : WellFormed z s) where
   new-row : (b : ℕ) (es : List Entry) → find (s .book .next) (s .book .rows ++ (record { id = s .book .next; body = claim b es } ∷ [])) ≡ some (claim b es)
   new-row b es = find-new (s .book .next) (claim b es) (s .book .rows)
-      (rise-none 1 (s .book .next) (s .book .next) (s .book .rows) (w .ids .rise) (omega arith))
+      (ids-none 1 (s .book .next) (s .book .next) (s .book .rows) (w .ids .rise) (omega arith))
 
   pub prepares : (b : ℕ) (route : Route) (bo bk : Option ℕ) (qs : List Item)
       → Decided Any Any (Prepared z s b (movesOf qs)) (prepareTransferOf z s b route bo bk qs)
