@@ -1,0 +1,2 @@
+pub mod Basket
+pub mod Orders
