@@ -1,0 +1,1 @@
+// The promises speak of every well-formed state, since each has words. All of it stands in specs.

@@ -1,0 +1,124 @@
+-- The book of a state's words: its rows and items, and the rows that marked slots stand in. Assumes nothing.
+use mathlib.Core.Path.{_≡_, refl, sym, ap, _∙_}
+use mathlib.Core.List.{List, [], _∷_}
+use mathlib.Core.Option.{Option, none, some}
+use Prim.Native.Nat.{ℕ, zero, suc, _+_, _≤_, _<_}
+use native.Mathlib.Omega.{arith}
+use lib.ListN.{length, getD}
+use lib.Dec.{eqb}
+use borrow.Author.Tests.{eq-eqb, eqb-true}
+use Rattle.words.specs.Pick.{bool}
+use Rattle.model.specs.Base.{bit, nth, occurs}
+use Rattle.model.specs.State.{till, Slot, Slot.reserved, Slot.transferReserved, Entry, Entry.moved, Entry.copied, Body, Body.reservation, Body.claim, Body.parcel, Row, State}
+use Rattle.model.specs.Book.{find, movedOf}
+use Rattle.model.specs.Bounds.{batch-max}
+use Rattle.model.specs.WellFormed.{isReservedBy, isMovingBy, inReservation, inClaim, All, BodyRange, RowRange, Marks, WellFormed}
+use Rattle.layout.specs.Layout.{Mem, row, item}
+use Rattle.representation.specs.Represents.{HandleIs, EntryIs, Items, BodyIs, RowsAre}
+use Rattle.written.specs.Searches.{rankOf, rank-found}
+use Rattle.written.specs.Words.{bodyWords, itemWords, entryItem, handleItem, blockWords}
+use Rattle.written.specs.Shows.{Shows, at-index, at-row, at-item}
+
+-- ---- the row of a mark
+
+module _ (s : State) (w : Marks s) (b k g i : ℕ) where
+  pub reserved-in : s .tables b .slots k ≡ reserved g i → (ks : List ℕ) × (find i (s .book .rows) ≡ some (reservation b ks)) × (0 < occurs k ks)
+  reserved-in e = go (find i (s .book .rows)) refl (w .reserved i b k ∙ ap (λ (x : Slot). bit (isReservedBy i x)) e ∙ rw (eq-eqb i i refl))
+    where
+      go : (d : Option Body) → find i (s .book .rows) ≡ d → inReservation b k d ≡ 1 → (ks : List ℕ) × (find i (s .book .rows) ≡ some (reservation b ks)) × (0 < occurs k ks)
+      go none f q = absurd (omega arith)
+      go (some (reservation c ks)) f q = bool (eqb b c)
+          (λ z. let y : b ≡ c = eqb-true b c z in let o : occurs k ks ≡ 1 = rw z at q in (ks, f ∙ ap (λ (x : ℕ). some (reservation x ks)) (sym y), omega arith))
+          (λ z. let o : 0 ≡ 1 = rw z at q in absurd (omega arith))
+      go (some (claim c es)) f q = absurd (omega arith)
+      go (some (parcel hs)) f q = absurd (omega arith)
+
+  pub moving-in : s .tables b .slots k ≡ transferReserved g i → (es : List Entry) × (find i (s .book .rows) ≡ some (claim b es)) × (0 < occurs k (movedOf es))
+  moving-in e = go (find i (s .book .rows)) refl (w .transferReserved i b k ∙ ap (λ (x : Slot). bit (isMovingBy i x)) e ∙ rw (eq-eqb i i refl))
+    where
+      go : (d : Option Body) → find i (s .book .rows) ≡ d → inClaim b k d ≡ 1 → (es : List Entry) × (find i (s .book .rows) ≡ some (claim b es)) × (0 < occurs k (movedOf es))
+      go none f q = absurd (omega arith)
+      go (some (reservation c ks)) f q = absurd (omega arith)
+      go (some (claim c es)) f q = bool (eqb b c)
+          (λ z. let y : b ≡ c = eqb-true b c z in let o : occurs k (movedOf es) ≡ 1 = rw z at q in (es, f ∙ ap (λ (x : ℕ). some (claim x es)) (sym y), omega arith))
+          (λ z. let o : 0 ≡ 1 = rw z at q in absurd (omega arith))
+      go (some (parcel hs)) f q = absurd (omega arith)
+
+-- ---- what a row's ranges say
+
+pub all-at : {A : Type 0} (P : A → Type 0) (l : List A) (i : ℕ) (a : A) → All P l → nth l i ≡ some a → P a
+all-at P [] i a h e = let z : _≡_ {A = ℕ} 0 1 = cc in absurd (omega arith)
+all-at P (x ∷ l) zero a h e = let q : x ≡ a = cc in rw q at (h .0)
+all-at P (x ∷ l) (suc i) a h e = all-at P l i a (h .1) e
+
+pub range-of : (s : State) (w : WellFormed till s) (i : ℕ) (d : Body) → find i (s .book .rows) ≡ some d → BodyRange s d
+range-of s w i d e = all-at (RowRange s) (s .book .rows) (rankOf i (s .book .rows)) (record { id = i; body = d }) (w .ranges .rows) (rank-found i (s .book .rows) d e .1)
+
+-- ---- the words of a row
+
+module _ (s : State) (m : Mem) (shows : Shows s m) (r : ℕ) (x : Row) (h : r < s .book .capacity) (e : nth (s .book .rows) r ≡ some x) where
+  pub row-is : (f : ℕ) → f < 6 → m (row r f) ≡ getD (blockWords 0 x) f 0
+  row-is f i = at-row s m shows r f h i ∙ rw e
+
+  pub item-is : (j f : ℕ) → j < 64 → f < 6 → m (item r j f) ≡ getD (itemWords (x .body) j) f 0
+  item-is j f l i = at-item s m shows r j f h l i ∙ rw e
+
+-- ---- the elements of a list, by number
+
+nth-low : {A : Type 0} (l : List A) (i : ℕ) (a : A) → nth l i ≡ some a → i < length l
+nth-low [] i a e = let z : _≡_ {A = ℕ} 0 1 = cc in absurd (omega arith)
+nth-low (x ∷ l) zero a e = omega arith
+nth-low (x ∷ l) (suc i) a e = omega (arith, nth-low l i a e)
+
+items-from : {A : Type 0} (P : ℕ → A → Type 0) (k : ℕ) (l : List A) → ((i j : ℕ) (a : A) → j ≡ k + i → nth l i ≡ some a → P j a) → Items P k l
+items-from P k [] f = tt
+items-from P k (x ∷ l) f = (f 0 k x (omega arith) refl, items-from P (suc k) l (λ i j a e q. f (suc i) j a (omega arith) q))
+
+items-are : {A : Type 0} (P : ℕ → A → Type 0) (l : List A) → ((i : ℕ) (a : A) → nth l i ≡ some a → P i a) → Items P 0 l
+items-are P l f = items-from P 0 l (λ i j a e q. let z : i ≡ j = omega arith in f j a (ap (λ (y : ℕ). nth l y) (sym z) ∙ q))
+
+-- ---- the rows in use
+
+module _ (s : State) (m : Mem) (shows : Shows s m) where
+  -- one row's body, by its words
+  body-is : (r : ℕ) (d : Body) → BodyRange s d → ((f : ℕ) → f < 5 → m (row r (suc f)) ≡ getD (bodyWords d) f 0)
+      → ((j f : ℕ) → j < 64 → f < 6 → m (item r j f) ≡ getD (itemWords d j) f 0) → BodyIs m r d
+  body-is r (reservation b ks) g a c = (
+    a 0 (omega arith),
+    a 1 (omega arith),
+    a 2 (omega arith),
+    items-are (λ j k. m (item r j 0) ≡ k) ks (λ j k e.
+        c j 0 (omega (arith, nth-low ks j k e, g .1 .1, batch-max)) (omega arith) ∙ rw e),
+  )
+  body-is r (claim b es) g a c =
+      (a 0 (omega arith), a 1 (omega arith), a 2 (omega arith), items-are (EntryIs m r) es (λ j x e. each j x (omega (arith, nth-low es j x e, g .1 .1, batch-max)) e))
+    where
+      each : (j : ℕ) (x : Entry) → j < 64 → nth es j ≡ some x → EntryIs m r j x
+      each j (moved k h y) l e =
+          let at : (f : ℕ) → f < 6 → m (item r j f) ≡ getD (entryItem (moved k h y)) f 0 = λ f i. c j f l i ∙ rw e in
+          (at 0 (omega arith), at 1 (omega arith), (at 2 (omega arith), at 3 (omega arith), at 4 (omega arith)), at 5 (omega arith))
+      each j (copied h) l e =
+          let at : (f : ℕ) → f < 6 → m (item r j f) ≡ getD (entryItem (copied h)) f 0 = λ f i. c j f l i ∙ rw e in
+          (at 0 (omega arith), (at 2 (omega arith), at 3 (omega arith), at 4 (omega arith)))
+  body-is r (parcel hs) g a c = (
+    a 0 (omega arith),
+    a 2 (omega arith),
+    items-are (HandleIs m r) hs (λ j h e.
+        let l : j < 64 = omega (arith, nth-low hs j h e, g .0 .1, batch-max) in
+        let at : (f : ℕ) → f < 6 → m (item r j f) ≡ getD (handleItem h) f 0 = λ f i. c j f l i ∙ rw e in
+        (at 2 (omega arith), at 3 (omega arith), at 4 (omega arith))),
+  )
+
+  rows-from : (i : ℕ) (rs : List Row) → ((j k : ℕ) → k ≡ i + j → nth rs j ≡ nth (s .book .rows) k) → i + length rs ≤ s .book .capacity → All (RowRange s) rs → RowsAre m i rs
+  rows-from i [] n l a = tt
+  rows-from i (x ∷ rs) n l a =
+      let h : i < s .book .capacity = omega arith in
+      let e : nth (s .book .rows) i ≡ some x = sym (n 0 i (omega arith)) in
+      rw (at-index s m shows i h) (
+        row-is s m shows i x h e 0 (omega arith),
+        body-is i (x .body) (a .0) (λ f g. row-is s m shows i x h e (suc f) (omega arith)) (item-is s m shows i x h e),
+        rows-from (suc i) rs (λ j k q. n (suc j) k (omega arith)) (omega arith) (a .1),
+      )
+
+  pub rows-are : WellFormed till s → RowsAre m 0 (s .book .rows)
+  rows-are w = rows-from 0 (s .book .rows) (λ j k q. let z : k ≡ j = omega arith in rw z) (omega (arith, w .ranges .rowCount)) (w .ranges .rows)
