@@ -88,18 +88,18 @@ TOP = "noninterference"
 SLIPS = {
     "a rollback that only frees the row": (
         "model/specs/Step.antt",
-        "accept (dropRow i (release (withTable s b (restoreAll es (s .tables b))) (copiesOf es))) done",
-        "accept (dropRow i (release (withTable s b (s .tables b)) (copiesOf es))) done",
+        "      settingTable b to restoreAll es (s .tables b)\n",
+        "      settingTable b to s .tables b\n",
     ),
     "a rollback that takes handles by their place among the moves": (
         "model/specs/Step.antt",
-        "accept (dropRow i (release (withTable s b (restoreAll es (s .tables b))) (copiesOf es))) done",
-        "accept (dropRow i (release (withTable s b (fillAll (movedOf es) (map (elim [ moved k h r ↦ h | copied h ↦ h ]) es) (s .tables b))) (copiesOf es))) done",
+        "      settingTable b to restoreAll es (s .tables b)\n",
+        "      settingTable b to fillAll (movedOf es) (map (elim [ moved k h r ↦ h | copied h ↦ h ]) es) (s .tables b)\n",
     ),
     "a commit that vacates the first slot only": (
         "model/specs/Step.antt",
-        "accept (swapRow i (parcel (map sentOf es)) (withTable s b (vacateAll z (movedOf es) (s .tables b)))) done",
-        "accept (swapRow i (parcel (map sentOf es)) (withTable s b (vacateAll z (take 1 (movedOf es)) (s .tables b)))) done",
+        "      settingTable b to vacateAll z (movedOf es) (s .tables b)\n",
+        "      settingTable b to vacateAll z (take 1 (movedOf es)) (s .tables b)\n",
     ),
     "a commit that pushes slots in reverse": (
         "model/specs/Book.antt",
@@ -108,13 +108,13 @@ SLIPS = {
     ),
     "a preparation that raises the epoch": (
         "model/specs/Step.antt",
-        "(withTable s b (keepAll z (λ g. transferReserved g i) (movedOf es) t))",
-        "(withTable s b (let u : Table = keepAll z (λ g. transferReserved g i) (movedOf es) t in record { limit = u .limit; mask = u .mask; life = u .life; epoch = u .epoch + 1; size = u .size; pages = u .pages; slots = u .slots; free = u .free; empty = u .empty; detached = u .detached }))",
+        "settingTable b to keepAll z (λ g. transferReserved g i) (movedOf es) t\n",
+        "settingTable b to (let u : Table = keepAll z (λ g. transferReserved g i) (movedOf es) t in record { limit = u .limit; mask = u .mask; life = u .life; epoch = u .epoch + 1; size = u .size; pages = u .pages; slots = u .slots; free = u .free; empty = u .empty; detached = u .detached })\n",
     ),
     "a preparation that unlinks the page": (
         "model/specs/Step.antt",
-        "(withTable s b (keepAll z (λ g. transferReserved g i) (movedOf es) t))",
-        "(withTable s b (let u : Table = keepAll z (λ g. transferReserved g i) (movedOf es) t in record { limit = u .limit; mask = u .mask; life = u .life; epoch = u .epoch; size = u .size; pages = u .pages; slots = u .slots; free = u .free; empty = take 0 (u .empty); detached = u .detached }))",
+        "settingTable b to keepAll z (λ g. transferReserved g i) (movedOf es) t\n",
+        "settingTable b to (let u : Table = keepAll z (λ g. transferReserved g i) (movedOf es) t in record { limit = u .limit; mask = u .mask; life = u .life; epoch = u .epoch; size = u .size; pages = u .pages; slots = u .slots; free = u .free; empty = take 0 (u .empty); detached = u .detached })\n",
     ),
 }
 

@@ -1,17 +1,16 @@
 -- A state's words, and the words past its end: what stands past the end does not count. Assumes nothing.
-use mathlib.Core.Path.{_≡_, refl, sym, ap, _∙_, fun-ext}
-use mathlib.Core.Bool.{Bool, true, false}
+use mathlib.Core.Path.{_≡_, sym, ap, _∙_, fun-ext}
 use mathlib.Core.List.{List, [], _∷_, _++_}
 use Prim.Native.Nat.{ℕ, _+_, _≤_, _<_}
 use native.Mathlib.Omega.{arith}
-use lib.ListN.{length, getD, set, take, drop, length-append, take-append-drop, List·getD-append}
-use lib.Seq.{length-take-le, getD-take, set-append-left, drop-at}
+use lib.ListN.{length, getD, set, take, length-append, List·getD-append}
+use lib.Seq.{length-take-le, getD-take, set-append-left}
 use Rattle.words.specs.Pick.{bool}
 use Rattle.model.specs.State.{till, State}
 use Rattle.model.specs.Request.{Request}
 use Rattle.model.specs.Step.{step}
 use Rattle.layout.specs.declared.Shape.{Shape}
-use Rattle.layout.specs.Layout.{Addr, Addr.reg, Mem, layout, total, isIn, in-is, place, place-low, load, load-out}
+use Rattle.layout.specs.Layout.{Addr, Addr.reg, layout, total, isIn, in-is, place, place-low, load, load-out}
 use Rattle.layout.specs.Regions.{region, in-place}
 use Rattle.layout.specs.ShapeOf.{Shaped}
 use Rattle.representation.specs.Represents.{Rep}

@@ -1,12 +1,12 @@
 -- A list over words, one request after the other: if each request does what the model's step does, the list does what the model's run does.
 -- Assumes nothing.
-use mathlib.Core.Path.{_≡_, refl, sym, ap, subst, _∙_}
+use mathlib.Core.Path.{_≡_, refl, sym, ap, _∙_}
 use mathlib.Core.List.{List, [], _∷_, _++_, append-assoc}
-use mathlib.Core.Option.{Option, none, some}
+use mathlib.Core.Option.{some}
 use Prim.Native.Nat.{ℕ, zero, suc, _+_, _-_, _*_, _≤_, _<_}
 use native.Mathlib.Omega.{arith}
 use lib.ListN.{length, take, drop, length-append}
-use lib.Seq.{length-take-le, take-at, drop-append-add, drop-append-le}
+use lib.Seq.{length-take-le, take-at, drop-append-add}
 use lib.Dec.{ltb}
 use borrow.Author.Tests.{ltb-true, ltb-false}
 use Rattle.words.specs.Pick.{bool}
@@ -14,14 +14,13 @@ use Rattle.format.specs.Format.{answerWords}
 use Rattle.model.specs.State.{till, State}
 use Rattle.model.specs.Request.{Request, Answer}
 use Rattle.model.specs.Step.{step, run}
-use Rattle.model.specs.WellFormed.{WellFormed}
 use Rattle.model.specs.Words.{readList, usedWords, wordsOf, allWords}
 use Rattle.model.specs.Lists.{words-length}
 use Rattle.invariant.specs.Pages.{till-sane}
 use Rattle.invariant.specs.Kept.{kept}
 use Rattle.layout.specs.declared.Shape.{Shape}
-use Rattle.representation.specs.Represents.{Reps, Rep}
-use Rattle.request.specs.Place.{requestAt, requestEnd, nextAt}
+use Rattle.representation.specs.Represents.{Rep}
+use Rattle.request.specs.Place.{requestAt, nextAt}
 use Rattle.request.specs.Answers.{cleared, answer-is}
 use Rattle.request.specs.Laws.{Formed, Turn, list-at, list-done}
 use Rattle.answer.specs.Does.{Both, both, Does}

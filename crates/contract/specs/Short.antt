@@ -1,17 +1,15 @@
 -- An answer has at most 72 words. Assumes nothing.
-use mathlib.Core.Path.{_≡_, refl, sym, ap, _∙_}
-use mathlib.Core.Bool.{Bool, true, false, not, _&&_}
-use mathlib.Core.List.{List, [], _∷_, _++_, map}
-use mathlib.Core.Option.{Option, none, some}
-use Prim.Native.Nat.{ℕ, zero, suc, _+_, _-_, _≤_, _<_, min}
+use mathlib.Core.Path.{_≡_, refl, ap}
+use mathlib.Core.Bool.{true, not}
+use mathlib.Core.List.{List, [], _∷_, map}
+use Prim.Native.Nat.{ℕ, zero, suc, _-_, _≤_, min}
 use native.Mathlib.Omega.{arith}
-use lib.ListN.{length, take, drop, length-append}
+use lib.ListN.{length, take}
 use lib.Dec.{eqb, ltb}
 use borrow.Author.Tests.{ltb-false, not-true}
 use Rattle.words.specs.Pick.{bool}
 use Rattle.authority.specs.Rights.{contains, duplicateRight}
-use Rattle.format.specs.Format.{answerWords}
-use Rattle.model.specs.Base.{atMost, isSome, pick}
+use Rattle.model.specs.Base.{atMost, isSome}
 use Rattle.model.specs.State.{till, Handle, Slot, Table, State, isActive, isOccupied, knownFlags, maxBatch}
 use Rattle.model.specs.Storage.{pagesFor, Walk, walk, lengthOf, grow}
 use Rattle.model.specs.Objects.{isNowActive, isNowRetired}
@@ -19,8 +17,8 @@ use Rattle.model.specs.Book.{find, freeRow, idLeft, anyOpen, copiesOf}
 use Rattle.model.specs.Transfer.{itemsFault, copiesFault, entryFor}
 use Rattle.model.specs.Decision.{Decision, Decision.refusal, Decision.refusalAfterId, Decision.accept, asParcel, handlesOf, distinct}
 use Rattle.model.specs.Lookup.{lookup, snapshotAt, valueAt}
-use Rattle.model.specs.Request.{Request, Answer, Answer.batch, Answer.scanned, Request.newObject, Request.duplicate, Request.releaseParcel, Request.retireObject, Request.reserve, Request.trim, Request.abort, Request.publish, Request.getInfo, Request.resolve, Request.replace, Request.close, Request.scanHandles, Request.prepareTransfer, Request.prepareConsumption, Request.rollback, Request.commit, Request.directCommit, Request.directRollback, Request.removeStoppingOwner, Request.teardownStart, Request.teardownStep, Request.teardownFinish, Request.takeEmptyPage}
-use Rattle.model.specs.Words.{usedWords, infoWords}
+use Rattle.model.specs.Request.{Request, Answer.batch, Answer.scanned, Request.newObject, Request.duplicate, Request.releaseParcel, Request.retireObject, Request.reserve, Request.trim, Request.abort, Request.publish, Request.getInfo, Request.resolve, Request.replace, Request.close, Request.scanHandles, Request.prepareTransfer, Request.prepareConsumption, Request.rollback, Request.commit, Request.directCommit, Request.directRollback, Request.removeStoppingOwner, Request.teardownStart, Request.teardownStep, Request.teardownFinish, Request.takeEmptyPage}
+use Rattle.model.specs.Words.{usedWords}
 use Rattle.model.specs.Step.{decide, step, carry, newObjectOf, duplicateOf, releaseParcelOf, retireObjectOf, reserveOf, trimOf, abortOf, publishOf, getInfoOf, resolveOf, replaceOf, closeOf, scanHandlesOf, prepareTransferOf, prepareConsumptionOf, rollbackOf, commitOf, directCommitOf, directRollbackOf, removeStoppingOwnerOf, removeAt, nextOccupied, teardownStartOf, teardownStepOf, tearAt, teardownFinishOf, takeEmptyPageOf, takeAt, snapshotPage}
 use Rattle.model.specs.Decided.{Decided, Any, accepts, checked, with-some, with-view, with-handle, with-reservation, with-claim, while-tearing, after-id, found-or, either-way, first-or}
 use Rattle.model.specs.Lists.{entry-words}
@@ -70,7 +68,7 @@ module _ (s : State) where
       checked (s .objects o .exportable) 6 tt λ e.
       checked (not (isNowRetired (s .objects o .stage))) 9 tt λ e.
       checked (not (isNowActive (s .objects o .stage))) 10 tt λ e.
-      checked (ltb (s .objects o .count) (s .objects o .limit)) 11 tt λ e.
+      checked (not (eqb (s .objects o .count) (s .objects o .limit))) 11 tt λ e.
       checked (idLeft s) 12 tt λ e.
       accepts (omega arith)
   decide-short (duplicate b v r) =
@@ -183,12 +181,12 @@ module _ (s : State) where
   decide-short (teardownStep b) =
       let t : Table = s .tables b in
       checked (ltb b (s .tableCount)) 18 tt λ e.
-      while-tearing till (t .life) tt λ c e.
+      while-tearing (t .life) tt λ c e.
       found-or (tearAt till s b t) (nextOccupied till t c) (accepts (omega arith)) λ k e. accepts (omega arith)
   decide-short (teardownFinish b) =
       let t : Table = s .tables b in
       checked (ltb b (s .tableCount)) 18 tt λ e.
-      while-tearing till (t .life) tt λ c e.
+      while-tearing (t .life) tt λ c e.
       checked (not (isSome (nextOccupied till t 0))) 18 tt λ e.
       accepts (omega arith)
   decide-short (takeEmptyPage b) =

@@ -1,5 +1,5 @@
 -- The requests that open and close no reservation or claim keep the clauses of the book and the counts.
-use mathlib.Core.Path.{_≡_, refl, ap, _∙_}
+use mathlib.Core.Path.{_≡_, refl, ap}
 use mathlib.Core.Bool.{true, false, not}
 use mathlib.Core.List.{[], _∷_}
 use Prim.Native.Nat.{ℕ, _+_, _≤_, _<_}
@@ -59,7 +59,7 @@ module _ (z : Sizes) (sane : Sane z) (s : State) (w : WellFormed z s) where
       checked (x .exportable) _ tt λ e₃.
       checked (not (isNowRetired (x .stage))) _ tt λ e₄.
       checked (not (isNowActive (x .stage))) _ tt λ e₅.
-      checked (ltb (x .count) (x .limit)) _ tt λ e₆.
+      checked (not (eqb (x .count) (x .limit))) _ tt λ e₆.
       checked (idLeft s) _ tt λ id.
       let m : o < s .objectCount = ltb-true o (s .objectCount) l in
       let fit : Fit x = its .fit o m in
@@ -67,7 +67,7 @@ module _ (z : Sizes) (sane : Sane z) (s : State) (w : WellFormed z s) where
       (not-true (isNowActive (x .stage)) e₅) in
       accepts (new-parcel s its (record { object = o; rights = r; flags = f }) activated fr id
       (record { object = m; rights = omega (arith, contains-le (x .supported) r e₁, fit .range .supported); flags = contains-le knownFlags f e₂ })
-      (activated-fit x fit (ltb-true (x .count) (x .limit) e₆)) (omega arith))
+      (activated-fit x fit (omega (arith, fit .within, eqb-false (x .count) (x .limit) (not-true (eqb (x .count) (x .limit)) e₆)))) (omega arith))
 
   pub duplicate-kept : (b v r : ℕ) → Keeps s (duplicateOf z s b v r)
   unfolding duplicateOf
@@ -169,7 +169,7 @@ module _ (z : Sizes) (sane : Sane z) (s : State) (w : WellFormed z s) where
   unfolding teardownStepOf
   step-kept b = let t : Table = s .tables b in
       checked (ltb b (s .tableCount)) _ tt λ l.
-      while-tearing z (t .life) tt λ c d.
+      while-tearing (t .life) tt λ c d.
       found-or (tearAt z s b t) (nextOccupied z t c) (accepts its) λ k e.
       let q = next-occupied z t c k e in
       accepts (vacated-kept b k (q .0) (handleOr (t .slots k)) (tearingDown (k + 1)) (ltb-true b (s .tableCount) l) (q .1) refl
@@ -179,7 +179,7 @@ module _ (z : Sizes) (sane : Sane z) (s : State) (w : WellFormed z s) where
   unfolding teardownFinishOf
   finish-kept b = let t : Table = s .tables b in
       checked (ltb b (s .tableCount)) _ tt λ l.
-      while-tearing z (t .life) tt λ c e.
+      while-tearing (t .life) tt λ c e.
       checked (not (isSome (nextOccupied z t 0))) _ tt λ q.
       let m : b < s .tableCount = ltb-true b (s .tableCount) l in
       accepts (calm-step s its b (withLife t retired) m (calm-same s its b (withLife t retired) (λ k. refl))

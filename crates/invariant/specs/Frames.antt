@@ -43,7 +43,8 @@ module _ (z : Sizes) (sane : Sane z) where
   planned : (fuel needed : ℕ) (ds : List ℕ) (n l : ℕ) (t : Table) (fr : List ℕ) → Sound z t fr → t .detached ≡ ds → t .size ≡ n → t .limit ≡ l
       → (ps : List ℕ) → pagesFrom z fuel needed ds n l ≡ some ps → Grows z t ps × (needed ≤ fuel → needed ≤ room z ps)
   unfolding attach
-  planned zero needed ds n l t fr o d c k ps e = let y : ps ≡ [] = cc in rw y (tt, λ h. h)
+  planned zero zero ds n l t fr o d c k ps e = let y : ps ≡ [] = cc in rw y (tt, λ h. h)
+  planned zero (suc m) ds n l t fr o d c k ps e = apart (cc)
   planned (suc fuel) zero ds n l t fr o d c k ps e = let y : ps ≡ [] = cc in rw y (tt, λ h. omega arith)
   planned (suc fuel) (suc m) [] n l t fr o d c k ps e = bool (eqb n l)
       (λ q. let x : none ≡ some ps = rw q at e in apart (cc))

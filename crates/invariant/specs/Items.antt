@@ -13,16 +13,16 @@ use Rattle.authority.specs.Rights.{contains, duplicateRight, transferRight}
 use Rattle.codec.specs.Codec.{decodes, slotIn, generationIn}
 use Rattle.codec.specs.Laws.{same-value}
 use Rattle.model.specs.Base.{pick, bit, orElse, member, occurs}
-use Rattle.model.specs.State.{Handle, Slot, Slot.absent, Slot.vacant, Slot.reserved, Slot.transferReserved, Slot.occupied, Table, Object, Entry}
+use Rattle.model.specs.State.{Handle, Slot, Slot.absent, Slot.vacant, Slot.reserved, Slot.transferReserved, Slot.occupied, Table, Entry}
 use Rattle.model.specs.State.{Entry.moved, Entry.copied, State, isActive}
 use Rattle.model.specs.Request.{Answer, Route, Operation, Operation.asMove, Operation.asCopy, Item}
 use Rattle.model.specs.Book.{movedOf, copiesOf}
 use Rattle.model.specs.Decision.{Decision}
-use Rattle.model.specs.Lookup.{View, View.invalid, View.busy, View.holds, viewSlot, lookup, handleOr, onHandle}
-use Rattle.model.specs.Transfer.{Check, _or_, firstFault, isCopy, isHeld, lookupNumber, heldIn, itemChecks, firstOf, itemsFault, entryBy, entryFor}
+use Rattle.model.specs.Lookup.{View, View.invalid, View.busy, View.holds, viewSlot, lookup, handleOr}
+use Rattle.model.specs.Transfer.{Check, _or_, firstFault, isCopy, isKnown, isBusyNow, heldIn, itemChecks, firstOf, itemsFault, entryBy, entryFor}
 use Rattle.model.specs.WellFormed.{HandleRange, SlotRange, EntryRange, All, ofObject, inHandles}
 use Rattle.model.specs.Tests.{apart, bool, clash, same}
-use Rattle.model.specs.Decided.{Decided, Any, with-handle}
+use Rattle.model.specs.Decided.{Decided, Any, onHandle, with-handle}
 use Rattle.invariant.specs.Pointwise.{movedHandles, given}
 use Rattle.invariant.specs.CountLemmas.{of-other}
 
@@ -98,10 +98,10 @@ fault-head c cs e = bool (c .holds)
     (λ q. (q, rw q at e))
     (λ q. let y : some (c .number) ≡ none = rw q at e in apart (cc))
 
-pub held-view : (w : View) → isHeld w ≡ true → (k : ℕ) × (w ≡ holds k (heldIn w))
-held-view invalid e = apart (cc)
-held-view busy e = apart (cc)
-held-view (holds k h) e = (k, refl)
+pub held-view : (w : View) → isKnown w ≡ true → not (isBusyNow w) ≡ true → (k : ℕ) × (w ≡ holds k (heldIn w))
+held-view invalid e d = apart (cc)
+held-view busy e d = apart (cc)
+held-view (holds k h) e d = (k, refl)
 
 -- an item without fault
 pub record Passed (t : Table) (earlier : List ℕ) (q : Item) : Type 0 where
@@ -119,12 +119,13 @@ module _ (s : State) (t : Table) (route : Route) (bo bk : Option ℕ) where
       let offered : ℕ = orElse (q .offeredRights) (h .rights) in
       let cs : List Check = itemChecks s route bo bk earlier q w in
       let once = fault-head (not (member (q .value) earlier) or 2) (drop 1 cs) e in
-      let found = fault-head (isHeld w or lookupNumber w) (drop 2 cs) (once .1) in
-      let transfer = fault-head (contains (h .rights) transferRight or 5) (drop 3 cs) (found .1) in
-      let copy = fault-head ((not (isCopy (q .operation)) || contains (h .rights) duplicateRight) or 5) (drop 4 cs) (transfer .1) in
-      let source = fault-head (contains (h .rights) offered or 5) (drop 5 cs) (copy .1) in
-      let asked = fault-head (contains offered (q .rights) or 5) (drop 6 cs) (source .1) in
-      let v = held-view w (found .0) in
+      let found = fault-head (isKnown w or 2) (drop 2 cs) (once .1) in
+      let idle = fault-head (not (isBusyNow w) or 3) (drop 3 cs) (found .1) in
+      let transfer = fault-head (contains (h .rights) transferRight or 5) (drop 4 cs) (idle .1) in
+      let copy = fault-head ((not (isCopy (q .operation)) || contains (h .rights) duplicateRight) or 5) (drop 5 cs) (transfer .1) in
+      let source = fault-head (contains (h .rights) offered or 5) (drop 6 cs) (copy .1) in
+      let asked = fault-head (contains offered (q .rights) or 5) (drop 7 cs) (source .1) in
+      let v = held-view w (found .0) (idle .0) in
       let n : Named t (q .value) (v .0) h = named t (q .value) (v .0) h (v .1) in
       record {
         new = not-true (member (q .value) earlier) (once .0);

@@ -2,7 +2,6 @@
 use mathlib.Core.Path.{_≡_}
 use mathlib.Core.List.{List, [], _∷_}
 use mathlib.Core.Option.{some}
-use Prim.Native.Nat.{ℕ, _<_}
 use Rattle.model.specs.State.{Sizes, State}
 use Rattle.model.specs.Request.{Request}
 use Rattle.model.specs.Step.{step, run}

@@ -46,7 +46,7 @@ module _ (z : Sizes) (sane : Sane z) (s : State) (w : WellFormed z s) where
       checked (x .exportable) _ tt λ e4.
       checked (not (isNowRetired (x .stage))) _ tt λ e5.
       checked (not (isNowActive (x .stage))) _ tt λ e6.
-      checked (ltb (x .count) (x .limit)) _ tt λ e7.
+      checked (not (eqb (x .count) (x .limit))) _ tt λ e7.
       checked (idLeft s) _ tt λ e8.
       accepts (objects-kept z s w (change activated (s .objects) o)
       (change-rest activated (s .objectCount) o (s .objects) (ltb-true o (s .objectCount) l) (w .atRest .objects)) _ _)
@@ -149,7 +149,7 @@ module _ (z : Sizes) (sane : Sane z) (s : State) (w : WellFormed z s) where
   unfolding teardownStepOf
   step-kept b = let t : Table = s .tables b in
       checked (ltb b (s .tableCount)) _ tt λ l.
-      while-tearing z (t .life) tt λ c d.
+      while-tearing (t .life) tt λ c d.
       found-or (tearAt z s b t) (nextOccupied z t c) (accepts (still z s w)) λ k e.
       let m : b < s .tableCount = ltb-true b (s .tableCount) l in
       let q = next-occupied z t c k e in
@@ -160,7 +160,7 @@ module _ (z : Sizes) (sane : Sane z) (s : State) (w : WellFormed z s) where
   unfolding teardownFinishOf
   finish-kept b = let t : Table = s .tables b in
       checked (ltb b (s .tableCount)) _ tt λ l.
-      while-tearing z (t .life) tt λ k e.
+      while-tearing (t .life) tt λ k e.
       checked (not (isSome (nextOccupied z t 0))) _ tt λ e.
       let m : b < s .tableCount = ltb-true b (s .tableCount) l in
       accepts (life-kept z s w b t retired m (alike-self z t) (sound-at z s w b m) tt (s .objects) (w .atRest .objects) _ _)

@@ -38,7 +38,7 @@ use Rattle.invariant.specs.Items.{stands-at, taken, items-stand, items-r
 use Rattle.invariant.specs.Pages.{Sane}
 use Rattle.invariant.specs.Orders.{order-is, keep-sound, keepAll-sound, takeFree-sound, vacateAll-good, fillAll-good, restoreAll-good}
 use Rattle.invariant.specs.Frames.{owned-alike, Grows, pages-grow, grow-sound, grow-owned, rising-drop}
-use Rattle.invariant.specs.StorageState.{StorageClauses, SameCounts, storage-of, sound-of, turned, another, changeAll-rest, copies-range}
+use Rattle.invariant.specs.StorageState.{StorageClauses, storage-of, sound-of, turned, another, changeAll-rest, copies-range}
 use Rattle.invariant.specs.StorageViews.{fillAll-busy}
 use Rattle.invariant.specs.StorageDecisions.{Kept, KeptD, still, sound-at, table-kept, again-kept, rows-kept, copies-rest, reservation-owns}
 use Rattle.invariant.specs.StorageDecisions.{claim-owns, spent}
@@ -238,9 +238,6 @@ module _ (z : Sizes) (sane : Sane z) (s : State) (w : WellFormed z s) where
   unfolding step
   request-kept r = carried (Kept z s) z s (decide z s r) (still z s w) (λ n q. spent z s w) (λ u a k. k) (decided r)
 
--- the storage clauses hold after every request, and the counts are as before
+-- the storage clauses hold after every request
 pub storage-kept : (z : Sizes) → Sane z → (s : State) → WellFormed z s → (r : Request) → StorageClauses z (step z s r .0)
 storage-kept z sane s w r = request-kept z sane s w r .storage
-
-pub counts-kept : (z : Sizes) → Sane z → (s : State) → WellFormed z s → (r : Request) → SameCounts s (step z s r .0)
-counts-kept z sane s w r = request-kept z sane s w r .counts

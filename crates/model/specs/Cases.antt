@@ -10,7 +10,7 @@ use borrow.Author.Tests.{eqb-true}
 use Rattle.authority.specs.Rights.{contains}
 use Rattle.codec.specs.Codec.{encode, payload, decodes, payloadIn, numberIn, slotIn, generationIn, nextGeneration, maskOf}
 use Rattle.model.specs.Base.{pick, put, every, nth, range, pushAll}
-use Rattle.model.specs.State.{till, Slot.absent, Slot.vacant, Slot.occupied, Table, State, Lifecycle.active, Stage.stillNew, Stage.nowActive, Object, maxBatch, maxSlots, knownFlags}
+use Rattle.model.specs.State.{till, Slot.absent, Slot.vacant, Slot.occupied, Table, State, Lifecycle, Lifecycle.active, Lifecycle.tearingDown, Lifecycle.retired, Stage.stillNew, Stage.nowActive, Object, maxBatch, maxSlots, knownFlags}
 use Rattle.model.specs.State.{lastId}
 use Rattle.model.specs.Storage.{place, vacate, takeFree, pagesFor, attach, detach, slotsOf}
 use Rattle.model.specs.Request.{Answer, Answer.refused, Route.buffered, Route.rendezvous, Item, Operation, Operation.asMove, Operation.asCopy}
@@ -235,6 +235,15 @@ countOf s o = s .objects o .count ∷ []
 abbrev pub three : List Request
 three = first ++ (duplicate 0 v63 7 ∷ duplicate 0 v63 3 ∷ reserve 0 2 ∷ publish 5 (3 ∷ 4 ∷ []) ∷ [])
 
+-- where the teardown of table 0 stands, if it goes on
+abbrev pub cursorIn : Lifecycle → List ℕ
+cursorIn active = []
+cursorIn (tearingDown c) = c ∷ []
+cursorIn retired = []
+
+abbrev pub cursor : State → List ℕ
+cursor s = cursorIn (s .tables 0 .life)
+
 -- n numbers from k on, falling
 abbrev pub down : ℕ → ℕ → List ℕ
 down k zero = []
@@ -310,6 +319,8 @@ corners =
     ∷ numbers (lastIds fresh) (newObject 0 3 0 ∷ reserve 0 1 ∷ transfer (item asMove v63 0 ∷ []) ∷ transfer [] ∷ reserve 0 65 ∷ newObject 9 0 0 ∷ newObject 4 3 0 ∷ []) is (12 ∷ 12 ∷ 12 ∷ 17 ∷ 13 ∷ 18 ∷ 11 ∷ [])
     -- "New object: 1, 6, 7, activation, 12"
     ∷ numbers fresh (newObject 6 4 4 ∷ newObject 2 3 4 ∷ newObject 2 3 3 ∷ newObject 4 3 0 ∷ newObject 1 3 0 ∷ newObject 1 3 0 ∷ []) is (6 ∷ 7 ∷ 6 ∷ 11 ∷ 0 ∷ 10 ∷ [])
+    -- .. "9 retired, 10 active, 11 limit reached, in that order": an active object at its limit, and the same one retired
+    ∷ numbers fresh (newObject 1 3 0 ∷ reserve 0 1 ∷ publish 2 (1 ∷ []) ∷ duplicate 0 v63 1 ∷ newObject 1 3 0 ∷ retireObject 1 ∷ newObject 1 3 0 ∷ []) is (0 ∷ 0 ∷ 0 ∷ 0 ∷ 10 ∷ 0 ∷ 9 ∷ [])
     -- "Duplicate: 16, 1, 2 or 3, 5, 9, 11, 12"
     ∷ numbers (end fresh three) (duplicate 2 0 0 ∷ duplicate 0 0 0 ∷ duplicate 0 v63 16 ∷ replace 0 v63 2 ∷ duplicate 0 (at0 63 2) 0 ∷ retireObject 0 ∷ duplicate 0 (at0 62 1) 9 ∷ duplicate 0 (at0 62 1) 1 ∷ []) is (18 ∷ 2 ∷ 5 ∷ 0 ∷ 5 ∷ 0 ∷ 5 ∷ 9 ∷ [])
     ∷ numbers fresh (newObject 1 3 0 ∷ reserve 0 1 ∷ publish 2 (1 ∷ []) ∷ duplicate 0 v63 1 ∷ duplicate 0 v63 1 ∷ []) is (0 ∷ 0 ∷ 0 ∷ 0 ∷ 11 ∷ [])
@@ -334,6 +345,13 @@ corners =
     ∷ numbers (end fresh first) (teardownStep 0 ∷ teardownFinish 0 ∷ reserve 0 1 ∷ teardownStart 0 ∷ abort 3 ∷ transfer (item asCopy v63 0 ∷ []) ∷ teardownStart 0 ∷ rollback 4 ∷ teardownStart 0 ∷ teardownStart 0 ∷ getInfo 0 v63 ∷ scanHandles 0 0 ∷ removeStoppingOwner 0 5 ∷ takeEmptyPage 0 ∷ teardownFinish 0 ∷ teardownStep 0 ∷ teardownStep 0 ∷ teardownFinish 0 ∷ teardownFinish 0 ∷ reserve 0 1 ∷ teardownStart 0 ∷ []) is (18 ∷ 18 ∷ 0 ∷ 14 ∷ 0 ∷ 0 ∷ 14 ∷ 0 ∷ 0 ∷ 16 ∷ 16 ∷ 16 ∷ 0 ∷ 0 ∷ 18 ∷ 0 ∷ 0 ∷ 0 ∷ 18 ∷ 16 ∷ 16 ∷ [])
     ∷ last (end fresh three) (teardownStart 0 ∷ teardownStep 0 ∷ []) is (0 ∷ 1 ∷ 70 ∷ 3 ∷ 3 ∷ 0 ∷ [])
     ∷ last (end fresh three) (teardownStart 0 ∷ teardownStep 0 ∷ teardownStep 0 ∷ teardownStep 0 ∷ teardownStep 0 ∷ []) is (0 ∷ 0 ∷ [])
+    -- a teardown's walk puts slots at the head of the free order; its cursor is the slot after the one found, and a step that finds none leaves it
+    ∷ orders (end fresh (three ++ (teardownStart 0 ∷ teardownStep 0 ∷ teardownStep 0 ∷ []))) is (1 ∷ 2 ∷ 62 ∷ 61 ∷ (down 60 61 ++ (99 ∷ 99 ∷ [])))
+    ∷ cursor (end fresh (three ++ (teardownStart 0 ∷ []))) is (0 ∷ [])
+    ∷ cursor (end fresh (three ++ (teardownStart 0 ∷ teardownStep 0 ∷ []))) is (62 ∷ [])
+    ∷ cursor (end fresh (three ++ (teardownStart 0 ∷ teardownStep 0 ∷ teardownStep 0 ∷ teardownStep 0 ∷ teardownStep 0 ∷ []))) is (64 ∷ [])
+    -- a stopping owner's walk puts slots at the head of the free order
+    ∷ places (end fresh three) (removeStoppingOwner 0 0 ∷ removeStoppingOwner 0 62 ∷ reserve 0 2 ∷ []) is (62 ∷ 2 ∷ 61 ∷ 2 ∷ [])
     -- "The cursor of `remove_stopping_owner` is a request field, and the answer gives it as left"
     ∷ last (end fresh three) (removeStoppingOwner 0 0 ∷ []) is (0 ∷ 1 ∷ 62 ∷ at0 61 1 ∷ 70 ∷ 3 ∷ 3 ∷ 0 ∷ [])
     ∷ last (end fresh three) (removeStoppingOwner 0 62 ∷ []) is (0 ∷ 1 ∷ 63 ∷ at0 62 1 ∷ 70 ∷ 3 ∷ 7 ∷ 0 ∷ [])

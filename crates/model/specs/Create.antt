@@ -1,6 +1,6 @@
 -- Creation: "a call beside the list, makes active tables without pages, new objects, free frames, no rows and next id 1".
-use mathlib.Core.Bool.{Bool, true, false, _&&_}
-use mathlib.Core.List.{List, [], _∷_}
+use mathlib.Core.Bool.{Bool, _&&_}
+use mathlib.Core.List.{List, []}
 use mathlib.Core.Option.{Option, none, some}
 use Prim.Native.Nat.{ℕ, zero, suc, _+_, _-_, _/_, _^_}
 use lib.ListN.{length}

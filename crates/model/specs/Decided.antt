@@ -12,16 +12,22 @@ use Rattle.model.specs.State.{Sizes, Handle, Lifecycle, Lifecycle.active
 use Rattle.model.specs.State.{Body.reservation, Body.claim, Body.parcel, State, isActive}
 use Rattle.model.specs.Request.{Answer}
 use Rattle.model.specs.Book.{spendId}
-use Rattle.model.specs.Decision.{Decision, Decision.refusal, Decision.refusalAfterId, Decision.accept, unless_refuse_then_, asReservation}
-use Rattle.model.specs.Decision.{asClaim, onSome}
-use Rattle.model.specs.Lookup.{View, View.invalid, View.busy, View.holds, lookup, onView, onHandle}
-use Rattle.model.specs.Transfer.{afterId}
-use Rattle.model.specs.Step.{onTearing, carry}
+use Rattle.model.specs.Decision.{Decision, Decision.refusal, Decision.refusalAfterId, Decision.accept, unless_refuse_then_, given_refuse_then_}
+use Rattle.model.specs.Decision.{table_of_refuse_then_, asReservation, asClaim, refuseAfterId_then_, teardownCursor_refuse_then_}
+use Rattle.model.specs.Lookup.{View, View.invalid, View.busy, View.holds, lookup, onView, handle_of_refuse_orBusy_then_}
+use Rattle.model.specs.Step.{carry}
 
 abbrev pub Leaves : (ℕ → Type 0) → (ℕ → Type 0) → (State → Answer → Type 0) → Decision → Type 0
 Leaves N R A (refusal n) = N n
 Leaves N R A (refusalAfterId n) = R n
 Leaves N R A (accept u a) = A u a
+
+-- the fronts that requests share: an active table, and a handle in it
+abbrev pub onActive : State → ℕ → (Table → Decision) → Decision
+onActive s b f = table b of s refuse 18 then λ t. unless isActive (t .life) refuse 16 then f t
+
+abbrev pub onHandle : State → ℕ → ℕ → (Table → ℕ → Handle → Decision) → Decision
+onHandle s b v f = onActive s b λ t. handle v of t refuse 2 orBusy 3 then f t
 
 -- no demand on a number
 abbrev pub Any : ℕ → Type 0
@@ -43,12 +49,12 @@ module _ {N R : ℕ → Type 0} {A : State → Answer → Type 0} where
   checked false n r h = refuses r
 
   pub with-some : {X : Type 0} (x : Option X) {f : X → Decision} (n : ℕ) → N n → ((a : X) → x ≡ some a → Decided N R A (f a))
-      → Decided N R A (onSome x n f)
+      → Decided N R A (given x refuse n then f)
   with-some none n r h = refuses r
   with-some (some a) n r h = h a refl
 
   pub with-view : (v : View) {f : ℕ → Handle → Decision} → N 2 → N 3 → ((k : ℕ) (h : Handle) → v ≡ holds k h → Decided N R A (f k h))
-      → Decided N R A (onView v f)
+      → Decided N R A (onView v 2 3 f)
   with-view invalid p q h = refuses p
   with-view busy p q h = refuses q
   with-view (holds k x) p q h = h k x refl
@@ -61,26 +67,26 @@ module _ {N R : ℕ → Type 0} {A : State → Answer → Type 0} where
       c (ltb-true b (s .tableCount) l) a k h e
 
   pub with-reservation : (x : Option Body) {f : ℕ → List ℕ → Decision} → N 18
-      → ((b : ℕ) (ks : List ℕ) → x ≡ some (reservation b ks) → Decided N R A (f b ks)) → Decided N R A (asReservation x f)
+      → ((b : ℕ) (ks : List ℕ) → x ≡ some (reservation b ks) → Decided N R A (f b ks)) → Decided N R A (asReservation x 18 f)
   with-reservation none r h = refuses r
   with-reservation (some (reservation b ks)) r h = h b ks refl
   with-reservation (some (claim b es)) r h = refuses r
   with-reservation (some (parcel hs)) r h = refuses r
 
   pub with-claim : (x : Option Body) {f : ℕ → List Entry → Decision} → N 18
-      → ((b : ℕ) (es : List Entry) → x ≡ some (claim b es) → Decided N R A (f b es)) → Decided N R A (asClaim x f)
+      → ((b : ℕ) (es : List Entry) → x ≡ some (claim b es) → Decided N R A (f b es)) → Decided N R A (asClaim x 18 f)
   with-claim none r h = refuses r
   with-claim (some (reservation b ks)) r h = refuses r
   with-claim (some (claim b es)) r h = h b es refl
   with-claim (some (parcel hs)) r h = refuses r
 
-  pub while-tearing : (z : Sizes) (x : Lifecycle) {f : ℕ → Decision} → N 18 → ((c : ℕ) → x ≡ tearingDown c → Decided N R A (f c))
-      → Decided N R A (onTearing z x f)
-  while-tearing z active r h = refuses r
-  while-tearing z (tearingDown c) r h = h c refl
-  while-tearing z retired r h = refuses r
+  pub while-tearing : (x : Lifecycle) {f : ℕ → Decision} → N 18 → ((c : ℕ) → x ≡ tearingDown c → Decided N R A (f c))
+      → Decided N R A (teardownCursor x refuse 18 then f)
+  while-tearing active r h = refuses r
+  while-tearing (tearingDown c) r h = h c refl
+  while-tearing retired r h = refuses r
 
-  pub after-id : (x : Option ℕ) {d : Decision} → ((n : ℕ) → x ≡ some n → R n) → (x ≡ none → Decided N R A d) → Decided N R A (afterId x d)
+  pub after-id : (x : Option ℕ) {d : Decision} → ((n : ℕ) → x ≡ some n → R n) → (x ≡ none → Decided N R A d) → Decided N R A (refuseAfterId x then d)
   after-id none r h = h refl
   after-id (some n) r h = record { leaves = r n refl }
 

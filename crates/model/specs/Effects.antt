@@ -1,24 +1,21 @@
 -- Orders and effects of the requests, line by line: what the tables of Cases do not have.
 use mathlib.Core.Path.{_≡_, refl}
-use mathlib.Core.Bool.{Bool, true, false, _&&_}
 use mathlib.Core.List.{List, [], _∷_, _++_, map}
-use mathlib.Core.Option.{Option, none, some}
-use Prim.Native.Nat.{ℕ, zero, suc, _+_, _-_, _*_, _^_}
-use lib.ListN.{length, take, drop}
-use lib.Dec.{eqb, ltb}
-use borrow.Author.Tests.{eqb-true}
+use mathlib.Core.Option.{none, some}
+use Prim.Native.Nat.{ℕ, zero, suc, _+_}
+use lib.ListN.{length, take}
 use Rattle.authority.specs.Rights.{contains}
 use Rattle.codec.specs.Codec.{encode, payload, decodes, payloadIn, numberIn, slotIn, generationIn, nextGeneration, maskOf}
-use Rattle.model.specs.Base.{bit, pick, put, every, nth, range, pushAll, isSome, orElse}
-use Rattle.model.specs.State.{Sizes, till, Handle, Slot, Slot.absent, Slot.vacant, Slot.occupied, Page, Table, Object, State, Lifecycle, Lifecycle.active, Lifecycle.tearingDown, Lifecycle.retired, Row, Book, noTable, maxTables, maxFrames, maxObjects, maxRows, maxBatch, maxSlots, maxLimit, knownFlags, lastId}
-use Rattle.model.specs.Storage.{place, vacate, takeFree, pagesFor, attach, detach, slotsOf}
-use Rattle.model.specs.Request.{Answer, Answer.refused, Answer.done, Answer.opened, Answer.batch, Answer.infoOf, Answer.resolved, Answer.renewed, Answer.scanned, Answer.removed, Answer.closed, Answer.taken, Route.buffered, Route.rendezvous, Route.stagedStartup, Item, Operation, Operation.asMove, Operation.asCopy}
-use Rattle.model.specs.Request.{Request, Request.newObject, Request.duplicate, Request.releaseParcel, Request.retireObject, Request.reserve, Request.trim, Request.abort, Request.publish, Request.getInfo, Request.resolve, Request.replace, Request.close, Request.scanHandles, Request.prepareTransfer, Request.prepareConsumption, Request.rollback, Request.commit, Request.directCommit, Request.directRollback, Request.removeStoppingOwner, Request.teardownStart, Request.teardownStep, Request.teardownFinish, Request.takeEmptyPage}
-use Rattle.model.specs.Change.{withTable, withBook, withLife, withObjects}
-use Rattle.model.specs.Step.{decide, step, run, newObjectOf, duplicateOf, releaseParcelOf, retireObjectOf, reserveOf, trimOf, abortOf, publishOf, getInfoOf, resolveOf, replaceOf, closeOf, scanHandlesOf, prepareTransferOf, prepareConsumptionOf, rollbackOf, commitOf, directCommitOf, directRollbackOf, removeStoppingOwnerOf, teardownStartOf, teardownStepOf, teardownFinishOf, takeEmptyPageOf}
-use Rattle.model.specs.Create.{TableParameters, ObjectParameters, Parameters, permitted, created, maxPages}
+use Rattle.model.specs.Base.{bit, put, nth, range}
+use Rattle.model.specs.State.{till, Slot.absent, Table, Object, State, Lifecycle, Lifecycle.active, Lifecycle.tearingDown, Lifecycle.retired, maxTables, maxFrames, maxObjects, maxRows, maxBatch, maxSlots, maxLimit, knownFlags, lastId}
+use Rattle.model.specs.Storage.{place, vacate, takeFree, pagesFor, attach, detach}
+use Rattle.model.specs.Request.{Route.buffered, Route.stagedStartup, Operation.asMove, Operation.asCopy}
+use Rattle.model.specs.Request.{Request, Request.newObject, Request.duplicate, Request.releaseParcel, Request.retireObject, Request.reserve, Request.abort, Request.publish, Request.getInfo, Request.resolve, Request.replace, Request.close, Request.scanHandles, Request.prepareTransfer, Request.prepareConsumption, Request.commit, Request.directRollback, Request.removeStoppingOwner, Request.teardownStart, Request.teardownStep, Request.teardownFinish, Request.takeEmptyPage}
+use Rattle.model.specs.Change.{withTable, withLife, withObjects}
+use Rattle.model.specs.Step.{decide, step, newObjectOf, duplicateOf, releaseParcelOf, retireObjectOf, reserveOf, trimOf, abortOf, publishOf, getInfoOf, resolveOf, replaceOf, closeOf, scanHandlesOf, prepareTransferOf, prepareConsumptionOf, rollbackOf, commitOf, directCommitOf, directRollbackOf, removeStoppingOwnerOf, teardownStartOf, teardownStepOf, teardownFinishOf, takeEmptyPageOf}
+use Rattle.model.specs.Create.{TableParameters, permitted, maxPages}
 use Rattle.model.specs.Words.{usedWords}
-use Rattle.model.specs.Cases.{Case, _is_, line, fresh, holding, with0, end, last, numbers, placesOf, places, scan, first, v63, item, transfer, at0, orders, lastIds, offered, ofKinds, countOf, three, down, objectWith}
+use Rattle.model.specs.Cases.{Case, _is_, line, fresh, holding, with0, end, last, numbers, placesOf, places, scan, first, v63, item, transfer, at0, orders, lastIds, countOf, three, down, objectWith}
 
 -- a detached last page before another one
 abbrev sparse : Table

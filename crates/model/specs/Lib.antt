@@ -5,6 +5,7 @@ pub mod Request
 pub mod Change
 pub mod Objects
 pub mod Book
+pub mod Effect
 pub mod Decision
 pub mod Lookup
 pub mod Transfer

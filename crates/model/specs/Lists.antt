@@ -2,9 +2,8 @@
 use mathlib.Core.Path.{_≡_, refl, sym, ap, _∙_}
 use mathlib.Core.Bool.{Bool, true, false}
 use mathlib.Core.List.{List, [], _∷_, _++_, map, append-assoc}
-use mathlib.Core.Logic.{_⊎_}
 use mathlib.Core.Option.{Option, none, some}
-use Prim.Native.Nat.{ℕ, zero, suc, _+_, _-_, _*_, _/_, _≤_, _<_, min}
+use Prim.Native.Nat.{ℕ, zero, suc, _+_, _-_, _*_, _/_, _≤_, min}
 use native.Mathlib.Omega.{arith}
 use lib.ListN.{length, take, drop, getD, length-append, length-drop, length-take, length-map}
 use borrow.Author.Tests.{ltb-false, le-ltb}
@@ -21,7 +20,7 @@ use Rattle.model.specs.Request.{Request.teardownFinish, Request.takeEmpt
 use Rattle.model.specs.Lookup.{snapshotAt}
 use Rattle.model.specs.Step.{run, step, snapshotPage}
 use Rattle.model.specs.Words.{Reading, andThen, Fields, odd, readField, readFields, must, goodRecord, readRecord, readMany, readTransferItem}
-use Rattle.model.specs.Words.{readParcelItem, plainRequests, withItems, readRequest, readUpTo, readList, usedWords, entryWords, padded}
+use Rattle.model.specs.Words.{readParcelItem, plainRequest, withItems, readRequest, readUpTo, readList, usedWords, entryWords, padded}
 use Rattle.model.specs.Words.{wordsOf, allWords, ran, answerShort, onRequests, call}
 
 -- what was read stood in front of what is left, and has n words at least
@@ -119,7 +118,7 @@ pub request-in-front : (ws : List ℕ) → Front 1 ws (readRequest ws)
 unfolding readRequest
 request-in-front ws =
     front-then 1 0 ws (readRecord 4 (λ op. getD musts op 0) (λ op. getD mays op 0) ws) _ (front-record 4 (λ op. getD musts op 0) (λ op. getD mays op 0) ws) λ r.
-    front-maybe 0 (r .1) (nth plainRequests (must (r .0) 0)) _ λ make. front-items (r .0) (make (r .0)) (r .1)
+    front-maybe 0 (r .1) (plainRequest (must (r .0) 0)) _ λ make. front-items (r .0) (make (r .0)) (r .1)
 
 -- reading a list ends by itself: more fuel than words changes nothing
 pub reading-ends : (n m : ℕ) (ws : List ℕ) → length ws ≤ n → length ws ≤ m → readUpTo n ws ≡ readUpTo m ws

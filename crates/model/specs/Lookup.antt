@@ -3,11 +3,11 @@ use Prim.Native.Nat.{ℕ}
 use lib.Dec.{eqb}
 use Rattle.codec.specs.Codec.{encode, decodes, slotIn, generationIn}
 use Rattle.model.specs.Base.{pick}
-use Rattle.model.specs.State.{Handle, Slot, Slot.absent, Slot.vacant, Slot.reserved, Slot.transferReserved, Slot.occupied, Lifecycle.active, Table, State}
+use Rattle.model.specs.State.{Handle, Slot, Slot.absent, Slot.vacant, Slot.reserved, Slot.transferReserved, Slot.occupied, Table, State}
 use Rattle.model.specs.State.{generation, isActive}
 use Rattle.model.specs.Request.{Snapshot}
 use Rattle.model.specs.Objects.{infoFor}
-use Rattle.model.specs.Decision.{Decision, unless_refuse_then_, onTable, Decision.refusal}
+use Rattle.model.specs.Decision.{Decision, Decision.refusal}
 
 -- what a value names: nothing (2), a TransferReserved slot of equal generation (3), or a handle in its slot
 pub data View : Type 0 where
@@ -27,14 +27,15 @@ viewSlot k g (occupied n h) = pick (eqb g n) (holds k h) invalid
 abbrev pub lookup : Table → ℕ → View
 lookup t v = pick (decodes (t .mask) v) (viewSlot (slotIn (t .mask) v) (generationIn (t .mask) v) (t .slots (slotIn (t .mask) v))) invalid
 
-abbrev pub onView : View → (ℕ → Handle → Decision) → Decision
-onView invalid f = refusal 2
-onView busy f = refusal 3
-onView (holds k h) f = f k h
+abbrev pub onView : View → ℕ → ℕ → (ℕ → Handle → Decision) → Decision
+onView invalid n m f = refusal n
+onView busy n m f = refusal m
+onView (holds k h) n m f = f k h
 
--- an active table, else 16, and a handle in it, else 2 or 3
-abbrev pub onHandle : State → ℕ → ℕ → (Table → ℕ → Handle → Decision) → Decision
-onHandle s b v f = onTable s b λ t. unless isActive (t .life) refuse 16 then onView (lookup t v) (f t)
+infixr 5 handle_of_refuse_orBusy_then_
+-- the handle that a value names in a table, and its slot
+abbrev pub handle_of_refuse_orBusy_then_ : ℕ → Table → ℕ → ℕ → (ℕ → Handle → Decision) → Decision
+handle_of_refuse_orBusy_then_ v t n m f = onView (lookup t v) n m f
 
 -- the value of a slot as it stands
 abbrev pub valueAt : Table → ℕ → ℕ

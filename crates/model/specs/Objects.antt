@@ -2,7 +2,7 @@
 use mathlib.Core.Bool.{Bool, true, false}
 use mathlib.Core.List.{List, [], _∷_}
 use Prim.Native.Nat.{ℕ, _+_, _-_}
-use lib.Dec.{ltb}
+use lib.Dec.{eqb, ltb}
 use Rattle.model.specs.Base.{pick, put}
 use Rattle.model.specs.State.{Handle, Stage, Stage.stillNew, Stage.nowActive, Stage.nowRetired, Object, State}
 use Rattle.model.specs.Change.{withObjects}
@@ -20,6 +20,10 @@ abbrev pub isNowRetired : Stage → Bool
 isNowRetired stillNew = false
 isNowRetired nowActive = false
 isNowRetired nowRetired = true
+
+-- "limit reached"; "when count equals limit"
+abbrev pub limitReached : Object → Bool
+limitReached x = eqb (x .count) (x .limit)
 
 -- activation: "else count 1"
 abbrev pub activated : Object → Object

@@ -1,10 +1,10 @@
 -- Demand 1 on the definitions: "a refused request carries a number from document 01 and changes nothing, save the one reservation id spent by
 -- a transfer preparation refused after its id step".
-use mathlib.Core.Path.{_≡_, refl, ap, _∙_}
-use mathlib.Core.Bool.{Bool, true, false, not, _&&_, _||_}
+use mathlib.Core.Path.{_≡_, refl, ap}
+use mathlib.Core.Bool.{Bool, true, false, not, _&&_}
 use mathlib.Core.List.{List, [], _∷_, map}
 use mathlib.Core.Option.{Option, none, some}
-use Prim.Native.Nat.{ℕ, zero, suc}
+use Prim.Native.Nat.{ℕ}
 use lib.ListN.{length, drop}
 use lib.Dec.{eqb, ltb}
 use borrow.Author.Tests.{not-true}
@@ -21,10 +21,10 @@ use Rattle.model.specs.Request.{Request.directRollback, Request.removeSt
 use Rattle.model.specs.Request.{Request.teardownFinish, Request.takeEmptyPage}
 use Rattle.model.specs.Objects.{isNowActive, isNowRetired, change, raise}
 use Rattle.model.specs.Book.{find, freeRow, idLeft, anyOpen, spendId, copiesOf}
-use Rattle.model.specs.Decision.{Decision, Decision.refusal, Decision.refusalAfterId, Decision.accept, unless_refuse_then_, asParcel}
+use Rattle.model.specs.Decision.{Decision, Decision.refusal, Decision.refusalAfterId, Decision.accept, asParcel}
 use Rattle.model.specs.Decision.{handlesOf, distinct}
 use Rattle.model.specs.Lookup.{View, View.invalid, View.busy, View.holds, lookup}
-use Rattle.model.specs.Transfer.{Check, firstFault, itemChecks, copyChecks, isHeld, lookupNumber, firstOf, itemsFault, copiesFault, entryFor}
+use Rattle.model.specs.Transfer.{Check, firstFault, itemChecks, copyChecks, firstOf, itemsFault, copiesFault, entryFor}
 use Rattle.model.specs.Step.{decide, step, carry, newObjectOf, duplicateOf, releaseParcelOf, retireObjectOf, reserveOf, trimOf, abortOf}
 use Rattle.model.specs.Step.{publishOf, getInfoOf, resolveOf, replaceOf, closeOf, scanHandlesOf, prepareTransferOf, prepareConsumptionOf}
 use Rattle.model.specs.Step.{rollbackOf, commitOf, directCommitOf, directRollbackOf, removeStoppingOwnerOf, removeAt, nextOccupied}
@@ -107,12 +107,6 @@ faults-first : (cs : List Check) → AllNumbered cs → Faults (firstFault cs)
 faults-first [] h = tt
 faults-first (c ∷ cs) h = faults-pick (c .holds) (firstFault cs) (some (c .number)) (faults-first cs (h .1)) (h .0)
 
--- the lookup's check fails with 2 or 3; where it holds, the rest may
-faults-lookup : (w : View) (f : Option ℕ) → Faults f → Faults (pick (isHeld w) f (some (lookupNumber w)))
-faults-lookup invalid f p = refl
-faults-lookup busy f p = refl
-faults-lookup (holds k x) f p = p
-
 faults-of : (a b : Option ℕ) → Faults a → Faults b → Faults (firstOf a b)
 faults-of none b p q = q
 faults-of (some n) b p q = p
@@ -122,10 +116,7 @@ faults-items s t route o k earlier [] = tt
 faults-items s t route o k earlier (q ∷ qs) =
     let cs : List Check = itemChecks s route o k earlier q (lookup t (q .value)) in
     faults-of (firstFault cs) (itemsFault s t route o k (q .value ∷ earlier) qs)
-    (faults-pick (not (member (q .value) earlier)) (firstFault (drop 1 cs)) (some 2)
-    (faults-lookup (lookup t (q .value)) (firstFault (drop 2 cs))
-    (faults-first (drop 2 cs) (refl, (refl, (refl, (refl, (refl, (refl, (refl, (refl, tt))))))))))
-    refl)
+    (faults-first cs (refl, (refl, (refl, (refl, (refl, (refl, (refl, (refl, (refl, (refl, (refl, tt))))))))))))
     (faults-items s t route o k (q .value ∷ earlier) qs)
 
 faults-copies : (os : ℕ → Object) (hs : List Handle) → Faults (copiesFault os hs)
@@ -146,7 +137,7 @@ module _ (z : Sizes) (s : State) where
       checked (s .objects o .exportable) 6 refl λ e.
       checked (not (isNowRetired (s .objects o .stage))) 9 refl λ e.
       checked (not (isNowActive (s .objects o .stage))) 10 refl λ e.
-      checked (ltb (s .objects o .count) (s .objects o .limit)) 11 refl λ e.
+      checked (not (eqb (s .objects o .count) (s .objects o .limit))) 11 refl λ e.
       checked (idLeft s) 12 refl λ e.
       accepts refl
   decide-fits (duplicate b v r) =
@@ -259,12 +250,12 @@ module _ (z : Sizes) (s : State) where
   decide-fits (teardownStep b) =
       let t : Table = s .tables b in
       checked (ltb b (s .tableCount)) 18 refl λ e.
-      while-tearing z (t .life) refl λ c e.
+      while-tearing (t .life) refl λ c e.
       found-or (tearAt z s b t) (nextOccupied z t c) (accepts refl) λ k e. accepts refl
   decide-fits (teardownFinish b) =
       let t : Table = s .tables b in
       checked (ltb b (s .tableCount)) 18 refl λ e.
-      while-tearing z (t .life) refl λ c e.
+      while-tearing (t .life) refl λ c e.
       checked (not (isSome (nextOccupied z t 0))) 18 refl λ e.
       accepts refl
   decide-fits (takeEmptyPage b) =

@@ -14,12 +14,14 @@ use Rattle.model.specs.Storage.{place, keep, keepAll, vacate, vacateAll,
 use Rattle.model.specs.Request.{Route, Item, SnapshotPage}
 use Rattle.model.specs.Request.{Answer, Answer.refused, Answer.done, Answer.opened, Answer.batch, Answer.infoOf, Answer.resolved, Answer.renewed, Answer.scanned, Answer.removed, Answer.closed, Answer.taken}
 use Rattle.model.specs.Request.{Request, Request.newObject, Request.duplicate, Request.releaseParcel, Request.retireObject, Request.reserve, Request.trim, Request.abort, Request.publish, Request.getInfo, Request.resolve, Request.replace, Request.close, Request.scanHandles, Request.prepareTransfer, Request.prepareConsumption, Request.rollback, Request.commit, Request.directCommit, Request.directRollback, Request.removeStoppingOwner, Request.teardownStart, Request.teardownStep, Request.teardownFinish, Request.takeEmptyPage}
-use Rattle.model.specs.Change.{withTable, withObjects, withFrames, withLife}
-use Rattle.model.specs.Objects.{isNowActive, isNowRetired, activated, raise, retiredByOwner, change, changeAll, release, infoFor, withRights}
-use Rattle.model.specs.Book.{find, addRow, dropRow, dropRows, swapRow, spendId, freeRow, idLeft, anyOpen, movedOf, copiesOf, sentOf}
-use Rattle.model.specs.Decision.{Decision, unless_refuse_then_, asParcel, onTable, onReservation, onClaim, onSome, handlesOf, distinct, Decision.refusal, Decision.refusalAfterId, Decision.accept}
-use Rattle.model.specs.Lookup.{lookup, onView, onHandle, valueAt, handleOr, snapshotAt}
-use Rattle.model.specs.Transfer.{itemsFault, copiesFault, entryFor, afterId}
+use Rattle.model.specs.Change.{withLife}
+use Rattle.model.specs.Objects.{isNowActive, isNowRetired, limitReached, activated, raise, retiredByOwner, infoFor, withRights}
+use Rattle.model.specs.Book.{spendId, freeRow, idLeft, anyOpen, movedOf, copiesOf, sentOf}
+use Rattle.model.specs.Effect.{_settingTable_to_, _settingFrames_, _changing_by_, _raising_, _releasing_, _opening_, _ending_, _endingAll_, _turning_into_}
+use Rattle.model.specs.Decision.{Decision, Decision.refusal, Decision.refusalAfterId, Decision.accept, leave_answer_, unless_leaving_answering_then_, unless_refuse_then_, given_refuse_then_, table_of_refuse_then_, object_of_refuse_then_}
+use Rattle.model.specs.Decision.{reservationRow_of_refuse_then_, claimRow_of_refuse_then_, parcelRow_of_refuse_then_, refuseAfterId_then_, teardownCursor_refuse_then_, handlesOf, distinct}
+use Rattle.model.specs.Lookup.{handle_of_refuse_orBusy_then_, valueAt, handleOr, snapshotAt}
+use Rattle.model.specs.Transfer.{itemsFault, copiesFault, entryFor}
 
 module _ (z : Sizes) where
   -- handles into slots, in order
@@ -37,106 +39,144 @@ module _ (z : Sizes) where
   -- "New object: 1, 6, 7, activation, 12". "Activation refuses 6 not exportable, 9 retired, 10 active, 11 limit reached, in that order"
   unfoldable pub newObjectOf : State → ℕ → ℕ → ℕ → Decision
   newObjectOf s o r f =
-      let x : Object = s .objects o in
-      unless ltb o (s .objectCount) refuse 18 then
+      object o of s refuse 18 then λ x.
       unless freeRow s refuse 1 then
       unless contains (x .supported) r refuse 6 then
       unless contains knownFlags f refuse 7 then
       unless x .exportable refuse 6 then
       unless not (isNowRetired (x .stage)) refuse 9 then
       unless not (isNowActive (x .stage)) refuse 10 then
-      unless ltb (x .count) (x .limit) refuse 11 then
+      unless not (limitReached x) refuse 11 then
       unless idLeft s refuse 12 then
-      accept (addRow (parcel (record { object = o; rights = r; flags = f } ∷ [])) (withObjects s (change activated (s .objects) o)))
-      (opened (s .book .next))
+      leave s
+      changing o by activated
+      opening parcel (record { object = o; rights = r; flags = f } ∷ [])
+      answer opened (s .book .next)
 
   -- "Duplicate: 16, 1, 2 or 3, 5, 9, 11, 12"
   unfoldable pub duplicateOf : State → ℕ → ℕ → ℕ → Decision
   duplicateOf s b v r =
-      onTable s b λ t.
+      table b of s refuse 18 then λ t.
       unless isActive (t .life) refuse 16 then
       unless freeRow s refuse 1 then
-      onView (lookup t v) λ k h.
+      handle v of t refuse 2 orBusy 3 then λ k h.
       unless contains (h .rights) duplicateRight refuse 5 then
       unless contains (h .rights) r refuse 5 then
       unless not (isNowRetired (s .objects (h .object) .stage)) refuse 9 then
-      unless not (eqb (s .objects (h .object) .count) (s .objects (h .object) .limit)) refuse 11 then
+      unless not (limitReached (s .objects (h .object))) refuse 11 then
       unless idLeft s refuse 12 then
-      accept (addRow (parcel (withRights h r ∷ [])) (withObjects s (change raise (s .objects) (h .object))))
-      (opened (s .book .next))
+      leave s
+      changing h .object by raise
+      opening parcel (withRights h r ∷ [])
+      answer opened (s .book .next)
 
   -- "A parcel can be released, its counts with it"
   unfoldable pub releaseParcelOf : State → ℕ → Decision
-  releaseParcelOf s i = onSome (asParcel (find i (s .book .rows))) 18 λ hs. accept (dropRow i (release s hs)) done
+  releaseParcelOf s i =
+      parcelRow i of s refuse 18 then λ hs.
+      leave s
+      releasing hs
+      ending i
+      answer done
 
+  -- "Its owner may retire it by a request accepted in any state"
   unfoldable pub retireObjectOf : State → ℕ → Decision
   retireObjectOf s o =
-      unless ltb o (s .objectCount) refuse 18 then
-      accept (withObjects s (change retiredByOwner (s .objects) o)) done
+      object o of s refuse 18 then λ x.
+      leave s
+      changing o by retiredByOwner
+      answer done
 
   -- "Reserve: 16, 17, 13, 15, 1, 12"
   unfoldable pub reserveOf : State → ℕ → ℕ → Decision
   reserveOf s b n =
-      onTable s b λ t.
+      table b of s refuse 18 then λ t.
       unless isActive (t .life) refuse 16 then
       unless ltb 0 n refuse 17 then
       unless atMost n maxBatch refuse 13 then
-      onSome (pagesFor z t n) 15 λ ps.
+      given pagesFor z t n refuse 15 then λ ps.
       unless atMost (length ps) (length (s .frames)) refuse 1 then
       unless freeRow s refuse 1 then
       unless idLeft s refuse 12 then
       let i : ℕ = s .book .next in
-      let u : Table = grow z ps (s .frames) t in
-      let ks : List ℕ = take n (u .free) in
-      accept (addRow (reservation b ks) (withFrames (withTable s b (takeFree z n (λ g. reserved g i) u)) (drop (length ps) (s .frames))))
-      (batch i (map (valueAt u) ks))
+      let grown : Table = grow z ps (s .frames) t in
+      let ks : List ℕ = take n (grown .free) in
+      leave s
+      settingTable b to takeFree z n (λ g. reserved g i) grown
+      settingFrames drop (length ps) (s .frames)
+      opening reservation b ks
+      answer batch i (map (valueAt grown) ks)
 
   -- "trim to 0 or above the batch": 18
   unfoldable pub trimOf : State → ℕ → ℕ → Decision
   trimOf s i n =
-      onReservation s i λ b ks.
+      reservationRow i of s refuse 18 then λ b ks.
       unless ltb 0 n refuse 18 then
       unless atMost n (length ks) refuse 18 then
-      accept (swapRow i (reservation b (take n ks)) (withTable s b (vacateAll z (drop n ks) (s .tables b)))) done
+      leave s
+      settingTable b to vacateAll z (drop n ks) (s .tables b)
+      turning i into reservation b (take n ks)
+      answer done
 
   unfoldable pub abortOf : State → ℕ → Decision
   abortOf s i =
-      onReservation s i λ b ks.
-      accept (dropRow i (withTable s b (vacateAll z ks (s .tables b)))) done
+      reservationRow i of s refuse 18 then λ b ks.
+      leave s
+      settingTable b to vacateAll z ks (s .tables b)
+      ending i
+      answer done
 
   -- "Publish names a reservation and one or more parcels, whose handles in order fill its slots"; "row named twice; lengths differ": 18
   unfoldable pub publishOf : State → ℕ → List ℕ → Decision
   publishOf s i is =
-      onReservation s i λ b ks.
-      onSome (handlesOf is (s .book .rows)) 18 λ hs.
+      reservationRow i of s refuse 18 then λ b ks.
+      given handlesOf is (s .book .rows) refuse 18 then λ hs.
       unless distinct is refuse 18 then
       unless eqb (length hs) (length ks) refuse 18 then
-      accept (dropRows (i ∷ is) (withTable s b (fillAll ks hs (s .tables b)))) done
+      leave s
+      settingTable b to fillAll ks hs (s .tables b)
+      endingAll (i ∷ is)
+      answer done
 
   -- "`get_info`, close, `replace`: 16, 2 or 3, then 5 (`replace`)"
   unfoldable pub getInfoOf : State → ℕ → ℕ → Decision
-  getInfoOf s b v = onHandle s b v λ t k h. accept s (infoOf (infoFor s h))
+  getInfoOf s b v =
+      table b of s refuse 18 then λ t.
+      unless isActive (t .life) refuse 16 then
+      handle v of t refuse 2 orBusy 3 then λ k h.
+      leave s answer infoOf (infoFor s h)
 
   -- "Closing answers the handle's info and releases its count"
   unfoldable pub closeOf : State → ℕ → ℕ → Decision
   closeOf s b v =
-      onHandle s b v λ t k h.
-      accept (release (withTable s b (vacate z t k)) (h ∷ [])) (infoOf (infoFor s h))
+      table b of s refuse 18 then λ t.
+      unless isActive (t .life) refuse 16 then
+      handle v of t refuse 2 orBusy 3 then λ k h.
+      leave s
+      settingTable b to vacate z t k
+      releasing (h ∷ [])
+      answer infoOf (infoFor s h)
 
   unfoldable pub replaceOf : State → ℕ → ℕ → ℕ → Decision
   replaceOf s b v r =
-      onHandle s b v λ t k h.
+      table b of s refuse 18 then λ t.
+      unless isActive (t .life) refuse 16 then
+      handle v of t refuse 2 orBusy 3 then λ k h.
       unless contains (h .rights) r refuse 5 then
       let g : ℕ = nextGeneration (generation (t .slots k)) in
-      accept (withTable s b (place z t k (occupied g (withRights h r)))) (renewed (encode (t .mask) k g))
+      leave s
+      settingTable b to place z t k (occupied g (withRights h r))
+      answer renewed (encode (t .mask) k g)
 
   -- "Resolve: 16, 2 or 3, 5, 4"
   unfoldable pub resolveOf : State → ℕ → ℕ → ℕ → ℕ → Decision
   resolveOf s b v r kind =
-      onHandle s b v λ t k h.
+      table b of s refuse 18 then λ t.
+      unless isActive (t .life) refuse 16 then
+      handle v of t refuse 2 orBusy 3 then λ k h.
       unless contains (h .rights) r refuse 5 then
       unless eqb (s .objects (h .object) .kind) kind refuse 4 then
-      accept s (resolved (h .object) (s .objects (h .object) .koid) (h .rights))
+      leave s answer resolved (h .object) (s .objects (h .object) .koid) (h .rights)
 
   -- "examined, the number of slots looked at: the slot where the scan stopped minus where it started, the lesser of cursor and length"
   abbrev pub snapshotPage : State → Table → ℕ → SnapshotPage
@@ -151,112 +191,146 @@ module _ (z : Sizes) where
 
   unfoldable pub scanHandlesOf : State → ℕ → ℕ → Decision
   scanHandlesOf s b c =
-      onTable s b λ t.
+      table b of s refuse 18 then λ t.
       unless isActive (t .life) refuse 16 then
-      accept s (scanned (snapshotPage s t c))
+      leave s answer scanned (snapshotPage s t c)
 
   -- "Transfer: 16, 17, 13, 1, 12; then item by item 2 (twice), 2 or 3 (lookup), 5 (rights), 8 (kind), 5 (object), 8 (route), 4; then
-  -- copies 9, 11"
+  -- copies 9, 11": the numbers of items and copies stand in `itemChecks` and `copyChecks`
   unfoldable pub prepareTransferOf : State → ℕ → Route → Option ℕ → Option ℕ → List Item → Decision
   prepareTransferOf s b route bannedObject bannedKind qs =
-      onTable s b λ t.
+      table b of s refuse 18 then λ t.
       unless isActive (t .life) refuse 16 then
       unless ltb 0 (length qs) refuse 17 then
       unless atMost (length qs) maxBatch refuse 13 then
       unless freeRow s refuse 1 then
       unless idLeft s refuse 12 then
-      afterId (itemsFault s t route bannedObject bannedKind [] qs) (
+      refuseAfterId itemsFault s t route bannedObject bannedKind [] qs then
       let i : ℕ = s .book .next in
       let es : List Entry = map (entryFor t) qs in
-      afterId (copiesFault (s .objects) (copiesOf es)) (
-      accept (addRow (claim b es) (withObjects (withTable s b (keepAll z (λ g. transferReserved g i) (movedOf es) t)) (changeAll raise (copiesOf es) (s .objects))))
-      (opened i)))
+      refuseAfterId copiesFault (s .objects) (copiesOf es) then
+      leave s
+      settingTable b to keepAll z (λ g. transferReserved g i) (movedOf es) t
+      raising copiesOf es
+      opening claim b es
+      answer opened i
 
   -- "Consumption: 16, 1, 2 or 3, 5, 4, 2, 12"
   unfoldable pub prepareConsumptionOf : State → ℕ → ℕ → ℕ → ℕ → ℕ → Decision
   prepareConsumptionOf s b v r kind koid =
-      onTable s b λ t.
+      table b of s refuse 18 then λ t.
       unless isActive (t .life) refuse 16 then
       unless freeRow s refuse 1 then
-      onView (lookup t v) λ k h.
+      handle v of t refuse 2 orBusy 3 then λ k h.
       unless contains (h .rights) r refuse 5 then
       unless eqb (s .objects (h .object) .kind) kind refuse 4 then
       unless eqb (s .objects (h .object) .koid) koid refuse 2 then
       unless idLeft s refuse 12 then
       let i : ℕ = s .book .next in
-      accept (addRow (claim b (moved k h (h .rights) ∷ [])) (withTable s b (keep z (λ g. transferReserved g i) t k))) (opened i)
+      leave s
+      settingTable b to keep z (λ g. transferReserved g i) t k
+      opening claim b (moved k h (h .rights) ∷ [])
+      answer opened i
 
   -- a claim ends: its slots hold their handles again, its copies are released
   unfoldable pub rollbackOf : State → ℕ → Decision
   rollbackOf s i =
-      onClaim s i λ b es.
-      accept (dropRow i (release (withTable s b (restoreAll es (s .tables b))) (copiesOf es))) done
+      claimRow i of s refuse 18 then λ b es.
+      leave s
+      settingTable b to restoreAll es (s .tables b)
+      releasing copiesOf es
+      ending i
+      answer done
 
   -- "Commit turns a claim's row into a parcel of the same id"
   unfoldable pub commitOf : State → ℕ → Decision
   commitOf s i =
-      onClaim s i λ b es.
-      accept (swapRow i (parcel (map sentOf es)) (withTable s b (vacateAll z (movedOf es) (s .tables b)))) done
+      claimRow i of s refuse 18 then λ b es.
+      leave s
+      settingTable b to vacateAll z (movedOf es) (s .tables b)
+      turning i into parcel (map sentOf es)
+      answer done
 
   -- a claim's handles straight into a reservation, of one table or two
   unfoldable pub directCommitOf : State → ℕ → ℕ → Decision
   directCommitOf s i j =
-      onClaim s i λ b es.
-      onReservation s j λ c ks.
+      claimRow i of s refuse 18 then λ b es.
+      reservationRow j of s refuse 18 then λ c ks.
       unless eqb (length es) (length ks) refuse 18 then
-      let u : State = withTable s b (vacateAll z (movedOf es) (s .tables b)) in
-      accept (dropRow j (dropRow i (withTable u c (fillAll ks (map sentOf es) (u .tables c))))) done
+      let vacated : State = s settingTable b to vacateAll z (movedOf es) (s .tables b) in
+      leave vacated
+      settingTable c to fillAll ks (map sentOf es) (vacated .tables c)
+      ending i
+      ending j
+      answer done
 
   -- a claim rolled back, then a reservation aborted, of one table or two
   unfoldable pub directRollbackOf : State → ℕ → ℕ → Decision
   directRollbackOf s i j =
-      onClaim s i λ b es.
-      onReservation s j λ c ks.
+      claimRow i of s refuse 18 then λ b es.
+      reservationRow j of s refuse 18 then λ c ks.
       unless eqb (length es) (length ks) refuse 18 then
-      let u : State = release (withTable s b (restoreAll es (s .tables b))) (copiesOf es) in
-      accept (dropRow j (dropRow i (withTable u c (vacateAll z ks (u .tables c))))) done
+      let restored : State = s settingTable b to restoreAll es (s .tables b) releasing copiesOf es in
+      leave restored
+      settingTable c to vacateAll z ks (restored .tables c)
+      ending i
+      ending j
+      answer done
 
   -- the next occupied slot from a cursor on
   abbrev pub nextOccupied : Table → ℕ → Option ℕ
   nextOccupied t c = firstOccupied (t .slots) c (lengthOf z t - c)
 
   abbrev pub removeAt : State → ℕ → Table → Option ℕ → Decision
-  removeAt s b t none = accept s (removed none 0)
-  removeAt s b t (some k) = accept (release (withTable s b (vacate z t k)) (handleOr (t .slots k) ∷ [])) (removed (some (snapshotAt s t k)) (k + 1))
+  removeAt s b t none = leave s answer removed none 0
+  removeAt s b t (some j) =
+      leave s
+      settingTable b to vacate z t j
+      releasing (handleOr (t .slots j) ∷ [])
+      answer removed (some (snapshotAt s t j)) (j + 1)
 
   -- "On an inactive table `remove_stopping_owner` and `take_empty_page` answer none, not a refusal; so do the end of a walk and a table
   -- with no empty page". "The cursor is a request field, and the answer gives it as left"
   unfoldable pub removeStoppingOwnerOf : State → ℕ → ℕ → Decision
-  removeStoppingOwnerOf s b c = onTable s b λ t. pick (isActive (t .life)) (removeAt s b t (nextOccupied t c)) (accept s (removed none c))
+  removeStoppingOwnerOf s b c =
+      table b of s refuse 18 then λ t.
+      unless isActive (t .life) leaving s answering removed none c then
+      removeAt s b t (nextOccupied t c)
 
   -- "Teardown start: 16, 14"
   unfoldable pub teardownStartOf : State → ℕ → Decision
   teardownStartOf s b =
-      onTable s b λ t.
+      table b of s refuse 18 then λ t.
       unless isActive (t .life) refuse 16 then
       unless not (anyOpen b (s .book .rows)) refuse 14 then
-      accept (withTable s b (withLife t (tearingDown 0))) done
-
-  -- "teardown step out of turn": 18
-  abbrev pub onTearing : Lifecycle → (ℕ → Decision) → Decision
-  onTearing active f = refusal 18
-  onTearing (tearingDown c) f = f c
-  onTearing retired f = refusal 18
+      leave s
+      settingTable b to withLife t (tearingDown 0)
+      answer done
 
   abbrev pub tearAt : State → ℕ → Table → Option ℕ → Decision
-  tearAt s b t none = accept s (closed none)
-  tearAt s b t (some k) = accept (release (withTable s b (withLife (vacate z t k) (tearingDown (k + 1)))) (handleOr (t .slots k) ∷ [])) (closed (some (infoFor s (handleOr (t .slots k)))))
+  tearAt s b t none = leave s answer closed none
+  tearAt s b t (some k) =
+      leave s
+      settingTable b to withLife (vacate z t k) (tearingDown (k + 1))
+      releasing (handleOr (t .slots k) ∷ [])
+      answer closed (some (infoFor s (handleOr (t .slots k))))
 
+  -- "teardown step out of turn": 18
   unfoldable pub teardownStepOf : State → ℕ → Decision
-  teardownStepOf s b = onTable s b λ t. onTearing (t .life) λ c. tearAt s b t (nextOccupied t c)
+  teardownStepOf s b =
+      table b of s refuse 18 then λ t.
+      teardownCursor t .life refuse 18 then λ c.
+      tearAt s b t (nextOccupied t c)
 
   -- "finish with an occupied slot": 18
   unfoldable pub teardownFinishOf : State → ℕ → Decision
   teardownFinishOf s b =
-      onTable s b λ t.
-      onTearing (t .life) λ c.
+      table b of s refuse 18 then λ t.
+      teardownCursor t .life refuse 18 then λ c.
       unless not (isSome (nextOccupied t 0)) refuse 18 then
-      accept (withTable s b (withLife t retired)) done
+      leave s
+      settingTable b to withLife t retired
+      answer done
 
   -- "A page taken by `take_empty_page` returns its frame"
   abbrev pub returned : Option ℕ → List ℕ → List ℕ
@@ -264,11 +338,18 @@ module _ (z : Sizes) where
   returned (some f) fs = insert f fs
 
   abbrev pub takeAt : State → ℕ → Table → List ℕ → Decision
-  takeAt s b t [] = accept s (taken none)
-  takeAt s b t (p ∷ ps) = accept (withFrames (withTable s b (detach z t p)) (returned (t .pages p .frame) (s .frames))) (taken (some p))
+  takeAt s b t [] = leave s answer taken none
+  takeAt s b t (p ∷ ps) =
+      leave s
+      settingTable b to detach z t p
+      settingFrames returned (t .pages p .frame) (s .frames)
+      answer taken (some p)
 
   unfoldable pub takeEmptyPageOf : State → ℕ → Decision
-  takeEmptyPageOf s b = onTable s b λ t. pick (isActive (t .life)) (takeAt s b t (t .empty)) (accept s (taken none))
+  takeEmptyPageOf s b =
+      table b of s refuse 18 then λ t.
+      unless isActive (t .life) leaving s answering taken none then
+      takeAt s b t (t .empty)
 
   unfoldable pub decide : State → Request → Decision
   decide s (newObject o r f) = newObjectOf s o r f

@@ -17,8 +17,11 @@ abbrev pub withEpoch : Table → ℕ → Table
 withEpoch t e = record { limit = t .limit; mask = t .mask; life = t .life; epoch = e; size = t .size; pages = t .pages; slots = t .slots; free = t .free; empty = t .empty; detached = t .detached }
 
 -- "The epoch wraps from 2^64 - 1 to 0"
+abbrev pub nextEpoch : ℕ → ℕ
+nextEpoch e = (e + 1) % 2 ^ 64
+
 abbrev pub advance : Table → Table
-advance t = withEpoch t ((t .epoch + 1) % 2 ^ 64)
+advance t = withEpoch t (nextEpoch (t .epoch))
 
 -- a page's mark is not lower than a generation that it has had
 abbrev pub raised : Page → ℕ → Page
@@ -97,9 +100,10 @@ module _ (z : Sizes) where
   takeFree n f t = keepAll f (take n (t .free)) (withFree t (drop n (t .free)))
 
   -- storage.rs `snapshot`: the pages that make room for `needed` more slots, detached ones first, then new ones; none if a
-  -- new one would pass the limit. `fuel` is a batch's most slots: each page brings at least one
+  -- new one would pass the limit. `fuel` is a batch's most slots: each page brings at least one, so that it is enough
   abbrev pub pagesFrom : ℕ → ℕ → List ℕ → ℕ → ℕ → Option (List ℕ)
-  pagesFrom zero needed ds n limit = some []
+  pagesFrom zero zero ds n limit = some []
+  pagesFrom zero (suc m) ds n limit = none
   pagesFrom (suc fuel) zero ds n limit = some []
   pagesFrom (suc fuel) (suc m) [] n limit = pick (eqb n limit) none (also n (pagesFrom fuel (suc m - slotsOf n) [] (suc n) limit))
   pagesFrom (suc fuel) (suc m) (p ∷ ds) n limit = also p (pagesFrom fuel (suc m - slotsOf p) ds n limit)
@@ -139,7 +143,7 @@ module _ (z : Sizes) where
     limit = t .limit;
     mask = t .mask;
     life = t .life;
-    epoch = (t .epoch + 1) % 2 ^ 64;
+    epoch = nextEpoch (t .epoch);
     size = t .size;
     pages = put (t .pages) p (record { frame = none; high = t .pages p .high });
     slots = λ k. pick (onPage p k) absent (t .slots k);

@@ -12,6 +12,11 @@ use borrow.Author.Tests.{ltb-false, eqb-true, eqb-false, eq-eqb, ne-eqb, not-tru
 pub use Rattle.words.specs.Pick.{bool, clash, and-left, and-right}
 use Rattle.model.specs.Base.{bit, pick, put, also, nth, every, atMost, between}
 
+infixr 4 _&_
+-- a pair, for lists of facts that are pairs of pairs
+abbrev pub _&_ {ℓ κ} : {A : Type ℓ} {B : Type κ} → A → B → A × B
+_&_ a b = (a, b)
+
 -- from constructors that differ: `apart (cc)`
 pub apart {ℓ} : {C : Type ℓ} → _≡_ {A = ℕ} 0 1 → C
 apart e = absurd (omega arith)

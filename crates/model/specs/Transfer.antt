@@ -3,14 +3,12 @@ use mathlib.Core.Bool.{Bool, true, false, not, _&&_, _||_}
 use mathlib.Core.List.{List, [], _∷_}
 use mathlib.Core.Option.{Option, none, some}
 use Prim.Native.Nat.{ℕ}
-use lib.Dec.{eqb}
 use Rattle.authority.specs.Rights.{contains, duplicateRight, transferRight}
 use Rattle.codec.specs.Codec.{slotIn}
 use Rattle.model.specs.Base.{pick, orElse, agrees, bans, member}
-use Rattle.model.specs.State.{Handle, Table, Class, Class.leaf, Class.rendezvousOnly, Class.never, Object, Entry, Entry.moved, Entry.copied, Body.claim, State}
+use Rattle.model.specs.State.{Handle, Table, Class, Class.leaf, Class.rendezvousOnly, Class.never, Object, Entry, Entry.moved, Entry.copied, State}
 use Rattle.model.specs.Request.{Route, Route.buffered, Route.rendezvous, Route.stagedStartup, Operation, Operation.asMove, Operation.asCopy, Item}
-use Rattle.model.specs.Objects.{isNowRetired, raise, change, withRights}
-use Rattle.model.specs.Decision.{Decision, Decision.refusalAfterId}
+use Rattle.model.specs.Objects.{isNowRetired, limitReached, raise, change, withRights}
 use Rattle.model.specs.Lookup.{View, lookup, noHandle, handleOr, View.invalid, View.busy, View.holds}
 
 -- a check that holds or gives its number
@@ -39,18 +37,18 @@ abbrev pub isCopy : Operation → Bool
 isCopy asMove = false
 isCopy asCopy = true
 
--- a lookup finds a handle, or gives 2 or 3
-abbrev pub isHeld : View → Bool
-isHeld invalid = false
-isHeld busy = false
-isHeld (holds k h) = true
+-- a lookup finds something; what it finds is not busy
+abbrev pub isKnown : View → Bool
+isKnown invalid = false
+isKnown busy = true
+isKnown (holds k h) = true
 
-abbrev pub lookupNumber : View → ℕ
-lookupNumber invalid = 2
-lookupNumber busy = 3
-lookupNumber (holds k h) = 0
+abbrev pub isBusyNow : View → Bool
+isBusyNow invalid = false
+isBusyNow busy = true
+isBusyNow (holds k h) = false
 
--- the handle found; where none is, the check of the lookup has failed and no other is looked at
+-- the handle found; where none is, a check of the lookup has failed and no other is looked at
 abbrev pub heldIn : View → Handle
 heldIn invalid = noHandle
 heldIn busy = noHandle
@@ -65,7 +63,8 @@ itemChecks s route bannedObject bannedKind earlier q w =
     let x : Object = s .objects (h .object) in
     let offered : ℕ = orElse (q .offeredRights) (h .rights) in
     not (member (q .value) earlier) or 2
-    ∷ isHeld w or lookupNumber w
+    ∷ isKnown w or 2
+    ∷ not (isBusyNow w) or 3
     ∷ contains (h .rights) transferRight or 5
     ∷ (not (isCopy (q .operation)) || contains (h .rights) duplicateRight) or 5
     ∷ contains (h .rights) offered or 5
@@ -80,7 +79,7 @@ itemChecks s route bannedObject bannedKind earlier q w =
 abbrev pub copyChecks : Object → List Check
 copyChecks x =
     not (isNowRetired (x .stage)) or 9
-    ∷ not (eqb (x .count) (x .limit)) or 11
+    ∷ not (limitReached x) or 11
     ∷ []
 
 abbrev pub firstOf : Option ℕ → Option ℕ → Option ℕ
@@ -106,8 +105,3 @@ entryBy asCopy k h r = copied (withRights h r)
 
 abbrev pub entryFor : Table → Item → Entry
 entryFor t q = entryBy (q .operation) (slotIn (t .mask) (q .value)) (handleOr (t .slots (slotIn (t .mask) (q .value)))) (q .rights)
-
--- "`prepare_transfer_with_storage` spends its id before it looks at any value": a fault found after that
-abbrev pub afterId : Option ℕ → Decision → Decision
-afterId none d = d
-afterId (some n) d = refusalAfterId n

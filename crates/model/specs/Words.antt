@@ -7,6 +7,7 @@ use lib.ListN.{length, getD, take, drop}
 use lib.Dec.{eqb, ltb}
 use Rattle.authority.specs.Rights.{contains}
 use Rattle.format.specs.Format.{musts, mays, transferItemMust, transferItemMay, parcelItemMust, parcelItemMay, fieldKinds, fieldFits, fieldCount, answerWords}
+use Rattle.format.specs.Fields.{opField, tableField, objectField, countField, valueField, rightsField, flagsField, idField, destinationField, kindField, koidField, cursorField, routeField, offeredRightsField, offeredKindField, expectedKindField, forbiddenObjectField, forbiddenKindField}
 use Rattle.model.specs.Base.{pick, bit, isSome, orElse, nth}
 use Rattle.model.specs.State.{Sizes, State}
 use Rattle.model.specs.Request.{Route, Route.buffered, Route.rendezvous, Route.stagedStartup, Operation, Operation.asMove, Operation.asCopy, Item, Info, Snapshot, SnapshotPage}
@@ -66,7 +67,7 @@ abbrev pub readRecord : ℕ → (ℕ → ℕ) → (ℕ → ℕ) → List ℕ →
 readRecord first mustOf mayOf [] = none
 readRecord first mustOf mayOf (map ∷ ws) =
     andThen (readFields fieldCount map ws) λ r.
-    pick (goodRecord first (mustOf (must (r .0) 0)) (mayOf (must (r .0) 0)) map (r .0)) (some r) none
+    pick (goodRecord first (mustOf (must (r .0) opField)) (mayOf (must (r .0) opField)) map (r .0)) (some r) none
 
 -- n records in a row
 abbrev pub readMany {ℓ} : {A : Type ℓ} → (List ℕ → Option (A × List ℕ)) → ℕ → List ℕ → Option (List A × List ℕ)
@@ -89,40 +90,43 @@ routeOf (suc (suc n)) = stagedStartup
 abbrev pub readTransferItem : List ℕ → Reading Item
 readTransferItem ws =
     andThen (readRecord 5 (λ o. transferItemMust) (λ o. transferItemMay) ws) λ r.
-    some (record { operation = operationOf (must (r .0) 0); value = must (r .0) 4; rights = must (r .0) 5; offeredRights = may (r .0) 13; offeredKind = may (r .0) 14; expectedKind = may (r .0) 15 }, r .1)
+    some (record { operation = operationOf (must (r .0) opField); value = must (r .0) valueField; rights = must (r .0) rightsField; offeredRights = may (r .0) offeredRightsField; offeredKind = may (r .0) offeredKindField; expectedKind = may (r .0) expectedKindField }, r .1)
 
 abbrev pub readParcelItem : List ℕ → Reading ℕ
-readParcelItem ws = andThen (readRecord 6 (λ o. parcelItemMust) (λ o. parcelItemMay) ws) λ r. some (must (r .0) 7, r .1)
+readParcelItem ws = andThen (readRecord 6 (λ o. parcelItemMust) (λ o. parcelItemMay) ws) λ r. some (must (r .0) idField, r .1)
 
--- the request of an op and its fields, by op number; a publish and a transfer take their items as well
+-- the requests of the ops from 1 on, with their fields; a publish and a transfer take their items as well
 abbrev pub plainRequests : List (Fields → Request)
 plainRequests =
-    (λ f. retireObject 0)
-    ∷ (λ f. newObject (must f 2) (must f 5) (must f 6))
-    ∷ (λ f. duplicate (must f 1) (must f 4) (must f 5))
-    ∷ (λ f. releaseParcel (must f 7))
-    ∷ (λ f. retireObject (must f 2))
-    ∷ (λ f. reserve (must f 1) (must f 3))
-    ∷ (λ f. trim (must f 7) (must f 3))
-    ∷ (λ f. abort (must f 7))
-    ∷ (λ f. publish (must f 7) [])
-    ∷ (λ f. getInfo (must f 1) (must f 4))
-    ∷ (λ f. resolve (must f 1) (must f 4) (must f 5) (must f 9))
-    ∷ (λ f. replace (must f 1) (must f 4) (must f 5))
-    ∷ (λ f. close (must f 1) (must f 4))
-    ∷ (λ f. scanHandles (must f 1) (must f 11))
-    ∷ (λ f. prepareTransfer (must f 1) (routeOf (must f 12)) (may f 16) (may f 17) [])
-    ∷ (λ f. prepareConsumption (must f 1) (must f 4) (must f 5) (must f 9) (must f 10))
-    ∷ (λ f. rollback (must f 7))
-    ∷ (λ f. commit (must f 7))
-    ∷ (λ f. directCommit (must f 7) (must f 8))
-    ∷ (λ f. directRollback (must f 7) (must f 8))
-    ∷ (λ f. removeStoppingOwner (must f 1) (must f 11))
-    ∷ (λ f. teardownStart (must f 1))
-    ∷ (λ f. teardownStep (must f 1))
-    ∷ (λ f. teardownFinish (must f 1))
-    ∷ (λ f. takeEmptyPage (must f 1))
+    (λ f. newObject (must f objectField) (must f rightsField) (must f flagsField))
+    ∷ (λ f. duplicate (must f tableField) (must f valueField) (must f rightsField))
+    ∷ (λ f. releaseParcel (must f idField))
+    ∷ (λ f. retireObject (must f objectField))
+    ∷ (λ f. reserve (must f tableField) (must f countField))
+    ∷ (λ f. trim (must f idField) (must f countField))
+    ∷ (λ f. abort (must f idField))
+    ∷ (λ f. publish (must f idField) [])
+    ∷ (λ f. getInfo (must f tableField) (must f valueField))
+    ∷ (λ f. resolve (must f tableField) (must f valueField) (must f rightsField) (must f kindField))
+    ∷ (λ f. replace (must f tableField) (must f valueField) (must f rightsField))
+    ∷ (λ f. close (must f tableField) (must f valueField))
+    ∷ (λ f. scanHandles (must f tableField) (must f cursorField))
+    ∷ (λ f. prepareTransfer (must f tableField) (routeOf (must f routeField)) (may f forbiddenObjectField) (may f forbiddenKindField) [])
+    ∷ (λ f. prepareConsumption (must f tableField) (must f valueField) (must f rightsField) (must f kindField) (must f koidField))
+    ∷ (λ f. rollback (must f idField))
+    ∷ (λ f. commit (must f idField))
+    ∷ (λ f. directCommit (must f idField) (must f destinationField))
+    ∷ (λ f. directRollback (must f idField) (must f destinationField))
+    ∷ (λ f. removeStoppingOwner (must f tableField) (must f cursorField))
+    ∷ (λ f. teardownStart (must f tableField))
+    ∷ (λ f. teardownStep (must f tableField))
+    ∷ (λ f. teardownFinish (must f tableField))
+    ∷ (λ f. takeEmptyPage (must f tableField))
     ∷ []
+
+abbrev pub plainRequest : (op : ℕ) → Option (Fields → Request)
+plainRequest zero = none
+plainRequest (suc n) = nth plainRequests n
 
 -- "A transfer's items, or a publish's parcels, follow as records of their own, as many as its count field says"
 abbrev pub withItems : Fields → Request → List ℕ → Reading Request
@@ -133,13 +137,13 @@ withItems f (retireObject o) ws = some (retireObject o, ws)
 withItems f (reserve b n) ws = some (reserve b n, ws)
 withItems f (trim i n) ws = some (trim i n, ws)
 withItems f (abort i) ws = some (abort i, ws)
-withItems f (publish i is) ws = andThen (readMany readParcelItem (must f 3) ws) λ r. some (publish i (r .0), r .1)
+withItems f (publish i is) ws = andThen (readMany readParcelItem (must f countField) ws) λ r. some (publish i (r .0), r .1)
 withItems f (getInfo b v) ws = some (getInfo b v, ws)
 withItems f (resolve b v r k) ws = some (resolve b v r k, ws)
 withItems f (replace b v r) ws = some (replace b v r, ws)
 withItems f (close b v) ws = some (close b v, ws)
 withItems f (scanHandles b c) ws = some (scanHandles b c, ws)
-withItems f (prepareTransfer b route o k qs) ws = andThen (readMany readTransferItem (must f 3) ws) λ r. some (prepareTransfer b route o k (r .0), r .1)
+withItems f (prepareTransfer b route o k qs) ws = andThen (readMany readTransferItem (must f countField) ws) λ r. some (prepareTransfer b route o k (r .0), r .1)
 withItems f (prepareConsumption b v r k o) ws = some (prepareConsumption b v r k o, ws)
 withItems f (rollback i) ws = some (rollback i, ws)
 withItems f (commit i) ws = some (commit i, ws)
@@ -154,7 +158,7 @@ withItems f (takeEmptyPage b) ws = some (takeEmptyPage b, ws)
 unfoldable pub readRequest : List ℕ → Reading Request
 readRequest ws =
     andThen (readRecord 4 (λ op. getD musts op 0) (λ op. getD mays op 0) ws) λ r.
-    andThen (nth plainRequests (must (r .0) 0)) λ make.
+    andThen (plainRequest (must (r .0) opField)) λ make.
     withItems (r .0) (make (r .0)) (r .1)
 
 -- records until the list ends; each has a word at least, so that its length is fuel enough

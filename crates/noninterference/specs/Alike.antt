@@ -14,9 +14,8 @@ use Rattle.model.specs.Base.{bit, member, occurs}
 use Rattle.model.specs.State.{Sizes, Handle, Slot, Slot.absent, Slot.vacant, Slot.reserved, Slot.transferReserved, Slot.occupied, Table, Entry, Entry.moved, Entry.copied, Body, Body.reservation, Body.claim, Body.parcel, State, lastId}
 use Rattle.model.specs.State.{isActive, isOccupied}
 use Rattle.model.specs.Book.{find, freeRow, idLeft, movedOf, spendId}
-use Rattle.model.specs.Decision.{Decision, Decision.refusal, Decision.refusalAfterId, Decision.accept, unless_refuse_then_, asReservation, asClaim, onSome, onReservation, onClaim}
+use Rattle.model.specs.Decision.{Decision, Decision.refusal, Decision.refusalAfterId, Decision.accept, unless_refuse_then_, given_refuse_then_, asReservation, asClaim, reservationRow_of_refuse_then_, claimRow_of_refuse_then_, refuseAfterId_then_}
 use Rattle.model.specs.Lookup.{View, View.invalid, View.busy, View.holds, viewSlot, lookup, onView, handleOr}
-use Rattle.model.specs.Transfer.{afterId}
 use Rattle.model.specs.WellFormed.{WellFormed, isMovingBy, inClaim}
 use Rattle.noninterference.specs.Runs.{lowered, lowerAnswer, lowerSlot}
 use Rattle.noninterference.specs.Erase.{eraseSlot, eraseTable, eraseRows, erase}
@@ -207,38 +206,38 @@ module _ (x : Case) where
 
   -- what a value names
   pub views : {e : Bool} {v v₀ : View} (f f₀ : ℕ → Handle → Decision) → v₀ ≡ v → ((k : ℕ) (h : Handle) → v ≡ holds k h → Alike e (f k h) (f₀ k h))
-      → Alike e (onView v f) (onView v₀ f₀)
+      → Alike e (onView v 2 3 f) (onView v₀ 2 3 f₀)
   views {e} {v} f f₀ p k = rw p (go v refl)
     where
-      go : (w : View) → v ≡ w → Alike e (onView w f) (onView w f₀)
+      go : (w : View) → v ≡ w → Alike e (onView w 2 3 f) (onView w 2 3 f₀)
       go invalid q = refuses e 2
       go busy q = refuses e 3
       go (holds j h) q = k j h q
 
   pub somes {ℓ} : {A : Type ℓ} {e : Bool} {a a₀ : Option A} (n : ℕ) (f f₀ : A → Decision) → a₀ ≡ a → ((x : A) → a ≡ some x → Alike e (f x) (f₀ x))
-      → Alike e (onSome a n f) (onSome a₀ n f₀)
+      → Alike e (given a refuse n then f) (given a₀ refuse n then f₀)
   somes {A = A} {e} {a} n f f₀ p k = rw p (go a refl)
     where
-      go : (w : Option A) → a ≡ w → Alike e (onSome w n f) (onSome w n f₀)
+      go : (w : Option A) → a ≡ w → Alike e (given w refuse n then f) (given w refuse n then f₀)
       go none q = refuses e n
       go (some x) q = k x q
 
   -- rows other than the claim's
   pub reservations : {e : Bool} (i : ℕ) (f f₀ : ℕ → List ℕ → Decision) → (i ≡ t → ⊥) → ((c : ℕ) (ks : List ℕ) → Alike e (f c ks) (f₀ c ks))
-      → Alike e (onReservation s i f) (onReservation (E s) (lowered t i) f₀)
+      → Alike e (reservationRow i of s refuse 18 then f) (reservationRow lowered t i of E s refuse 18 then f₀)
   reservations {e} i f f₀ n k = rw (find-erase t i n (s .book .rows)) (go (find i (s .book .rows)))
     where
-      go : (w : Option Body) → Alike e (asReservation w f) (asReservation w f₀)
+      go : (w : Option Body) → Alike e (asReservation w 18 f) (asReservation w 18 f₀)
       go none = refuses e 18
       go (some (reservation c ks)) = k c ks
       go (some (claim c xs)) = refuses e 18
       go (some (parcel hs)) = refuses e 18
 
   pub claims : {e : Bool} (i : ℕ) (f f₀ : ℕ → List Entry → Decision) → (i ≡ t → ⊥) → ((c : ℕ) (xs : List Entry) → Alike e (f c xs) (f₀ c xs))
-      → Alike e (onClaim s i f) (onClaim (E s) (lowered t i) f₀)
+      → Alike e (claimRow i of s refuse 18 then f) (claimRow lowered t i of E s refuse 18 then f₀)
   claims {e} i f f₀ n k = rw (find-erase t i n (s .book .rows)) (go (find i (s .book .rows)))
     where
-      go : (w : Option Body) → Alike e (asClaim w f) (asClaim w f₀)
+      go : (w : Option Body) → Alike e (asClaim w 18 f) (asClaim w 18 f₀)
       go none = refuses e 18
       go (some (reservation c ks)) = refuses e 18
       go (some (claim c xs)) = k c xs
@@ -251,9 +250,9 @@ module _ (x : Case) where
   spend-erase = rw (lowered-next t (s .book .next) below)
 
   -- a fault found after the id step
-  pub faults : {e : Bool} {a a₀ : Option ℕ} (d d₀ : Decision) → a₀ ≡ a → (a ≡ none → Alike e d d₀) → Alike e (afterId a d) (afterId a₀ d₀)
+  pub faults : {e : Bool} {a a₀ : Option ℕ} (d d₀ : Decision) → a₀ ≡ a → (a ≡ none → Alike e d d₀) → Alike e (refuseAfterId a then d) (refuseAfterId a₀ then d₀)
   faults {e} {a} d d₀ p k = rw p (go a refl)
     where
-      go : (w : Option ℕ) → a ≡ w → Alike e (afterId w d) (afterId w d₀)
+      go : (w : Option ℕ) → a ≡ w → Alike e (refuseAfterId w then d) (refuseAfterId w then d₀)
       go none q = k q
       go (some n) q = record { twin = λ w. record { same = refl; stays = tt } }

@@ -16,9 +16,9 @@ use Rattle.model.specs.Change.{withTable, withObjects}
 use Rattle.model.specs.Objects.{raise, changeAll}
 use Rattle.model.specs.Request.{Route, Item, Answer.opened}
 use Rattle.model.specs.Book.{addRow, movedOf, copiesOf, sentOf}
-use Rattle.model.specs.Decision.{Decision.accept}
+use Rattle.model.specs.Decision.{Decision.accept, refuseAfterId_then_}
 use Rattle.model.specs.Lookup.{handleOr}
-use Rattle.model.specs.Transfer.{itemsFault, copiesFault, entryFor, afterId}
+use Rattle.model.specs.Transfer.{itemsFault, copiesFault, entryFor}
 use Rattle.model.specs.Step.{fillAll, prepareTransferOf, prepareConsumptionOf, rollbackOf, commitOf, directCommitOf, directRollbackOf}
 use Rattle.noninterference.specs.Runs.{lowered}
 use Rattle.noninterference.specs.Erase.{eraseSlot, eraseTable, erase}
@@ -57,12 +57,12 @@ module _ (x : Case) where
         rw (e, entries-same qs (n .1))
 
     claimed : (xs xs₀ : List Entry) → xs₀ ≡ xs → Alike x true
-        (afterId (copiesFault (s .objects) (copiesOf xs)) (accept (addRow (claim c xs) (withObjects (withTable s c
+        (refuseAfterId copiesFault (s .objects) (copiesOf xs) then accept (addRow (claim c xs) (withObjects (withTable s c
         (keepAll (x .z) (λ g. transferReserved g (s .book .next)) (movedOf xs) y)) (changeAll raise (copiesOf xs) (s .objects))))
-        (opened (s .book .next))))
-        (afterId (copiesFault (s₀ .objects) (copiesOf xs₀)) (accept (addRow (claim c xs₀) (withObjects (withTable s₀ c
+        (opened (s .book .next)))
+        (refuseAfterId copiesFault (s₀ .objects) (copiesOf xs₀) then accept (addRow (claim c xs₀) (withObjects (withTable s₀ c
         (keepAll (x .z) (λ g. transferReserved g (s₀ .book .next)) (movedOf xs₀) y₀)) (changeAll raise (copiesOf xs₀) (s₀ .objects))))
-        (opened (s₀ .book .next))))
+        (opened (s₀ .book .next)))
     claimed xs xs₀ e = rw e (
         faults x {a = copiesFault (s .objects) (copiesOf xs)} _ _ refl λ q.
         changes x c (all-marked x (movedOf xs) y) (added x _) refl refl)

@@ -9,7 +9,8 @@ use Rattle.model.specs.State.{State}
 use Rattle.model.specs.Request.{Route.buffered, Route.rendezvous, Operation.asMove, Operation.asCopy, Item, Answer.opened}
 use Rattle.model.specs.Request.{Request, Request.newObject, Request.duplicate, Request.releaseParcel, Request.retireObject, Request.reserve, Request.trim, Request.abort, Request.publish, Request.getInfo, Request.resolve, Request.replace, Request.close, Request.scanHandles, Request.prepareTransfer, Request.prepareConsumption, Request.rollback, Request.commit, Request.directCommit, Request.directRollback, Request.removeStoppingOwner, Request.teardownStart, Request.teardownStep, Request.teardownFinish, Request.takeEmptyPage}
 use Rattle.model.specs.Cases.{item, sameList-equal}
-use Rattle.noninterference.specs.Runs.{valueOf, permitted, wanting, lowerRequest, lowerAnswer, lowerState}
+use Rattle.noninterference.specs.Names.{valueOf}
+use Rattle.noninterference.specs.Runs.{permitted, wanting, lowerRequest, lowerAnswer, lowerState}
 use Rattle.noninterference.specs.World.{little, ran, numbers, tablesNumbers, stateNumbers, answerNumbers, v0, v1, shop}
 
 -- a list and a transfer t of table b that meet the theorem's conditions; what the held run answers, by number; and that the plain run is the same

@@ -12,7 +12,8 @@ use Rattle.model.specs.Words.{usedWords}
 use Rattle.model.specs.Request.{Route.rendezvous, Operation.asMove, Operation.asCopy, Item}
 use Rattle.model.specs.Request.{Request, Request.newObject, Request.duplicate, Request.reserve, Request.publish, Request.getInfo, Request.scanHandles, Request.prepareTransfer, Request.rollback, Request.removeStoppingOwner, Request.teardownStart}
 use Rattle.model.specs.Cases.{item}
-use Rattle.noninterference.specs.Runs.{isMove, valueOf, namesId, namesValue, walks, wanting, lowerRequest, lowerAnswer}
+use Rattle.noninterference.specs.Names.{valueOf}
+use Rattle.noninterference.specs.Runs.{isMove, namesId, namesValue, walks, wanting, lowerRequest, lowerAnswer}
 use Rattle.noninterference.specs.World.{little, ran, v0, v1, shop, parameters}
 
 module _ (s : State) (t : ℕ) (items : List Item) (rs : List Request) where

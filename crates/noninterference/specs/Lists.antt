@@ -13,11 +13,12 @@ use Rattle.model.specs.Base.{bit, atMost, every, member, occurs}
 use Rattle.model.specs.State.{Sizes, Slot, Slot.absent, Slot.vacant, Slot.reserved, Slot.transferReserved, Slot.occupied, Table, Entry, Entry.moved, Entry.copied, Body.claim, State}
 use Rattle.model.specs.Request.{Item, Answer, Answer.refused}
 use Rattle.model.specs.Request.{Request, Request.newObject, Request.duplicate, Request.releaseParcel, Request.retireObject, Request.reserve, Request.trim, Request.abort, Request.publish, Request.getInfo, Request.resolve, Request.replace, Request.close, Request.scanHandles, Request.prepareTransfer, Request.prepareConsumption, Request.rollback, Request.commit, Request.directCommit, Request.directRollback, Request.removeStoppingOwner, Request.teardownStart, Request.teardownStep, Request.teardownFinish, Request.takeEmptyPage}
+use Rattle.noninterference.specs.Names.{valueOf}
 use Rattle.model.specs.Book.{find, movedOf}
 use Rattle.model.specs.Decision.{Decision, Decision.refusal, Decision.refusalAfterId, Decision.accept}
 use Rattle.model.specs.Step.{decide, carry, step, run}
 use Rattle.model.specs.WellFormed.{WellFormed, isMovingBy}
-use Rattle.noninterference.specs.Runs.{valueOf, namesId, namesValue, walks, permitted, gives, pagesNeeded, wantsRow, wantsId, wanting, lowerRequest, lowerAnswer}
+use Rattle.noninterference.specs.Runs.{namesId, namesValue, walks, permitted, gives, pagesNeeded, wantsRow, wantsId, wanting, lowerRequest, lowerAnswer}
 use Rattle.noninterference.specs.Erase.{erase}
 use Rattle.model.specs.Tests.{bool, clash, and-left, and-right, or-left, or-right}
 use Rattle.noninterference.specs.Marks.{Stems}
@@ -34,6 +35,9 @@ other t i e p = eqb-false t i e (sym p)
 head-apart : (t i : ℕ) (is : List ℕ) → member t (i ∷ is) ≡ false → eqb t i ≡ false
 head-apart t i is m = bool (eqb t i) (λ e. clash refl (rw e at m)) (λ e. e)
 
+only : (t i : ℕ) → member t (i ∷ []) ≡ false → i ≡ t → ⊥
+only t i m = other t i (head-apart t i [] m)
+
 tail-apart : (t i : ℕ) (is : List ℕ) → member t (i ∷ is) ≡ false → member t is ≡ false
 tail-apart t i is m = rw (head-apart t i is m) at m
 
@@ -41,15 +45,15 @@ values-apart : (w : ℕ) (vs : List ℕ) → every (λ v. not (eqb v w)) vs ≡ 
 values-apart w [] e = refl
 values-apart w (v ∷ vs) e = rw (ne-eqb w v (other v w (not-true (eqb v w) (and-left _ _ e)))) (values-apart w vs (and-right (not (eqb v w)) _ e))
 
-value-apart : (b c w : ℕ) (vs : List ℕ) → every (λ v. not (eqb c b && eqb v w)) vs ≡ true → (eqb c b && member w vs) ≡ false
-value-apart b c w vs e = bool (eqb c b) (λ q. rw q (values-apart w vs (rw q at e))) (λ q. rw q)
-
 none-either : (w : ℕ) (ws vs : List ℕ) → every (λ v. not (member v (w ∷ ws))) vs ≡ true
     → (every (λ v. not (eqb v w)) vs ≡ true) × (every (λ v. not (member v ws)) vs ≡ true)
 none-either w ws [] e = (refl, refl)
 none-either w ws (v ∷ vs) e = let m : member v (w ∷ ws) ≡ false = not-true (member v (w ∷ ws)) (and-left _ _ e) in
     let r = none-either w ws vs (and-right (not (member v (w ∷ ws))) _ e) in
     (rw (head-apart v w ws m, r .0), rw (tail-apart v w ws m, r .1))
+
+value-apart : (b c w : ℕ) (vs : List ℕ) → every (λ v. not (eqb c b && member v (w ∷ []))) vs ≡ true → (eqb c b && member w vs) ≡ false
+value-apart b c w vs e = bool (eqb c b) (λ q. rw q (values-apart w vs (none-either w [] vs (rw q at e) .0))) (λ q. rw q)
 
 items-here : (b c : ℕ) (vs : List ℕ) (qs : List Item) → every (λ v. not (member v (map valueOf qs))) vs ≡ true → Clear b vs c qs
 items-here b c vs [] e = tt
@@ -82,11 +86,11 @@ module _ (x : Case) where
   unfolding decide
   decided (newObject o r f) i v w = none-needed (alike-newObject x o r f)
   decided (duplicate c a r) i v w = none-needed (alike-duplicate x c a r (value-apart (x .b) c a (x .vs) v))
-  decided (releaseParcel j) i v w = none-needed (alike-releaseParcel x j (other (x .t) j i))
+  decided (releaseParcel j) i v w = none-needed (alike-releaseParcel x j (only (x .t) j i))
   decided (retireObject o) i v w = none-needed (alike-retireObject x o)
   decided (reserve c n) i v w = alike-reserve x c n
-  decided (trim j n) i v w = none-needed (alike-trim x j n (other (x .t) j i))
-  decided (abort j) i v w = none-needed (alike-abort x j (other (x .t) j i))
+  decided (trim j n) i v w = none-needed (alike-trim x j n (only (x .t) j i))
+  decided (abort j) i v w = none-needed (alike-abort x j (only (x .t) j i))
   decided (publish j js) i v w = none-needed (alike-publish x j js (other (x .t) j (head-apart (x .t) j js i)) (tail-apart (x .t) j js i))
   decided (getInfo c a) i v w = none-needed (alike-getInfo x c a (value-apart (x .b) c a (x .vs) v))
   decided (resolve c a r k) i v w = none-needed (alike-resolve x c a r k (value-apart (x .b) c a (x .vs) v))
@@ -95,8 +99,8 @@ module _ (x : Case) where
   decided (scanHandles c k) i v w = none-needed (alike-scanHandles x c w k)
   decided (prepareTransfer c route o k qs) i v w = none-needed (alike-prepareTransfer x c route o k qs (items-apart (x .b) c (x .vs) qs v))
   decided (prepareConsumption c a r k o) i v w = none-needed (alike-prepareConsumption x c a r k o (value-apart (x .b) c a (x .vs) v))
-  decided (rollback j) i v w = none-needed (alike-rollback x j (other (x .t) j i))
-  decided (commit j) i v w = none-needed (alike-commit x j (other (x .t) j i))
+  decided (rollback j) i v w = none-needed (alike-rollback x j (only (x .t) j i))
+  decided (commit j) i v w = none-needed (alike-commit x j (only (x .t) j i))
   decided (directCommit j k) i v w =
       none-needed (alike-directCommit x j k (other (x .t) j (head-apart (x .t) j (k ∷ []) i))
       (other (x .t) k (head-apart (x .t) k [] (tail-apart (x .t) j (k ∷ []) i))))

@@ -1,105 +1,37 @@
 -- Runs H and P of document 01: which lists are meant, and ids one lower.
 use mathlib.Core.Bool.{Bool, true, false, not, _&&_, _||_}
 use mathlib.Core.List.{List, [], _∷_, map}
+use mathlib.Core.Option.{Option, none, some}
 use Prim.Native.Nat.{ℕ, _-_}
 use lib.ListN.{length}
 use lib.Dec.{eqb, ltb}
-use Rattle.model.specs.Base.{pick, orElse, atMost, every, member}
+use Rattle.model.specs.Base.{pick, orElse, atMost, bans, every, member}
 use Rattle.model.specs.State.{Sizes, Slot, Slot.absent, Slot.vacant, Slot.reserved, Slot.transferReserved, Slot.occupied, Table, Row, Book, State}
 use Rattle.model.specs.Storage.{pagesFor}
 use Rattle.model.specs.Transfer.{isCopy}
 use Rattle.model.specs.Step.{step}
 use Rattle.model.specs.Request.{Item}
 use Rattle.model.specs.Request.{Answer, Answer.refused, Answer.done, Answer.opened, Answer.batch, Answer.infoOf, Answer.resolved, Answer.renewed, Answer.scanned, Answer.removed, Answer.closed, Answer.taken}
-use Rattle.model.specs.Request.{Request, Request.newObject, Request.duplicate, Request.releaseParcel, Request.retireObject, Request.reserve, Request.trim, Request.abort, Request.publish, Request.getInfo, Request.resolve, Request.replace, Request.close, Request.scanHandles, Request.prepareTransfer, Request.prepareConsumption, Request.rollback, Request.commit, Request.directCommit, Request.directRollback, Request.removeStoppingOwner, Request.teardownStart, Request.teardownStep, Request.teardownFinish, Request.takeEmptyPage}
+use Rattle.model.specs.Request.{Request}
+use Rattle.noninterference.specs.Names.{namesOf, requestBy}
 
 -- "a transfer of moves only"
 abbrev pub isMove : Item → Bool
 isMove q = not (isCopy (q .operation))
 
-abbrev pub valueOf : Item → ℕ
-valueOf q = q .value
+-- what a request names, by the model's table
 
--- "A request names a number if a field of that kind in it or its items holds it": a reservation id
+-- a reservation id
 abbrev pub namesId : ℕ → Request → Bool
-namesId t (newObject o r f) = false
-namesId t (duplicate c w r) = false
-namesId t (releaseParcel i) = eqb t i
-namesId t (retireObject o) = false
-namesId t (reserve c n) = false
-namesId t (trim i n) = eqb t i
-namesId t (abort i) = eqb t i
-namesId t (publish i is) = member t (i ∷ is)
-namesId t (getInfo c w) = false
-namesId t (resolve c w r k) = false
-namesId t (replace c w r) = false
-namesId t (close c w) = false
-namesId t (scanHandles c k) = false
-namesId t (prepareTransfer c route o k qs) = false
-namesId t (prepareConsumption c w r k o) = false
-namesId t (rollback i) = eqb t i
-namesId t (commit i) = eqb t i
-namesId t (directCommit i j) = member t (i ∷ j ∷ [])
-namesId t (directRollback i j) = member t (i ∷ j ∷ [])
-namesId t (removeStoppingOwner c k) = false
-namesId t (teardownStart c) = false
-namesId t (teardownStep c) = false
-namesId t (teardownFinish c) = false
-namesId t (takeEmptyPage c) = false
+namesId t r = member t (namesOf r .ids)
 
 -- a handle value, in a table
 abbrev pub namesValue : (table value : ℕ) → Request → Bool
-namesValue b v (newObject o r f) = false
-namesValue b v (duplicate c w r) = eqb c b && eqb v w
-namesValue b v (releaseParcel i) = false
-namesValue b v (retireObject o) = false
-namesValue b v (reserve c n) = false
-namesValue b v (trim i n) = false
-namesValue b v (abort i) = false
-namesValue b v (publish i is) = false
-namesValue b v (getInfo c w) = eqb c b && eqb v w
-namesValue b v (resolve c w r k) = eqb c b && eqb v w
-namesValue b v (replace c w r) = eqb c b && eqb v w
-namesValue b v (close c w) = eqb c b && eqb v w
-namesValue b v (scanHandles c k) = false
-namesValue b v (prepareTransfer c route o k qs) = eqb c b && member v (map valueOf qs)
-namesValue b v (prepareConsumption c w r k o) = eqb c b && eqb v w
-namesValue b v (rollback i) = false
-namesValue b v (commit i) = false
-namesValue b v (directCommit i j) = false
-namesValue b v (directRollback i j) = false
-namesValue b v (removeStoppingOwner c k) = false
-namesValue b v (teardownStart c) = false
-namesValue b v (teardownStep c) = false
-namesValue b v (teardownFinish c) = false
-namesValue b v (takeEmptyPage c) = false
+namesValue b v r = eqb (namesOf r .table) b && member v (namesOf r .values)
 
 -- "neither scans, starts tearing down nor removes for a stopping owner there"
 abbrev pub walks : (table : ℕ) → Request → Bool
-walks b (newObject o r f) = false
-walks b (duplicate c w r) = false
-walks b (releaseParcel i) = false
-walks b (retireObject o) = false
-walks b (reserve c n) = false
-walks b (trim i n) = false
-walks b (abort i) = false
-walks b (publish i is) = false
-walks b (getInfo c w) = false
-walks b (resolve c w r k) = false
-walks b (replace c w r) = false
-walks b (close c w) = false
-walks b (scanHandles c k) = eqb c b
-walks b (prepareTransfer c route o k qs) = false
-walks b (prepareConsumption c w r k o) = false
-walks b (rollback i) = false
-walks b (commit i) = false
-walks b (directCommit i j) = false
-walks b (directRollback i j) = false
-walks b (removeStoppingOwner c k) = eqb c b
-walks b (teardownStart c) = eqb c b
-walks b (teardownStep c) = false
-walks b (teardownFinish c) = false
-walks b (takeEmptyPage c) = false
+walks b r = bans (namesOf r .walked) b
 
 -- "The list names neither those values in that table nor that transfer's id, and neither scans .. there"
 unfoldable pub permitted : (id table : ℕ) → (values : List ℕ) → Request → Bool
@@ -119,32 +51,13 @@ gives n (removed o c) = false
 gives n (closed o) = false
 gives n (taken p) = false
 
--- only a reservation needs pages
+-- "the pages it needs"
+abbrev pub pagesOf : Sizes → State → Option (ℕ × ℕ) → ℕ
+pagesOf z s none = 0
+pagesOf z s (some q) = length (orElse (pagesFor z (s .tables (q .0)) (q .1)) [])
+
 abbrev pub pagesNeeded : Sizes → State → Request → ℕ
-pagesNeeded z s (newObject o r f) = 0
-pagesNeeded z s (duplicate c w r) = 0
-pagesNeeded z s (releaseParcel i) = 0
-pagesNeeded z s (retireObject o) = 0
-pagesNeeded z s (reserve c n) = length (orElse (pagesFor z (s .tables c) n) [])
-pagesNeeded z s (trim i n) = 0
-pagesNeeded z s (abort i) = 0
-pagesNeeded z s (publish i is) = 0
-pagesNeeded z s (getInfo c w) = 0
-pagesNeeded z s (resolve c w r k) = 0
-pagesNeeded z s (replace c w r) = 0
-pagesNeeded z s (close c w) = 0
-pagesNeeded z s (scanHandles c k) = 0
-pagesNeeded z s (prepareTransfer c route o k qs) = 0
-pagesNeeded z s (prepareConsumption c w r k o) = 0
-pagesNeeded z s (rollback i) = 0
-pagesNeeded z s (commit i) = 0
-pagesNeeded z s (directCommit i j) = 0
-pagesNeeded z s (directRollback i j) = 0
-pagesNeeded z s (removeStoppingOwner c k) = 0
-pagesNeeded z s (teardownStart c) = 0
-pagesNeeded z s (teardownStep c) = 0
-pagesNeeded z s (teardownFinish c) = 0
-pagesNeeded z s (takeEmptyPage c) = 0
+pagesNeeded z s r = pagesOf z s (namesOf r .batch)
 
 unfoldable pub wantsRow : Sizes → State → Request → Bool
 wantsRow z s r = gives 1 (step z s r .1) && atMost (pagesNeeded z s r) (length (s .frames))
@@ -176,30 +89,7 @@ unfoldable pub lowered : ℕ → ℕ → ℕ
 lowered t i = pick (ltb t i) (i - 1) i
 
 abbrev pub lowerRequest : ℕ → Request → Request
-lowerRequest t (newObject o r f) = newObject o r f
-lowerRequest t (duplicate c w r) = duplicate c w r
-lowerRequest t (releaseParcel i) = releaseParcel (lowered t i)
-lowerRequest t (retireObject o) = retireObject o
-lowerRequest t (reserve c n) = reserve c n
-lowerRequest t (trim i n) = trim (lowered t i) n
-lowerRequest t (abort i) = abort (lowered t i)
-lowerRequest t (publish i is) = publish (lowered t i) (map (lowered t) is)
-lowerRequest t (getInfo c w) = getInfo c w
-lowerRequest t (resolve c w r k) = resolve c w r k
-lowerRequest t (replace c w r) = replace c w r
-lowerRequest t (close c w) = close c w
-lowerRequest t (scanHandles c k) = scanHandles c k
-lowerRequest t (prepareTransfer c route o k qs) = prepareTransfer c route o k qs
-lowerRequest t (prepareConsumption c w r k o) = prepareConsumption c w r k o
-lowerRequest t (rollback i) = rollback (lowered t i)
-lowerRequest t (commit i) = commit (lowered t i)
-lowerRequest t (directCommit i j) = directCommit (lowered t i) (lowered t j)
-lowerRequest t (directRollback i j) = directRollback (lowered t i) (lowered t j)
-lowerRequest t (removeStoppingOwner c k) = removeStoppingOwner c k
-lowerRequest t (teardownStart c) = teardownStart c
-lowerRequest t (teardownStep c) = teardownStep c
-lowerRequest t (teardownFinish c) = teardownFinish c
-lowerRequest t (takeEmptyPage c) = takeEmptyPage c
+lowerRequest t r = requestBy (lowered t) r
 
 abbrev pub lowerAnswer : ℕ → Answer → Answer
 lowerAnswer t (refused n) = refused n

@@ -17,12 +17,13 @@ use Rattle.model.specs.Change.{withTable, withObjects}
 use Rattle.model.specs.Objects.{raise, changeAll}
 use Rattle.model.specs.Request.{Route, Operation, Operation.asMove, Operation.asCopy, Item, Request.prepareTransfer, Answer.opened}
 use Rattle.model.specs.Book.{find, addRow, freeRow, idLeft, movedOf, copiesOf}
-use Rattle.model.specs.Decision.{Decision, unless_refuse_then_}
+use Rattle.model.specs.Decision.{Decision, unless_refuse_then_, refuseAfterId_then_}
 use Rattle.model.specs.Lookup.{handleOr}
-use Rattle.model.specs.Transfer.{isCopy, itemsFault, copiesFault, entryBy, entryFor, afterId}
+use Rattle.model.specs.Transfer.{isCopy, itemsFault, copiesFault, entryBy, entryFor}
 use Rattle.model.specs.Step.{restoreAll, prepareTransferOf, decide, carry, step}
 use Rattle.model.specs.WellFormed.{WellFormed, isMovingBy}
-use Rattle.noninterference.specs.Runs.{isMove, valueOf, lowered, withSlots}
+use Rattle.noninterference.specs.Names.{valueOf}
+use Rattle.noninterference.specs.Runs.{isMove, lowered, withSlots}
 use Rattle.noninterference.specs.Erase.{eraseSlot, eraseTable, erase}
 use Rattle.model.specs.Tests.{bool, clash, and-left, and-right}
 use Rattle.invariant.specs.BookLemmas.{ids-none}
@@ -202,7 +203,7 @@ module _ (z : Sizes) (s : State) (w : WellFormed z s) where
       passes true i d k e = k refl e
       passes false i d k e = let f : _≡_ {A = ℕ} 0 1 = cc in absurd (omega arith)
 
-      passes-items : (f : Option ℕ) (d : Decision) → (f ≡ none → Begins d) → Begins (afterId f d)
+      passes-items : (f : Option ℕ) (d : Decision) → (f ≡ none → Begins d) → Begins (refuseAfterId f then d)
       passes-items none d k e = k refl e
       passes-items (some i) d k e = let f : _≡_ {A = ℕ} 0 1 = cc in absurd (omega arith)
 

@@ -10,7 +10,8 @@ use Rattle.model.specs.Request.{Route, Item, Request, Request.close, Request.pr
 use Rattle.model.specs.Step.{step, run}
 use Rattle.model.specs.Words.{allWords}
 use Rattle.model.specs.WellFormed.{WellFormed, Equal}
-use Rattle.noninterference.specs.Runs.{isMove, valueOf, permitted, wanting, accepted, lowerRequest, lowerAnswer, lowerTable, lowerState}
+use Rattle.noninterference.specs.Names.{valueOf}
+use Rattle.noninterference.specs.Runs.{isMove, permitted, wanting, accepted, lowerRequest, lowerAnswer, lowerTable, lowerState}
 use Rattle.invariant.specs.Pages.{Sane}
 use Rattle.invariant.specs.Kept.{kept as always-kept}
 use Rattle.noninterference.specs.Erase.{erase}

@@ -11,7 +11,7 @@ use Rattle.authority.specs.Rights.{contains, duplicateRight}
 use Rattle.model.specs.Objects.{isNowActive, isNowRetired, withRights}
 use Rattle.model.specs.Decision.{Decision, asParcel}
 use Rattle.model.specs.Request.{Answer.renewed}
-use Rattle.model.specs.Lookup.{onHandle}
+use Rattle.model.specs.Decided.{onHandle}
 use Rattle.model.specs.Step.{newObjectOf, duplicateOf, releaseParcelOf, retireObjectOf, getInfoOf, closeOf, replaceOf, resolveOf}
 use Rattle.noninterference.specs.Runs.{lowered}
 use Rattle.noninterference.specs.Erase.{erase}
@@ -37,7 +37,7 @@ module _ (x : Case) where
       check x (y .exportable) 6 λ q.
       check x (not (isNowRetired (y .stage))) 9 λ q.
       check x (not (isNowActive (y .stage))) 10 λ q.
-      check x (ltb (y .count) (y .limit)) 11 λ q.
+      check x (not (eqb (y .count) (y .limit))) 11 λ q.
       id-left x (
       accepts x (λ c. untouched x (s .tables c)) (added x _) refl refl))
 

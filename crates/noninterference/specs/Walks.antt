@@ -15,9 +15,9 @@ use Rattle.model.specs.Change.{withTable, withLife}
 use Rattle.model.specs.Objects.{lower, changeAll, infoFor}
 use Rattle.model.specs.Request.{Snapshot, SnapshotPage, Answer.done, Answer.scanned, Answer.removed, Answer.closed}
 use Rattle.model.specs.Book.{anyOpen}
-use Rattle.model.specs.Decision.{Decision, Decision.accept, unless_refuse_then_}
+use Rattle.model.specs.Decision.{Decision, Decision.accept, unless_refuse_then_, teardownCursor_refuse_then_}
 use Rattle.model.specs.Lookup.{handleOr, snapshotAt}
-use Rattle.model.specs.Step.{scanHandlesOf, nextOccupied, removeAt, removeStoppingOwnerOf, teardownStartOf, onTearing, tearAt, teardownStepOf, teardownFinishOf, takeAt, takeEmptyPageOf}
+use Rattle.model.specs.Step.{scanHandlesOf, nextOccupied, removeAt, removeStoppingOwnerOf, teardownStartOf, tearAt, teardownStepOf, teardownFinishOf, takeAt, takeEmptyPageOf}
 use Rattle.noninterference.specs.Erase.{erase}
 use Rattle.model.specs.Tests.{bool, clash}
 use Rattle.noninterference.specs.Basics.{map-same}
@@ -128,8 +128,8 @@ module _ (x : Case) where
   alike-teardownStep c = check x (ltb c (s .tableCount)) 18 λ q. go (s .tables c .life) refl
     where
       go : (l : Lifecycle) → s .tables c .life ≡ l → Alike x true
-          (onTearing (x .z) l λ k. tearAt (x .z) s c (s .tables c) (nextOccupied (x .z) (s .tables c) k))
-          (onTearing (x .z) l λ k. tearAt (x .z) s₀ c (s₀ .tables c) (nextOccupied (x .z) (s₀ .tables c) k))
+          (teardownCursor l refuse 18 then λ k. tearAt (x .z) s c (s .tables c) (nextOccupied (x .z) (s .tables c) k))
+          (teardownCursor l refuse 18 then λ k. tearAt (x .z) s₀ c (s₀ .tables c) (nextOccupied (x .z) (s₀ .tables c) k))
       go active e = refuses x true 18
       go (tearingDown k) e = let n : eqb c (x .b) ≡ false = tearing-other c k e in
           rw (next-same c n k) (tears c n (nextOccupied (x .z) (s .tables c) k))
@@ -142,7 +142,7 @@ module _ (x : Case) where
       d : State → Decision
       d u = unless not (isSome (nextOccupied (x .z) (u .tables c) 0)) refuse 18 then accept (withTable u c (withLife (u .tables c) retired)) done
 
-      go : (l : Lifecycle) → s .tables c .life ≡ l → Alike x true (onTearing (x .z) l λ k. d s) (onTearing (x .z) l λ k. d s₀)
+      go : (l : Lifecycle) → s .tables c .life ≡ l → Alike x true (teardownCursor l refuse 18 then λ k. d s) (teardownCursor l refuse 18 then λ k. d s₀)
       go active e = refuses x true 18
       go (tearingDown k) e = finishes c (tearing-other c k e)
       go retired e = refuses x true 18

@@ -83,7 +83,7 @@ module _ (z : Sizes) (s : State) where
       checked (s .objects o .exportable) 6 tt λ e.
       checked (not (isNowRetired (s .objects o .stage))) 9 tt λ e.
       checked (not (isNowActive (s .objects o .stage))) 10 tt λ e.
-      checked (ltb (s .objects o .count) (s .objects o .limit)) 11 tt λ e.
+      checked (not (eqb (s .objects o .count) (s .objects o .limit))) 11 tt λ e.
       checked (idLeft s) 12 tt λ e.
       accepts refl
   decide-gives (duplicate b v r) =
@@ -196,12 +196,12 @@ module _ (z : Sizes) (s : State) where
   decide-gives (teardownStep b) =
       let t : Table = s .tables b in
       checked (ltb b (s .tableCount)) 18 tt λ e.
-      while-tearing z (t .life) tt λ c e.
+      while-tearing (t .life) tt λ c e.
       found-or (tearAt z s b t) (nextOccupied z t c) (accepts refl) λ k e. accepts refl
   decide-gives (teardownFinish b) =
       let t : Table = s .tables b in
       checked (ltb b (s .tableCount)) 18 tt λ e.
-      while-tearing z (t .life) tt λ c e.
+      while-tearing (t .life) tt λ c e.
       checked (not (isSome (nextOccupied z t 0))) 18 tt λ e.
       accepts refl
   decide-gives (takeEmptyPage b) =

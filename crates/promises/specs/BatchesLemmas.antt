@@ -46,7 +46,8 @@ module _ (z : Sizes) (sane : Sane z) (limit last lacks : ℕ) (slots : (p : ℕ)
       (λ y. rw (e, y, le-ltb last (suc n) (omega (arith, ltb-false last n y))) (omega arith)))
 
   none-needed : (fuel needed : ℕ) (ds : List ℕ) (n : ℕ) (ps : List ℕ) → pagesFrom z fuel needed ds n limit ≡ some ps → needed ≡ 0 → length ps ≡ 0
-  none-needed zero needed ds n ps e q = let y : ps ≡ [] = cc in rw y
+  none-needed zero zero ds n ps e q = let y : ps ≡ [] = cc in rw y
+  none-needed zero (suc m) ds n ps e q = absurd (omega arith)
   none-needed (suc fuel) zero ds n ps e q = let y : ps ≡ [] = cc in rw y
   none-needed (suc fuel) (suc m) ds n ps e q = absurd (omega arith)
 
@@ -63,7 +64,8 @@ module _ (z : Sizes) (sane : Sane z) (limit last lacks : ℕ) (slots : (p : ℕ)
   pub pages-bound : (fuel needed : ℕ) (ds : List ℕ) (n : ℕ) → n ≤ limit → ((p : ℕ) → 0 < occurs p ds → p < limit)
       → (ps : List ℕ) → pagesFrom z fuel needed ds n limit ≡ some ps
       → length ps * z .pageSlots < needed + z .pageSlots + coming ds n * lacks
-  pages-bound zero needed ds n l b ps e = let y : ps ≡ [] = cc in rw y (omega (arith, sane .page))
+  pages-bound zero zero ds n l b ps e = let y : ps ≡ [] = cc in rw y (omega (arith, sane .page))
+  pages-bound zero (suc m) ds n l b ps e = apart (cc)
   pages-bound (suc fuel) zero ds n l b ps e = let y : ps ≡ [] = cc in rw y (omega (arith, sane .page))
   pages-bound (suc fuel) (suc m) [] n l b ps e = bool (eqb n limit)
       (λ q. let x : none ≡ some ps = rw q at e in apart (cc))

@@ -18,7 +18,8 @@ use Rattle.model.specs.Words.{readList, wordsOf}
 use Rattle.layout.specs.declared.Shape.{Shape}
 use Rattle.representation.specs.Represents.{Rep}
 use Rattle.invariant.specs.Pages.{till-sane}
-use Rattle.noninterference.specs.Runs.{isMove, valueOf, permitted, wanting, accepted, lowered, lowerRequest, lowerTable, lowerState}
+use Rattle.noninterference.specs.Names.{valueOf}
+use Rattle.noninterference.specs.Runs.{isMove, permitted, wanting, accepted, lowered, lowerRequest, lowerTable, lowerState}
 use Rattle.noninterference.specs.Theorem.{held-and-plain}
 use Rattle.promises.specs.Lower.{lowerWords, lowerAnswers, Ending, Ending.rolledBack, Ending.committed, endH, endP, lastH, lastP, reads-lowered, reads-both, reads-lastH, reads-lastP}
 use Rattle.promises.specs.Terms.{Call, Calls, left, listOf, answersOf, Passed}

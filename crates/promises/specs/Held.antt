@@ -19,7 +19,8 @@ use Rattle.model.specs.Step.{closeOf, rollbackOf, commitOf, decide, step, run}
 use Rattle.model.specs.Decided.{Any, accepts, with-handle, with-claim, carried}
 use Rattle.model.specs.Words.{usedWords, wordsOf, allWords}
 use Rattle.model.specs.Lists.{words-length, run-length}
-use Rattle.noninterference.specs.Runs.{valueOf, accepted, lowered, lowerRequest, lowerAnswer, lowerTable, lowerState}
+use Rattle.noninterference.specs.Names.{valueOf}
+use Rattle.noninterference.specs.Runs.{accepted, lowered, lowerRequest, lowerAnswer, lowerTable, lowerState}
 use Rattle.noninterference.specs.Theorem.{Agree}
 use Rattle.promises.specs.Answers.{number-0, zero-accepts, prepare-answers}
 use Rattle.promises.specs.Lower.{Ending, Ending.rolledBack, Ending.committed, lastH, lastP, lowerAnswers, answers-lowered}

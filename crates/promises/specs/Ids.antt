@@ -11,19 +11,21 @@ use lib.ListN.{length, getD, drop, length-append}
 use lib.Dec.{eqb}
 use borrow.Author.Tests.{eqb-true}
 use Rattle.words.specs.Pick.{clash, both}
+use Rattle.format.specs.Fields.{idField, destinationField}
 use Rattle.format.specs.Format.{musts, mays, transferItemMust, transferItemMay, parcelItemMust, parcelItemMay, fieldKinds, fieldFits, fieldCount}
 use Rattle.model.specs.Base.{pick, nth, orElse}
 use Rattle.model.specs.Request.{Item}
 use Rattle.model.specs.Request.{Request, Request.newObject, Request.duplicate, Request.releaseParcel, Request.retireObject, Request.reserve, Request.trim, Request.abort, Request.publish, Request.getInfo, Request.resolve, Request.replace, Request.close, Request.scanHandles, Request.prepareTransfer, Request.prepareConsumption, Request.rollback, Request.commit, Request.directCommit, Request.directRollback, Request.removeStoppingOwner, Request.teardownStart, Request.teardownStep, Request.teardownFinish, Request.takeEmptyPage}
-use Rattle.model.specs.Words.{Reading, andThen, Fields, odd, readField, readFields, fitAll, may, must, goodRecord, readRecord, readMany, operationOf, readTransferItem, readParcelItem, plainRequests, withItems, readRequest, readUpTo, readList}
+use Rattle.model.specs.Words.{Reading, andThen, Fields, odd, readField, readFields, fitAll, may, must, goodRecord, readRecord, readMany, operationOf, readTransferItem, readParcelItem, plainRequests, plainRequest, withItems, readRequest, readUpTo, readList}
 use Rattle.model.specs.Lists.{Front, request-in-front, reading-ends}
-use Rattle.model.specs.Tests.{some-same}
+use Rattle.noninterference.specs.Names.{requestBy}
+use Rattle.model.specs.Tests.{_&_, some-same}
 
 -- ---- the words
 
--- docs/formats.md, "Fields of a record": bit 7, id, and bit 8, destination, are reservation ids
+-- docs/formats.md, "Fields of a record": the fields that are reservation ids
 abbrev pub isId : ℕ → Bool
-isId k = eqb k 7 || eqb k 8
+isId k = eqb k idField || eqb k destinationField
 
 -- which of the n bits from k on stand in a map, the lowest first
 abbrev pub standing : ℕ → ℕ → ℕ → List ℕ
@@ -41,34 +43,6 @@ changed f (k ∷ ks) (w ∷ ws) = pick (isId k) (f w) w ∷ changed f ks ws
 -- THE WORDS of a list with its ids changed: a record or nothing begins it
 abbrev pub idsBy : (ℕ → ℕ) → List ℕ → List ℕ
 idsBy f ws = changed f [] ws
-
--- ---- the requests
-
-abbrev pub requestBy : (ℕ → ℕ) → Request → Request
-requestBy f (newObject o r g) = newObject o r g
-requestBy f (duplicate c w r) = duplicate c w r
-requestBy f (releaseParcel i) = releaseParcel (f i)
-requestBy f (retireObject o) = retireObject o
-requestBy f (reserve c n) = reserve c n
-requestBy f (trim i n) = trim (f i) n
-requestBy f (abort i) = abort (f i)
-requestBy f (publish i is) = publish (f i) (map f is)
-requestBy f (getInfo c w) = getInfo c w
-requestBy f (resolve c w r k) = resolve c w r k
-requestBy f (replace c w r) = replace c w r
-requestBy f (close c w) = close c w
-requestBy f (scanHandles c k) = scanHandles c k
-requestBy f (prepareTransfer c route o k qs) = prepareTransfer c route o k qs
-requestBy f (prepareConsumption c w r k o) = prepareConsumption c w r k o
-requestBy f (rollback i) = rollback (f i)
-requestBy f (commit i) = commit (f i)
-requestBy f (directCommit i j) = directCommit (f i) (f j)
-requestBy f (directRollback i j) = directRollback (f i) (f j)
-requestBy f (removeStoppingOwner c k) = removeStoppingOwner c k
-requestBy f (teardownStart c) = teardownStart c
-requestBy f (teardownStep c) = teardownStep c
-requestBy f (teardownFinish c) = teardownFinish c
-requestBy f (takeEmptyPage c) = takeEmptyPage c
 
 -- ---- readings taken apart
 
@@ -299,101 +273,55 @@ module _ (f : ℕ → ℕ) (z : f 0 ≡ 0) (ys : List ℕ) where
   AllMake (x ∷ xs) = Makes x × AllMake xs
 
   makes : AllMake plainRequests
-  makes = (
-    (λ fs. refl),
-    (
-      (λ fs. rw (must-same f fs 2 refl, must-same f fs 5 refl, must-same f fs 6 refl)),
-      (
-        (λ fs. rw (must-same f fs 1 refl, must-same f fs 4 refl, must-same f fs 5 refl)),
-        (
-          (λ fs. rw (must-by f z fs 7 refl)),
-          (
-            (λ fs. rw (must-same f fs 2 refl)),
-            (
-              (λ fs. rw (must-same f fs 1 refl, must-same f fs 3 refl)),
-              (
-                (λ fs. rw (must-by f z fs 7 refl, must-same f fs 3 refl)),
-                (
-                  (λ fs. rw (must-by f z fs 7 refl)),
-                  (
-                    (λ fs. rw (must-by f z fs 7 refl)),
-                    (
-                      (λ fs. rw (must-same f fs 1 refl, must-same f fs 4 refl)),
-                      (
-                        (λ fs. rw (must-same f fs 1 refl, must-same f fs 4 refl, must-same f fs 5 refl, must-same f fs 9 refl)),
-                        (
-                          (λ fs. rw (must-same f fs 1 refl, must-same f fs 4 refl, must-same f fs 5 refl)),
-                          (
-                            (λ fs. rw (must-same f fs 1 refl, must-same f fs 4 refl)),
-                            (
-                              (λ fs. rw (must-same f fs 1 refl, must-same f fs 11 refl)),
-                              (
-                                (λ fs. rw (must-same f fs 1 refl, must-same f fs 12 refl, may-same f fs 16 refl, may-same f fs 17 refl)),
-                                (
-                                  (λ fs. rw (must-same f fs 1 refl, must-same f fs 4 refl, must-same f fs 5 refl, must-same f fs 9 refl, must-same f fs 10 refl)),
-                                  (
-                                    (λ fs. rw (must-by f z fs 7 refl)),
-                                    (
-                                      (λ fs. rw (must-by f z fs 7 refl)),
-                                      (
-                                        (λ fs. rw (must-by f z fs 7 refl, must-by f z fs 8 refl)),
-                                        (
-                                          (λ fs. rw (must-by f z fs 7 refl, must-by f z fs 8 refl)),
-                                          (
-                                            (λ fs. rw (must-same f fs 1 refl, must-same f fs 11 refl)),
-                                            (
-                                              (λ fs. rw (must-same f fs 1 refl)),
-                                              (
-                                                (λ fs. rw (must-same f fs 1 refl)),
-                                                (
-                                                  (λ fs. rw (must-same f fs 1 refl)),
-                                                  (
-                                                    (λ fs. rw (must-same f fs 1 refl)),
-                                                    tt,
-                                                  ),
-                                                ),
-                                              ),
-                                            ),
-                                          ),
-                                        ),
-                                      ),
-                                    ),
-                                  ),
-                                ),
-                              ),
-                            ),
-                          ),
-                        ),
-                      ),
-                    ),
-                  ),
-                ),
-              ),
-            ),
-          ),
-        ),
-      ),
-    ),
-  )
+  makes =
+      (λ fs. rw (must-same f fs 2 refl, must-same f fs 5 refl, must-same f fs 6 refl))
+      & (λ fs. rw (must-same f fs 1 refl, must-same f fs 4 refl, must-same f fs 5 refl))
+      & (λ fs. rw (must-by f z fs 7 refl))
+      & (λ fs. rw (must-same f fs 2 refl))
+      & (λ fs. rw (must-same f fs 1 refl, must-same f fs 3 refl))
+      & (λ fs. rw (must-by f z fs 7 refl, must-same f fs 3 refl))
+      & (λ fs. rw (must-by f z fs 7 refl))
+      & (λ fs. rw (must-by f z fs 7 refl))
+      & (λ fs. rw (must-same f fs 1 refl, must-same f fs 4 refl))
+      & (λ fs. rw (must-same f fs 1 refl, must-same f fs 4 refl, must-same f fs 5 refl, must-same f fs 9 refl))
+      & (λ fs. rw (must-same f fs 1 refl, must-same f fs 4 refl, must-same f fs 5 refl))
+      & (λ fs. rw (must-same f fs 1 refl, must-same f fs 4 refl))
+      & (λ fs. rw (must-same f fs 1 refl, must-same f fs 11 refl))
+      & (λ fs. rw (must-same f fs 1 refl, must-same f fs 12 refl, may-same f fs 16 refl, may-same f fs 17 refl))
+      & (λ fs. rw (must-same f fs 1 refl, must-same f fs 4 refl, must-same f fs 5 refl, must-same f fs 9 refl, must-same f fs 10 refl))
+      & (λ fs. rw (must-by f z fs 7 refl))
+      & (λ fs. rw (must-by f z fs 7 refl))
+      & (λ fs. rw (must-by f z fs 7 refl, must-by f z fs 8 refl))
+      & (λ fs. rw (must-by f z fs 7 refl, must-by f z fs 8 refl))
+      & (λ fs. rw (must-same f fs 1 refl, must-same f fs 11 refl))
+      & (λ fs. rw (must-same f fs 1 refl))
+      & (λ fs. rw (must-same f fs 1 refl))
+      & (λ fs. rw (must-same f fs 1 refl))
+      & (λ fs. rw (must-same f fs 1 refl))
+      & tt
 
   made : (xs : List (Fields → Request)) (k : ℕ) (x : Fields → Request) → AllMake xs → nth xs k ≡ some x → Makes x
   made [] k x h e = apart e
   made (y ∷ xs) zero x h e = λ fs. let q : y ≡ x = some-same y x e in ap (λ (m : Fields → Request). m (fieldsBy f 0 fs)) (sym q) ∙ h .0 fs ∙ ap (λ (m : Fields → Request). requestBy f (m fs)) q
   made (y ∷ xs) (suc k) x h e = made xs k x (h .1) e
 
+  made-op : (op : ℕ) (x : Fields → Request) → plainRequest op ≡ some x → Makes x
+  made-op zero x e = apart e
+  made-op (suc k) x e = made plainRequests k x makes e
+
   request-go : Goes readRequest (requestBy f)
   unfolding readRequest fieldKinds
   request-go ws q rest e =
       let head : List ℕ → Reading Fields = λ v. readRecord 4 (λ op. getD musts op 0) (λ op. getD mays op 0) v in
-      let make : Fields × List ℕ → Reading Request = λ r. andThen (nth plainRequests (must (r .0) 0)) λ make. withItems (r .0) (make (r .0)) (r .1) in
+      let make : Fields × List ℕ → Reading Request = λ r. andThen (plainRequest (must (r .0) 0)) λ make. withItems (r .0) (make (r .0)) (r .1) in
       let t = then-some (head ws) make (q, rest) e in
       let r : Fields × List ℕ = t .0 in
-      let u = then-some (nth plainRequests (must (r .0) 0)) (λ m. withItems (r .0) (m (r .0)) (r .1)) (q, rest) (t .2) in
+      let u = then-some (plainRequest (must (r .0) 0)) (λ m. withItems (r .0) (m (r .0)) (r .1)) (q, rest) (t .2) in
       let m : Fields → Request = u .0 in
       ap (λ (x : Reading Fields). andThen x make) (record-go 4 (λ op. getD musts op 0) (λ op. getD mays op 0) refl ws (r .0) (r .1) (t .1))
-      ∙ ap (λ (k : ℕ). andThen (nth plainRequests k) λ x. withItems (fieldsBy f 0 (r .0)) (x (fieldsBy f 0 (r .0))) (then-ys [] (r .1))) (must-same f (r .0) 0 refl)
+      ∙ ap (λ (k : ℕ). andThen (plainRequest k) λ x. withItems (fieldsBy f 0 (r .0)) (x (fieldsBy f 0 (r .0))) (then-ys [] (r .1))) (must-same f (r .0) 0 refl)
       ∙ ap (λ (x : Option (Fields → Request)). andThen x λ x. withItems (fieldsBy f 0 (r .0)) (x (fieldsBy f 0 (r .0))) (then-ys [] (r .1))) (u .1)
-      ∙ ap (λ (x : Request). withItems (fieldsBy f 0 (r .0)) x (then-ys [] (r .1))) (made plainRequests (must (r .0) 0) m makes (u .1) (r .0))
+      ∙ ap (λ (x : Request). withItems (fieldsBy f 0 (r .0)) x (then-ys [] (r .1))) (made-op (must (r .0) 0) m (u .1) (r .0))
       ∙ items-go (r .0) (m (r .0)) (r .1) q rest (u .2)
 
   -- records until the list ends, and the requests of ys after them

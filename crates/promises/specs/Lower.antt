@@ -17,6 +17,7 @@ use Rattle.model.specs.Base.{pick, orElse, every, range}
 use Rattle.model.specs.State.{Sizes, State}
 use Rattle.model.specs.Request.{Answer, Answer.refused, Answer.done, Answer.opened, Answer.batch, Answer.infoOf, Answer.resolved, Answer.renewed, Answer.scanned, Answer.removed, Answer.closed, Answer.taken}
 use Rattle.model.specs.Request.{Request, Request.newObject, Request.duplicate, Request.releaseParcel, Request.retireObject, Request.reserve, Request.trim, Request.abort, Request.publish, Request.getInfo, Request.resolve, Request.replace, Request.close, Request.scanHandles, Request.prepareTransfer, Request.prepareConsumption, Request.rollback, Request.commit, Request.directCommit, Request.directRollback, Request.removeStoppingOwner, Request.teardownStart, Request.teardownStep, Request.teardownFinish, Request.takeEmptyPage}
+use Rattle.noninterference.specs.Names.{namesOf, requestBy}
 use Rattle.model.specs.Refusals.{isRefused}
 use Rattle.model.specs.Step.{step, run}
 use Rattle.model.specs.Words.{odd, readRequest, readList, usedWords, wordsOf, allWords}
@@ -24,7 +25,7 @@ use Rattle.model.specs.Lists.{words-length}
 use Rattle.noninterference.specs.Runs.{lowered, lowerRequest, lowerAnswer}
 use Rattle.request.specs.Place.{here, fieldsFrom, fieldsAt, goodMap, opAt, requestOf, requestAt}
 use Rattle.request.specs.Laws.{Turn, list-at, request-is}
-use Rattle.promises.specs.Ids.{isId, standing, changed, idsBy, requestBy, map-same, reads-by}
+use Rattle.promises.specs.Ids.{isId, standing, changed, idsBy, map-same, reads-by}
 use Rattle.promises.specs.Answers.{opOf, givesId, hasId, step-gives, refused-words, number-0, refused-or, step-numbered}
 
 -- ---- lists
@@ -36,32 +37,6 @@ lowerWords t ws = idsBy (lowered t) ws
 lowered-0 : (t : ℕ) → lowered t 0 ≡ 0
 unfolding lowered
 lowered-0 t = rw (le-ltb t 0 (omega arith))
-
-lower-is : (t : ℕ) (r : Request) → requestBy (lowered t) r ≡ lowerRequest t r
-lower-is t (newObject o r f) = refl
-lower-is t (duplicate c w r) = refl
-lower-is t (releaseParcel i) = refl
-lower-is t (retireObject o) = refl
-lower-is t (reserve c n) = refl
-lower-is t (trim i n) = refl
-lower-is t (abort i) = refl
-lower-is t (publish i is) = refl
-lower-is t (getInfo c w) = refl
-lower-is t (resolve c w r k) = refl
-lower-is t (replace c w r) = refl
-lower-is t (close c w) = refl
-lower-is t (scanHandles c k) = refl
-lower-is t (prepareTransfer c route o k qs) = refl
-lower-is t (prepareConsumption c w r k o) = refl
-lower-is t (rollback i) = refl
-lower-is t (commit i) = refl
-lower-is t (directCommit i j) = refl
-lower-is t (directRollback i j) = refl
-lower-is t (removeStoppingOwner c k) = refl
-lower-is t (teardownStart c) = refl
-lower-is t (teardownStep c) = refl
-lower-is t (teardownFinish c) = refl
-lower-is t (takeEmptyPage c) = refl
 
 map-is {ℓ} : {A B : Type ℓ} (f g : A → B) → ((a : A) → f a ≡ g a) → (xs : List A) → map f xs ≡ map g xs
 map-is f g h [] = refl
@@ -76,35 +51,12 @@ pub reads-lowered : (t : ℕ) (ws : List ℕ) (rs : List Request) → readList w
 reads-lowered t ws rs e =
     ap readList (sym (append-nil (lowerWords t ws)))
     ∙ reads-by (lowered t) (lowered-0 t) [] ws rs [] e no-words
-    ∙ ap some (append-nil (map (requestBy (lowered t)) rs) ∙ map-is (requestBy (lowered t)) (lowerRequest t) (lower-is t) rs)
+    ∙ ap some (append-nil (map (lowerRequest t) rs))
 
 -- ---- a list behind a list
 
 id-is : (r : Request) → requestBy (λ i. i) r ≡ r
-id-is (newObject o r f) = refl
-id-is (duplicate c w r) = refl
-id-is (releaseParcel i) = refl
-id-is (retireObject o) = refl
-id-is (reserve c n) = refl
-id-is (trim i n) = refl
-id-is (abort i) = refl
-id-is (publish i is) = ap (publish i) (map-same is)
-id-is (getInfo c w) = refl
-id-is (resolve c w r k) = refl
-id-is (replace c w r) = refl
-id-is (close c w) = refl
-id-is (scanHandles c k) = refl
-id-is (prepareTransfer c route o k qs) = refl
-id-is (prepareConsumption c w r k o) = refl
-id-is (rollback i) = refl
-id-is (commit i) = refl
-id-is (directCommit i j) = refl
-id-is (directRollback i j) = refl
-id-is (removeStoppingOwner c k) = refl
-id-is (teardownStart c) = refl
-id-is (teardownStep c) = refl
-id-is (teardownFinish c) = refl
-id-is (takeEmptyPage c) = refl
+id-is r = ap (namesOf r .renamed) (map-same (namesOf r .ids)) ∙ namesOf r .itself
 
 ids-same : (ws ks : List ℕ) → changed (λ i. i) ks ws ≡ ws
 ids-same [] [] = refl
