@@ -70,10 +70,10 @@ abbrev pub OffObjects : Mem → Mem → Type 0
 OffObjects m n = (k x y f : ℕ) → (k ≡ 8 → ⊥) → n (reg k x y f) ≡ m (reg k x y f)
 
 -- the memory without the objects
-abbrev hide : Mem → Mem
+abbrev pub hide : Mem → Mem
 hide m (reg k x y f) = pick (eqb k 8) 0 (m (reg k x y f))
 
-hide-same : (m n : Mem) → OffObjects m n → hide n ≡ hide m
+pub hide-same : (m n : Mem) → OffObjects m n → hide n ≡ hide m
 hide-same m n h = fun-ext go
   where
     go : (a : Addr) → hide n a ≡ hide m a
@@ -82,12 +82,6 @@ hide-same m n h = fun-ext go
 module _ (m n : Mem) (h : OffObjects m n) where
   pub cell-same : (fr j : ℕ) → inCell n fr j ≡ inCell m fr j
   cell-same fr j = ap (λ (u : Mem). inCell u fr j) (hide-same m n h)
-
-  pub page-same : (e p : ℕ) → inPage n e p ≡ inPage m e p
-  page-same e p = ap (λ (u : Mem). inPage u e p) (hide-same m n h)
-
-  pub table-same : (sh : Shape) (b : ℕ) → inTable n sh b ≡ inTable m sh b
-  table-same sh b = ap (λ (u : Mem). inTable u sh b) (hide-same m n h)
 
   pub book-same : (sh : Shape) → inBook n sh ≡ inBook m sh
   book-same sh = ap (λ (u : Mem). inBook u sh) (hide-same m n h)

@@ -5,8 +5,8 @@ use mathlib.Core.List.{List, [], _∷_}
 use Prim.Native.Nat.{ℕ, zero, suc, _+_, _*_, _/_, _%_, _≤_, _<_, min}
 use native.Mathlib.Omega.{arith}
 use native.Mathlib.Numerals.{add-one}
-use lib.ListN.{length, getD, length-set, length-append}
-use lib.Seq.{getD-set-same, set-out}
+use lib.ListN.{length, getD, set, length-set, length-append}
+use lib.Seq.{getD-set-same, set-out, set-getD}
 use lib.Dec.{eqb, ltb}
 use borrow.Author.Tests.{ne-eqb, eqb-true, eqb-false, ltb-true, ltb-false}
 use Rattle.words.specs.Pick.{bool, pick-has}
@@ -17,9 +17,9 @@ use Rattle.model.specs.State.{till, maxSlots}
 use Rattle.model.specs.Storage.{slotsOf}
 use Rattle.model.specs.Tests.{bit-small}
 use Rattle.layout.specs.declared.Shape.{Shape}
-use Rattle.layout.specs.Layout.{Addr, Addr.reg, Mem, total, root, head, entry, cell, row, item, index, object, isIn, in-no, same, same-all, place, place-low, in-object, load, save, load-out, length-save, save-past, loads-same}
+use Rattle.layout.specs.Layout.{Addr, Addr.reg, Mem, total, root, head, entry, cell, row, item, index, objectsAt, object, isIn, in-no, same, same-all, place, place-low, in-object, load, save, load-out, length-save, save-past, loads-same}
 use Rattle.counts.specs.Found.{gather, isOccupied, holdsHandles, onLink, inCell, inPage, inTable, inRow, inBook, found, handles, countsB}
-use Rattle.counts.specs.Shift.{plus, unit, shiftW, shifted, length-shift, length-shifted, load-other}
+use Rattle.counts.specs.Shift.{plus, unit, shiftW, shifted, length-shift, length-shifted, load-other, object-load, object-save}
 use Rattle.counts.specs.Objects.{objectsB, objects-sound}
 
 -- the halves of a word are equal
@@ -250,12 +250,22 @@ halves-counts ws sh room low a b = let os : List ℕ = found (load ws sh) sh in
 
 module _ (ws : List ℕ) (sh : Shape) where
   -- `settle_one`
-  pub one-words : (o c : ℕ) (vs : List ℕ) → c ≡ load ws sh (object o 6) → vs ≡ save ws sh (object o 6) (c % 4294967296) → vs ≡ lowerW ws sh o
-  unfolding lowerW
-  one-words o c vs a b = b ∙ ap (λ (x : ℕ). save ws sh (object o 6) (x % 4294967296)) a
+  module _ (first o : ℕ) (h : first ≡ objectsAt sh) (l : o < sh .objects) where
+    count-at : getD ws (first + o * 8 + 6) 0 ≡ load ws sh (object o 6)
+    count-at = object-load ws sh first o h l (first + o * 8 + 6) 6 (omega arith) refl
 
-  pub one-answer : (o c : ℕ) (r : Bool) → c ≡ load ws sh (object o 6) → r ≡ eqb (c % 4294967296) (c / 4294967296) → r ≡ halfB (load ws sh (object o 6))
-  one-answer o c r a b = b ∙ ap halfB a
+    pub one-none : getD ws (first + o * 8 + 6) 0 ≡ 0 → (ws ≡ lowerW ws sh o) × (true ≡ halfB (load ws sh (object o 6)))
+    unfolding lowerW
+    one-none z = let c : load ws sh (object o 6) ≡ 0 = sym count-at ∙ z in
+        (sym (set-getD ws (first + o * 8 + 6) 0) ∙ object-save ws sh first o h l (first + o * 8 + 6) 6 (omega arith) refl (getD ws (first + o * 8 + 6) 0) ∙ rw (z, c), rw c)
+
+    pub one-words : (vs : List ℕ) → vs ≡ set ws (first + o * 8 + 6) (getD ws (first + o * 8 + 6) 0 % 4294967296) → vs ≡ lowerW ws sh o
+    unfolding lowerW
+    one-words vs e = e ∙ object-save ws sh first o h l (first + o * 8 + 6) 6 (omega arith) refl (getD ws (first + o * 8 + 6) 0 % 4294967296)
+        ∙ ap (λ (x : ℕ). save ws sh (object o 6) (x % 4294967296)) count-at
+
+    pub one-answer : (r : Bool) → r ≡ eqb (getD ws (first + o * 8 + 6) 0 % 4294967296) (getD ws (first + o * 8 + 6) 0 / 4294967296) → r ≡ halfB (load ws sh (object o 6))
+    one-answer r e = e ∙ ap halfB count-at
 
   -- `settle`
   pub settle-none : (ws ≡ lowered ws sh 0) × (true ≡ halvesTo (load ws sh) 0)

@@ -1,10 +1,10 @@
 -- The fields of an object's record: their ranges, and the object that they show. Assumes nothing.
 use mathlib.Core.Path.{_≡_, refl, sym, ap, _∙_}
-use mathlib.Core.Bool.{Bool, true, false, _&&_}
+use mathlib.Core.Bool.{Bool, true, false, not, _&&_}
 use mathlib.Core.List.{List, [], _∷_}
-use Prim.Native.Nat.{ℕ, zero, suc, _+_, _*_, _^_, _≤_, _<_}
+use Prim.Native.Nat.{ℕ, zero, suc, _+_, _*_, _/_, _^_, _≤_, _<_, min}
 use native.Mathlib.Omega.{arith}
-use lib.ListN.{length, getD}
+use lib.ListN.{getD}
 use lib.Dec.{eqb, leb}
 use borrow.Author.Tests.{eq-eqb, ne-eqb, eqb-true, eqb-false, le-leb, leb-true}
 use Rattle.words.specs.Pick.{bool, clash, both}
@@ -15,9 +15,9 @@ use Rattle.model.specs.Create.{classOf}
 use Rattle.model.specs.WellFormed.{ObjectRange, StageCount, WellFormed}
 use Rattle.model.specs.Tests.{bit-small}
 use Rattle.layout.specs.declared.Shape.{Shape}
-use Rattle.layout.specs.Regions.{region, in-place}
-use Rattle.layout.specs.Layout.{Addr.reg, Mem, layout, objectsAt, object, in-object, load}
+use Rattle.layout.specs.Layout.{Addr.reg, Mem, objectsAt, object, load}
 use Rattle.representation.specs.Represents.{classWord, stageWord, ObjectIs, Represents}
+use Rattle.counts.specs.Shift.{object-load}
 
 -- "a new object has count 0, an active one more": of a stage's word and a count
 abbrev pub stageB : ℕ → ℕ → Bool
@@ -184,24 +184,26 @@ objects-fit sh m s r w = objects-complete m sh (λ o l. let i : o < s .objectCou
 
 -- ---- what the code's tests say
 
--- `stage_ok`
-pub stage-new : (g n : ℕ) (r : Bool) → g ≡ 0 → r ≡ eqb n 0 → r ≡ stageB g n
-stage-new g n r e q = q ∙ ap (λ (x : ℕ). stageB x n) (sym e)
+-- `stage_ok`: of stages 0 and 1 the sum with a count of at most 1 is 1 exactly if they do not agree
+pub stage-by : (g n : ℕ) (r : Bool) → g ≤ 2 → r ≡ not (eqb (g + min n 1) 1) → r ≡ stageB g n
+stage-by zero zero r h q = q
+stage-by zero (suc n) r h q = let e : zero + min (suc n) 1 ≡ 1 = omega arith in q ∙ rw (e, ne-eqb (suc n) 0 (λ z. omega arith))
+stage-by (suc zero) zero r h q = q
+stage-by (suc zero) (suc n) r h q = let e : suc zero + min (suc n) 1 ≡ 2 = omega arith in q ∙ rw (e, le-leb 1 (suc n) (omega arith))
+stage-by (suc (suc zero)) n r h q = q ∙ ap not (ne-eqb (2 + min n 1) 1 (λ e. omega arith))
+stage-by (suc (suc (suc g))) n r h q = absurd (omega arith)
 
-pub stage-active : (g n : ℕ) (r : Bool) → g ≡ 1 → r ≡ leb 1 n → r ≡ stageB g n
-stage-active g n r e q = q ∙ ap (λ (x : ℕ). stageB x n) (sym e)
-
-pub stage-rest : (g n : ℕ) (r : Bool) → (g ≡ 0 → ⊥) → (g ≡ 1 → ⊥) → r ≡ eqb g 2 → r ≡ stageB g n
-stage-rest zero n r a b q = absurd (a refl)
-stage-rest (suc zero) n r a b q = absurd (b refl)
-stage-rest (suc (suc zero)) n r a b q = q
-stage-rest (suc (suc (suc g))) n r a b q = q ∙ ne-eqb (suc (suc (suc g))) 2 (λ e. omega arith)
+pub stage-high : (g n : ℕ) → 2 < g → stageB g n ≡ true → ⊥
+stage-high zero n h e = omega arith
+stage-high (suc zero) n h e = omega arith
+stage-high (suc (suc zero)) n h e = omega arith
+stage-high (suc (suc (suc g))) n h e = clash e refl
 
 -- a memory in which every object has these fields; supported rights 0
 abbrev pub fields : ℕ → ℕ → ℕ → ℕ → ℕ → ℕ → ℕ → Mem
 fields koid kind class exportable stage count limit (reg k x y f) = getD (koid ∷ kind ∷ class ∷ 0 ∷ exportable ∷ stage ∷ count ∷ limit ∷ []) f 0
 
--- `fields_at`: the tests look at an object's fields alone
+-- the tests look at an object's fields alone
 pub fields-are : (m : Mem) (o a b c d g f e : ℕ) (r : Bool) → a ≡ m (object o 0) → b ≡ m (object o 1) → c ≡ m (object o 2) → d ≡ m (object o 4) → g ≡ m (object o 5) → f ≡ m (object o 6)
     → e ≡ m (object o 7) → r ≡ objectB (fields a b c d g f e) 0 → r ≡ objectB m o
 unfolding objectB
@@ -210,8 +212,7 @@ fields-are m o a b c d g f e r pa pb pc pd pg pf pe q = q ∙ rw (pa, pb, pc, pd
 -- `object_ok`: the fields stand one after the other
 module _ (ws : List ℕ) (sh : Shape) (first o : ℕ) (h : first ≡ objectsAt sh) (l : o < sh .objects) where
   field-at : (i f : ℕ) → f < 8 → i ≡ first + o * 8 + f → getD ws i 0 ≡ load ws sh (object o f)
-  unfolding load
-  field-at i f k e = ap (λ (j : ℕ). getD ws j 0) (e ∙ sym (in-place (region (layout sh) 8) o 0 f (length ws) (in-object sh o f l k) ∙ omega arith))
+  field-at i f k e = object-load ws sh first o h l i f k e
 
   pub fields-read : (r : Bool)
       → r ≡ objectB (fields (getD ws (first + o * 8) 0) (getD ws (first + o * 8 + 1) 0) (getD ws (first + o * 8 + 2) 0) (getD ws (first + o * 8 + 4) 0) (getD ws (first + o * 8 + 5) 0)
@@ -221,11 +222,11 @@ module _ (ws : List ℕ) (sh : Shape) (first o : ℕ) (h : first ≡ objectsAt s
       fields-are (load ws sh) o _ _ _ _ _ _ _ r (field-at i 0 (omega arith) (omega arith)) (field-at (i + 1) 1 (omega arith) refl) (field-at (i + 2) 2 (omega arith) refl)
       (field-at (i + 4) 4 (omega arith) refl) (field-at (i + 5) 5 (omega arith) refl) (field-at (i + 6) 6 (omega arith) refl) (field-at (i + 7) 7 (omega arith) refl) q
 
--- `fields_ok`, with every test before the last passed
+-- `fields_ok`: no upper part stands, and with every test before the last passed
 pub object-last : (m : Mem) (o a b c d e f g : ℕ) (r : Bool) → a ≡ m (object o 0) → b ≡ m (object o 1) → c ≡ m (object o 2) → d ≡ m (object o 4) → e ≡ m (object o 7) → f ≡ m (object o 6)
-    → g ≡ m (object o 5) → 1 ≤ a → b ≤ 4294967295 → c ≤ 2 → d ≤ 1 → e ≤ 4294967295 → f ≤ e → r ≡ stageB g f → r ≡ objectB m o
+    → g ≡ m (object o 5) → b / 4294967296 + e / 4294967296 + d / 2 ≡ 0 → 1 ≤ a → c ≤ 2 → f ≤ e → r ≡ stageB g f → r ≡ objectB m o
 unfolding objectB
-object-last m o a b c d e f g r pa pb pc pd pe pf pg ha hb hc hd he hf q =
+object-last m o a b c d e f g r pa pb pc pd pe pf pg hw ha hc hf q =
     q ∙ rw (pg, pf) (rw (
       le-leb 1 (m (object o 0)) (omega arith),
       le-leb (m (object o 1)) 4294967295 (omega arith),

@@ -2,14 +2,15 @@
 use mathlib.Core.Path.{_≡_, refl, sym, ap, _∙_}
 use mathlib.Core.Bool.{true, false}
 use mathlib.Core.List.{List, [], _∷_, _++_}
-use Prim.Native.Nat.{ℕ, _+_, _%_}
-use lib.ListN.{length, length-set}
+use Prim.Native.Nat.{ℕ, _+_, _*_, _%_, _<_}
+use native.Mathlib.Omega.{arith}
+use lib.ListN.{length, getD, set, length-set}
 use lib.Seq.{getD-set-other}
 use borrow.Author.Tests.{eq-eqb, ne-eqb}
 use Rattle.words.specs.Pick.{bool, clash}
 use Rattle.layout.specs.declared.Shape.{Shape}
-use Rattle.layout.specs.Regions.{region, one-place, inside-is}
-use Rattle.layout.specs.Layout.{Addr, Addr.reg, total, layout, layout-stacked, object, isIn, place, same, same-all, load, save, length-save, load-out, save-out}
+use Rattle.layout.specs.Regions.{region, one-place, inside-is, in-place}
+use Rattle.layout.specs.Layout.{Addr, Addr.reg, total, layout, layout-stacked, objectsAt, object, in-object, isIn, place, same, same-all, load, save, length-save, load-out, save-out}
 use Rattle.counts.specs.Found.{OffObjects}
 
 -- a word with d more: past the largest it starts again
@@ -68,3 +69,23 @@ shift-off ws sh d o k x y f h = load-other ws sh (object o 6) (reg k x y f) (plu
 pub shifted-off : (ws : List ℕ) (sh : Shape) (d : ℕ) (os : List ℕ) → OffObjects (load ws sh) (load (shifted ws sh d os) sh)
 shifted-off ws sh d [] k x y f h = refl
 shifted-off ws sh d (o ∷ os) k x y f h = shifted-off (shiftW ws sh d o) sh d os k x y f h ∙ shift-off ws sh d o k x y f h
+
+-- ---- where the fields of object o stand
+
+module _ (ws : List ℕ) (sh : Shape) (first o : ℕ) (h : first ≡ objectsAt sh) (l : o < sh .objects) (i f : ℕ) (k : f < 8) (e : i ≡ first + o * 8 + f) where
+  object-place : i ≡ place (length ws) sh (object o f)
+  object-place = e ∙ sym (in-place (region (layout sh) 8) o 0 f (length ws) (in-object sh o f l k) ∙ omega arith)
+
+  pub object-load : getD ws i 0 ≡ load ws sh (object o f)
+  unfolding load
+  object-load = ap (λ (j : ℕ). getD ws j 0) object-place
+
+  pub object-save : (v : ℕ) → set ws i v ≡ save ws sh (object o f) v
+  unfolding save
+  object-save v = ap (λ (j : ℕ). set ws j v) object-place
+
+-- `note_handle`
+pub shift-at : (ws vs : List ℕ) (sh : Shape) (first o : ℕ) → first ≡ objectsAt sh → o < sh .objects → vs ≡ set ws (first + o * 8 + 6) (plus (getD ws (first + o * 8 + 6) 0) unit) → vs ≡ shiftW ws sh unit o
+unfolding shiftW
+shift-at ws vs sh first o h l e = let i : ℕ = first + o * 8 + 6 in
+    e ∙ object-save ws sh first o h l i 6 (omega arith) refl (plus (getD ws i 0) unit) ∙ ap (λ (c : ℕ). save ws sh (object o 6) (plus c unit)) (object-load ws sh first o h l i 6 (omega arith) refl)

@@ -5,30 +5,27 @@
 ghost use mathlib.Core.Path.{_≡_};
 ghost use mathlib.Core.Bool.{_&&_};
 ghost use mathlib.Core.List.{[], _∷_};
-ghost use Prim.Native.Nat.{_<_};
-ghost use Rattle.model.specs.State.{till};
-ghost use Rattle.model.specs.Storage.{slotsOf};
-ghost use Rattle.layout.specs.Layout.{objectsAt, load as loadAt, object, index, item};
-ghost use Rattle.counts.specs.Found.{gather, inCell, inPage, inRow, inBook};
+ghost use Prim.Native.Nat.{_≤_, _<_};
+ghost use lib.ListN.{length};
+ghost use Rattle.layout.specs.Layout.{objectsAt, total, load as loadAt, object, index, item};
+ghost use Rattle.counts.specs.Found.{gather, inRow, inBook};
 ghost use Rattle.counts.specs.Shift.{plus, shiftW, shifted, unit};
 ghost use Rattle.counts.specs.Objects.{stageB, fields, objectB, objectsB};
 ghost use Rattle.counts.specs.Halves.{halfB, halvesB, lowerW, settledW};
 use layout::Shape;
 
-// "a new object has count 0, an active one more".
+// One more in the upper half of a word.
+const UNIT: u64 = 4294967296;
+
+// "a new object has count 0, an active one more"; a retired one may have either.
 fn stage_ok(stage: u64, count: u64) -> bool
+    requires { ⌜ stage ≤ 2 ⌝ }
     ensures { λ r. ⌜ r ≡ stageB stage count ⌝ }
 {
-    if stage == 0 {
-        return words::eq(count, 0);
-    }
-    if stage == 1 {
-        return words::le(1, count);
-    }
-    words::eq(stage, 2)
+    words::ne(stage + words::smaller(count, 1), 1)
 }
 
-// Whether an object's fields are in range; its supported rights may be any word.
+// Whether an object's fields are in range; its supported rights may be any word. Few tests, each of which goes the same way for every object in range.
 fn fields_ok(
     koid: u64,
     kind: u64,
@@ -40,19 +37,16 @@ fn fields_ok(
 ) -> bool
     ensures { λ r. ⌜ r ≡ objectB (fields koid kind class exportable stage count limit) 0 ⌝ }
 {
-    if koid < 1 {
+    if kind / UNIT + limit / UNIT + exportable / 2 != 0 {
         return false;
     }
-    if kind > 4294967295 {
+    if koid < 1 {
         return false;
     }
     if class > 2 {
         return false;
     }
-    if exportable > 1 {
-        return false;
-    }
-    if limit > 4294967295 {
+    if stage > 2 {
         return false;
     }
     if count > limit {
@@ -61,29 +55,13 @@ fn fields_ok(
     stage_ok(stage, count)
 }
 
-// Of object o, each field by a load of its own, so that it is exact in too few words.
-fn fields_at(s: &[u64], sh: Shape, o: u64) -> bool
-    ensures { λ r. ⌜ r ≡ objectB (loadAt (now (s .entry)) sh) o ⌝ }
-{
-    let koid = layout::object_word(s, sh, o, 0);
-    let kind = layout::object_word(s, sh, o, 1);
-    let class = layout::object_word(s, sh, o, 2);
-    let exportable = layout::object_word(s, sh, o, 4);
-    let stage = layout::object_word(s, sh, o, 5);
-    let count = layout::object_word(s, sh, o, 6);
-    let limit = layout::object_word(s, sh, o, 7);
-    fields_ok(koid, kind, class, exportable, stage, count, limit)
-}
-
 // Of object o, whose record starts 8 * o words after the first one's.
 fn object_ok(s: &[u64], sh: Shape, first: u64, o: u64) -> bool
     requires { ⌜ (first ≡ objectsAt sh) × (o < sh .objects) ⌝ }
+    requires { ⌜ total sh ≤ length (now s) ⌝ }
     ensures { λ r. ⌜ r ≡ objectB (loadAt (now (s .entry)) sh) o ⌝ }
 {
     let at = (first + o * 8) as usize;
-    if s.len() < at + 8 {
-        return fields_at(s, sh, o);
-    }
     fields_ok(
         s[at],
         s[at + 1],
@@ -97,6 +75,7 @@ fn object_ok(s: &[u64], sh: Shape, first: u64, o: u64) -> bool
 
 // Whether the fields of every object are in range.
 pub fn check_objects(s: &[u64], sh: Shape) -> bool
+    requires { ⌜ total sh ≤ length (now s) ⌝ }
     ensures { λ r. ⌜ r ≡ objectsB (loadAt (now (s .entry)) sh) sh ⌝ }
 {
     let first = layout::region_of(sh, layout::OBJECT).low;
@@ -111,9 +90,6 @@ pub fn check_objects(s: &[u64], sh: Shape) -> bool
     true
 }
 
-// One more in the upper half of a word.
-const UNIT: u64 = 4294967296;
-
 // A word with one more in its upper half: past the largest it starts again.
 fn added(c: u64) -> u64
     ensures { λ r. ⌜ r ≡ plus c unit ⌝ }
@@ -123,55 +99,22 @@ fn added(c: u64) -> u64
 }
 
 // Counts a handle of object o in the upper half of the object's count.
-pub fn note_count(s: &mut [u64], sh: Shape, o: u64)
+fn note_count(s: &mut [u64], sh: Shape, o: u64)
     ensures { λ _. ⌜ now (s .exit) ≡ shiftW (now (s .entry)) sh unit o ⌝ }
 {
     let c = layout::object_word(s, sh, o, 6);
     layout::put_object(s, sh, o, 6, added(c));
 }
 
-// For slot j of a frame, if it is occupied.
-fn note_cell(s: &mut [u64], sh: Shape, fr: u64, j: u64)
-    ensures { λ _. ⌜ now (s .exit) ≡ shifted (now (s .entry)) sh unit (inCell (loadAt (now (s .entry)) sh) fr j) ⌝ }
+// The same where o is one of the state's objects and all words are lent: no further test.
+pub fn note_handle(s: &mut [u64], sh: Shape, o: u64)
+    requires { ⌜ o < sh .objects ⌝ }
+    requires { ⌜ total sh ≤ length (now s) ⌝ }
+    ensures { λ _. ⌜ now (s .exit) ≡ shiftW (now (s .entry)) sh unit o ⌝ }
 {
-    let tag = layout::cell_word(s, sh, fr, j, 0);
-    if tag == 3 {
-        let o = layout::cell_word(s, sh, fr, j, 2);
-        note_count(s, sh, o);
-    }
-}
-
-// For the first n slots of a frame.
-fn note_frame(s: &mut [u64], sh: Shape, fr: u64, n: u64)
-    ensures { λ _. ⌜ now (s .exit) ≡ shifted (now (s .entry)) sh unit (gather n (inCell (loadAt (now (s .entry)) sh) fr)) ⌝ }
-{
-    let mut j: u64 = 0;
-    while j < n {
-        note_cell(s, sh, fr, j);
-        j += 1;
-    }
-}
-
-// How many slots page p has: 64, and the last page of the largest table one less.
-fn slots_of(p: u64) -> u64
-    ensures { λ r. ⌜ r ≡ slotsOf till p ⌝ }
-{
-    if p >= 262144 {
-        return 0;
-    }
-    words::smaller(64, 16777215 - p * 64)
-}
-
-// For page p of the table whose first entry is e.
-pub fn note_page(s: &mut [u64], sh: Shape, e: u64, p: u64)
-    ensures { λ _. ⌜ now (s .exit) ≡ shifted (now (s .entry)) sh unit (inPage (loadAt (now (s .entry)) sh) e p) ⌝ }
-{
-    let link = storage::page_word(s, sh, e, p, 0);
-    if link == 0 {
-        return;
-    }
-    let n = slots_of(p);
-    note_frame(s, sh, link - 1, n);
+    let first = layout::region_of(sh, layout::OBJECT).low;
+    let at = (first + o * 8 + 6) as usize;
+    s[at] = added(s[at]);
 }
 
 // For item j of the row in place x.
@@ -231,33 +174,41 @@ pub fn note_rows(s: &mut [u64], sh: Shape)
 }
 
 // Whether both are so; both are known, so that nothing is left out.
-fn both(a: bool, b: bool) -> bool
+pub fn both(a: bool, b: bool) -> bool
     ensures { λ r. ⌜ r ≡ (a && b) ⌝ }
 {
     if a { b } else { false }
 }
 
 // Leaves the lower half of the count of object o. Whether the upper half was equal.
-fn settle_one(s: &mut [u64], sh: Shape, o: u64) -> bool
+fn settle_one(s: &mut [u64], sh: Shape, first: u64, o: u64) -> bool
+    requires { ⌜ (first ≡ objectsAt sh) × (o < sh .objects) ⌝ }
+    requires { ⌜ total sh ≤ length (now s) ⌝ }
     ensures words { λ _. ⌜ now (s .exit) ≡ lowerW (now (s .entry)) sh o ⌝ }
     ensures answer { λ r. ⌜ r ≡ halfB (loadAt (now (s .entry)) sh (object o 6)) ⌝ }
 {
-    let c = layout::object_word(s, sh, o, 6);
+    let at = (first + o * 8 + 6) as usize;
+    let c = s[at];
+    if c == 0 {
+        return true;
+    }
     let low = c % UNIT;
-    layout::put_object(s, sh, o, 6, low);
+    s[at] = low;
     words::eq(low, c / UNIT)
 }
 
 // Leaves the lower half of each object's count. Whether every upper half was equal.
 pub fn settle(s: &mut [u64], sh: Shape) -> bool
+    requires { ⌜ total sh ≤ length (now s) ⌝ }
     ensures words { λ _. ⌜ now (s .exit) ≡ settledW (now (s .entry)) sh ⌝ }
     ensures answer { λ r. ⌜ r ≡ halvesB (loadAt (now (s .entry)) sh) sh ⌝ }
 {
+    let first = layout::region_of(sh, layout::OBJECT).low;
     let n = sh.objects as u64;
     let mut equal = true;
     let mut o: u64 = 0;
     while o < n {
-        let one = settle_one(s, sh, o);
+        let one = settle_one(s, sh, first, o);
         equal = both(equal, one);
         o += 1;
     }

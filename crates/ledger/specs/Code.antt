@@ -1,19 +1,19 @@
 -- What the code's branches say, in the terms of the tests. Assumes nothing.
 use mathlib.Core.Path.{_≡_, refl, sym, ap, _∙_}
 use mathlib.Core.Bool.{Bool, true, false, _&&_}
-use Prim.Native.Nat.{ℕ, _+_, _-_, _*_, _%_, _≤_, _<_, min}
+use Prim.Native.Nat.{ℕ, _+_, _-_, _%_, _≤_, _<_}
 use native.Mathlib.Omega.{arith}
 use native.Mathlib.Numerals.{add-one}
 use lib.Dec.{eqb}
 use borrow.Author.Tests.{eq-eqb, ne-eqb, lt-ltb, le-leb, lt-leb}
 use Rattle.words.specs.Pick.{bool, clash}
-use Rattle.words.specs.All.{all, all-stop, all-end, all-yes}
+use Rattle.words.specs.All.{all}
 use Rattle.layout.specs.declared.Shape.{Shape}
-use Rattle.layout.specs.Layout.{Mem, root, head, entry, cell, index, rank, row, item}
-use Rattle.representation.specs.Represents.{entryAt, wordIn, frameOf, slotWord}
+use Rattle.layout.specs.Layout.{Mem, root, cell, index, rank, row, item}
+use Rattle.representation.specs.Represents.{wordIn, frameOf, slotWord}
 use Rattle.storage.specs.Code.{word-some}
-use Rattle.ledger.specs.Items.{refused, placeB, PlaceOk, place-is, place-yes, namesB, Names, names-is, handleB, HandleOk, handle-is, claimB, itemB}
-use Rattle.ledger.specs.Ledger.{openB, OpenOk, open-is, open-yes, rowB, RowOk, row-is, row-yes, before, rankB, hitB, markB, MarkOk, mark-is, mark-yes, bookB}
+use Rattle.ledger.specs.Items.{refused, placeB, PlaceOk, place-is, namesB, Names, names-is, handleB, HandleOk, handle-is, claimB, itemB}
+use Rattle.ledger.specs.Ledger.{openB, OpenOk, open-is, open-yes, rowB, RowOk, row-is, before, rankB, hitB, markB, MarkOk, mark-is, mark-yes, bookB}
 
 module _ (m : Mem) (sh : Shape) where
   pub place-no : (i : ℕ) → (PlaceOk m sh i → ⊥) → false ≡ placeB m sh i

@@ -10,7 +10,7 @@ use borrow.Author.Tests.{ne-eqb, lt-ltb, ltb-true, ltb-false}
 use Rattle.words.specs.Pick.{bool, clash}
 use Rattle.model.specs.Base.{bit, pick, occurs, sum, isSome}
 use Rattle.model.specs.Sums.{sum-equal}
-use Rattle.model.specs.State.{till, Slot, Slot.vacant, Table, State, isVacant, isBusy, isAbsent, maxSlots}
+use Rattle.model.specs.State.{till, Slot, Table, State, isVacant, isBusy, isAbsent, maxSlots}
 use Rattle.model.specs.Storage.{pageOf, slotsOf, busyIn, busyOf}
 use Rattle.model.specs.WellFormed.{isAttached, Orders, WellFormed}
 use Rattle.model.specs.Counting.{sum-front}

@@ -74,12 +74,16 @@ structureB m sh = tablesB m sh && framesB m sh
 
 -- ---- the same in two parts: the outline, and the slots
 
--- a slot by its words
-unfoldable pub handleC : ℕ → ℕ → CellWords → Bool
-handleC O life c = not (eqb life 2) && (ltb (c .object) O && leb (c .flags) 3)
+-- what the objects of a table's handles are below: a retired table has none
+abbrev pub boundOf : ℕ → ℕ → ℕ
+boundOf O life = pick (eqb life 2) 0 O
 
-unfoldable pub slotC : ℕ → ℕ → ℕ → CellWords → Bool
-slotC O life high c = leb (c .tag) 3 && (leb 1 (c .generation) && (leb (c .generation) high && pick (eqb (c .tag) 3) (handleC O life c) true))
+-- a slot by its words
+unfoldable pub handleC : ℕ → CellWords → Bool
+handleC bound c = ltb (c .object) bound && leb (c .flags) 3
+
+unfoldable pub slotC : ℕ → ℕ → CellWords → Bool
+slotC bound high c = leb (c .tag) 3 && (leb 1 (c .generation) && (leb (c .generation) high && pick (eqb (c .tag) 3) (handleC bound c) true))
 
 -- the frame of entry e, as a link, but for its slots
 unfoldable pub linkB : Mem → Shape → ℕ → ℕ → Bool
@@ -179,6 +183,3 @@ module _ (m : Mem) (O life f j : ℕ) where
       (λ e. let y = eqb-true (m (cell f j 0)) 3 e in rw e (handle-yes (h .retired y) (h .object y) (h .flags y)))
       (λ e. rw e) in
       rw (le-leb (m (cell f j 0)) 3 (h .tag), le-leb 1 (m (cell f j 1)) (h .some-generation), le-leb (m (cell f j 1)) high (h .few-generation), u)
-
-  pub slot-no : (high : ℕ) → (SlotIs m O life high f j → ⊥) → false ≡ slotB m O life high f j
-  slot-no high h = refuted (slotB m O life high f j) (λ q. h (slot-is high q))

@@ -1,20 +1,24 @@
 -- What the code's tests and loops say. Assumes nothing.
-use mathlib.Core.Path.{_≡_, refl, sym, _∙_}
+use mathlib.Core.Path.{_≡_, refl, sym, ap, _∙_}
 use mathlib.Core.Bool.{Bool, true, false, not, and-false}
+use mathlib.Core.List.{List}
 use Prim.Native.Nat.{ℕ, zero, suc, _+_, _-_, _*_, _/_, _≤_, _<_}
 use native.Mathlib.Omega.{arith}
 use native.Mathlib.Numerals.{add-one}
+use native.Mathlib.Nat.{add-mul, mul-assoc}
 use lib.Dec.{eqb, ltb, leb}
-use borrow.Author.Tests.{eq-eqb, ne-eqb, lt-ltb, le-ltb, ltb-true, ltb-false, le-leb, lt-leb}
-use Rattle.words.specs.Pick.{bool, both, refuted}
-use Rattle.words.specs.All.{all, all-more, all-stop, all-end}
+use borrow.Author.Tests.{eq-eqb, ne-eqb, eqb-true, lt-ltb, le-ltb, ltb-true, ltb-false, le-leb, lt-leb}
+use Rattle.words.specs.Pick.{bool, both}
+use Rattle.words.specs.All.{all, all-at, all-more, all-stop, all-end}
 use Rattle.model.specs.Base.{bit, sum}
 use Rattle.model.specs.Tests.{bit-small}
+use Rattle.model.specs.Sums.{sum-equal}
+use Rattle.model.specs.Counting.{sum-append}
 use Rattle.layout.specs.declared.Shape.{Shape}
 use Rattle.layout.specs.declared.CellWords.{CellWords}
-use Rattle.layout.specs.Layout.{Mem, Addr.reg, root, head, entry, owner, group}
+use Rattle.layout.specs.Layout.{Mem, Addr.reg, root, head, entry, owner, group, in-no, load, load-out}
 use Rattle.structure.specs.Facts.{limitsTo, isFree, freeFrom, attachedIn, attachedTo}
-use Rattle.structure.specs.Checks.{lifeB, headB, handleC, slotC, linkB, entryB, entriesB, spanB, spansB, groupsB, levelsB, framesB, outlineB, head-is}
+use Rattle.structure.specs.Checks.{lifeB, headB, boundOf, handleC, slotC, linkB, entryB, entriesB, spanB, spansB, groupsB, levelsB, framesB, outlineB, head-is}
 
 -- a count plus 1, or 0 where the test failed
 abbrev pub counted : Bool → ℕ → ℕ
@@ -58,38 +62,40 @@ life-other w c e = rw (ne-eqb w 1 e)
 
 -- ---- slots
 
-module _ (O life : ℕ) (c : CellWords) where
-  pub handle-retired : life ≡ 2 → false ≡ handleC O life c
+pub bound-none : (O life : ℕ) → life ≡ 2 → 0 ≡ boundOf O life
+bound-none O life h = rw (eq-eqb life 2 h)
+
+pub bound-some : (O life : ℕ) → (life ≡ 2 → ⊥) → O ≡ boundOf O life
+bound-some O life h = rw (ne-eqb life 2 h)
+
+module _ (bound : ℕ) (c : CellWords) where
+  pub handle-far : bound ≤ c .object → false ≡ handleC bound c
   unfolding handleC
-  handle-retired h = rw (eq-eqb life 2 h)
+  handle-far g = rw (le-ltb (c .object) bound g)
 
-  pub handle-far : (life ≡ 2 → ⊥) → O ≤ c .object → false ≡ handleC O life c
+  pub handle-last : c .object < bound → leb (c .flags) 3 ≡ handleC bound c
   unfolding handleC
-  handle-far h g = rw (ne-eqb life 2 h, le-ltb (c .object) O g)
+  handle-last g = rw (lt-ltb (c .object) bound g)
 
-  pub handle-last : (life ≡ 2 → ⊥) → c .object < O → leb (c .flags) 3 ≡ handleC O life c
-  unfolding handleC
-  handle-last h g = rw (ne-eqb life 2 h, lt-ltb (c .object) O g)
+  module _ (high : ℕ) where
+    pub slot-new : c .generation < 1 → false ≡ slotC bound high c
+    unfolding slotC
+    slot-new g = rw (lt-leb 1 (c .generation) g) (sym (and-false (leb (c .tag) 3)))
 
-  pub slot-tag : (high : ℕ) → 3 < c .tag → false ≡ slotC O life high c
-  unfolding slotC
-  slot-tag high t = rw (lt-leb (c .tag) 3 t)
+    pub slot-far : 1 ≤ c .generation → high < c .generation → false ≡ slotC bound high c
+    unfolding slotC
+    slot-far g h = rw (le-leb 1 (c .generation) g, lt-leb (c .generation) high h) (sym (and-false (leb (c .tag) 3)))
 
-  pub slot-new : (high : ℕ) → c .tag ≤ 3 → c .generation < 1 → false ≡ slotC O life high c
-  unfolding slotC
-  slot-new high t g = rw (le-leb (c .tag) 3 t, lt-leb 1 (c .generation) g)
+    module _ (g : 1 ≤ c .generation) (h : c .generation ≤ high) where
+      pub slot-held : (r : Bool) → c .tag ≡ 3 → r ≡ handleC bound c → r ≡ slotC bound high c
+      unfolding slotC
+      slot-held r t e = e ∙ rw (le-leb (c .tag) 3 (omega arith), le-leb 1 (c .generation) g, le-leb (c .generation) high h, eq-eqb (c .tag) 3 t)
 
-  pub slot-far : (high : ℕ) → c .tag ≤ 3 → 1 ≤ c .generation → high < c .generation → false ≡ slotC O life high c
-  unfolding slotC
-  slot-far high t g h = rw (le-leb (c .tag) 3 t, le-leb 1 (c .generation) g, lt-leb (c .generation) high h)
-
-  pub slot-free : (high : ℕ) → c .tag < 3 → 1 ≤ c .generation → c .generation ≤ high → true ≡ slotC O life high c
-  unfolding slotC
-  slot-free high t g h = rw (le-leb (c .tag) 3 (omega arith), le-leb 1 (c .generation) g, le-leb (c .generation) high h, ne-eqb (c .tag) 3 (λ e. omega arith))
-
-  pub slot-held : (high : ℕ) (r : Bool) → c .tag ≡ 3 → 1 ≤ c .generation → c .generation ≤ high → r ≡ handleC O life c → r ≡ slotC O life high c
-  unfolding slotC
-  slot-held high r t g h e = e ∙ rw (le-leb (c .tag) 3 (omega arith), le-leb 1 (c .generation) g, le-leb (c .generation) high h, eq-eqb (c .tag) 3 t)
+      pub slot-rest : (c .tag ≡ 3 → ⊥) → ltb (c .tag) 3 ≡ slotC bound high c
+      unfolding slotC
+      slot-rest n = rw (le-leb 1 (c .generation) g, le-leb (c .generation) high h, ne-eqb (c .tag) 3 n) (bool (ltb (c .tag) 3)
+          (λ e. rw (e, le-leb (c .tag) 3 (omega (arith, ltb-true (c .tag) 3 e))))
+          (λ e. rw (e, lt-leb (c .tag) 3 (omega (arith, ltb-false (c .tag) 3 e, n)))))
 
 -- ---- pages
 
@@ -248,6 +254,47 @@ module _ (m : Mem) (F level size n : ℕ) where
   pub groups-end : (g : ℕ) → all g groupTest ≡ true → n ≤ g → true ≡ groupsB m F level size n
   unfolding groupsB
   groups-end g a h = sym (all-end n g groupTest a h)
+
+-- ---- a level by the one below
+
+-- every count of a level is right; past the level's end both are 0
+abbrev pub LevelIs : Mem → ℕ → ℕ → ℕ → Type 0
+LevelIs m F level size = (i : ℕ) → m (group level i) ≡ freeFrom m F (i * size) size
+
+-- where the first n are, and the others are 0 and past the last frame
+level-is : (m : Mem) (F level size n : ℕ) → groupsB m F level size n ≡ true → ((i : ℕ) → n ≤ i → (m (group level i) ≡ 0) × (F ≤ i * size)) → LevelIs m F level size
+unfolding groupsB
+level-is m F level size n e past i = bool (ltb i n)
+    (λ q. eqb-true (m (group level i)) (freeFrom m F (i * size) size) (all-at n (groupTest m F level size n) e i (ltb-true i n q)))
+    (λ q. let k = past i (ltb-false i n q) in k .0 ∙ free-end m F (i * size) size 0 0 (omega arith) (λ l. omega (arith, k .1)) refl)
+
+module _ (ws : List ℕ) (sh : Shape) where
+  pub sixteens-are : (n : ℕ) (r : Bool) → n ≡ (sh .frames + 15) / 16 → r ≡ groupsB (load ws sh) (sh .frames) 0 16 n → r ≡ true → LevelIs (load ws sh) (sh .frames) 0 16
+  sixteens-are n r en q y = level-is (load ws sh) (sh .frames) 0 16 n (sym q ∙ y) (λ i h. (load-out ws sh (group 0 i) (in-no sh (group 0 i) (λ k. omega (arith, k .xs))), omega arith))
+
+  pub hundreds-are : (n : ℕ) (r : Bool) → n ≡ (sh .frames + 255) / 256 → r ≡ groupsB (load ws sh) (sh .frames) 1 256 n → r ≡ true → LevelIs (load ws sh) (sh .frames) 1 256
+  hundreds-are n r en q y = level-is (load ws sh) (sh .frames) 1 256 n (sym q ∙ y) (λ i h. (load-out ws sh (group 1 i) (in-no sh (group 1 i) (λ k. omega (arith, k .xs))), omega arith))
+
+module _ (m : Mem) (F level size : ℕ) (is : LevelIs m F level size) where
+  -- one more group
+  pub under-more : (k first i x v y : ℕ) → k ≡ 4 + level → x ≡ freeFrom m F (first * size) (i * size) → v ≡ m (reg k (first + i) 0 0) → y ≡ x + v → y ≡ freeFrom m F (first * size) ((i + 1) * size)
+  under-more k first i x v y ek ex ev ey =
+      let a : ℕ = first * size in let b : ℕ = i * size in
+      let e : (i + 1) * size ≡ i * size + size = add-mul i 1 size ∙ omega arith in
+      let d : (first + i) * size ≡ first * size + i * size = add-mul first i size in
+      let w : v ≡ (sum size λ j. bit (isFree m F (first * size + (i * size + j)))) =
+      ev ∙ ap (λ (z : ℕ). m (reg z (first + i) 0 0)) ek ∙ is (first + i) ∙ sum-equal size _ _ (λ j h. ap (λ (z : ℕ). bit (isFree m F z)) (omega (arith, d))) in
+      rw e (ey ∙ sym (sum-append (i * size) size (λ j. bit (isFree m F (first * size + j))) ∙ omega (arith, ex, w)))
+
+  pub under-small : (k i v : ℕ) → k ≡ 4 + level → v ≡ m (reg k i 0 0) → v ≤ size
+  under-small k i v ek ev = omega (arith, ev ∙ ap (λ (z : ℕ). m (reg z i 0 0)) ek ∙ is i, free-small m F (i * size) size)
+
+pub under-start : (m : Mem) (F a size : ℕ) → 0 ≡ freeFrom m F a (0 * size)
+under-start m F a size = let e : 0 * size ≡ 0 = omega arith in rw e
+
+-- the groups' places
+pub under-whole : (m : Mem) (F g size x : ℕ) → x ≡ freeFrom m F (g * 16 * size) (16 * size) → x ≡ freeFrom m F (g * (16 * size)) (16 * size)
+under-whole m F g size x e = e ∙ ap (λ (a : ℕ). freeFrom m F a (16 * size)) (mul-assoc g 16 size)
 
 module _ (m : Mem) (F : ℕ) where
   pub levels-first : (n : ℕ) (r : Bool) → n ≡ (F + 15) / 16 → r ≡ groupsB m F 0 16 n → r ≡ false → false ≡ levelsB m F

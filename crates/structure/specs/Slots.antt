@@ -2,11 +2,11 @@
 use mathlib.Core.Path.{_≡_, refl, sym, ap, _∙_}
 use mathlib.Core.Bool.{true, false, not}
 use mathlib.Core.Option.{Option, none, some}
-use Prim.Native.Nat.{ℕ, zero, suc, _+_, _-_, _*_, _/_, _%_, _^_, _≤_, _<_}
+use Prim.Native.Nat.{ℕ, zero, suc, _+_, _*_, _/_, _%_, _^_, _≤_, _<_}
 use native.Mathlib.Omega.{arith}
 use lib.Dec.{eqb, ltb}
-use borrow.Author.Tests.{ne-eqb, eqb-true, eqb-false, lt-ltb, le-ltb, ltb-true}
-use Rattle.model.specs.Base.{bit, pick, sum, isSome}
+use borrow.Author.Tests.{eqb-true, eqb-false, lt-ltb, le-ltb, ltb-true}
+use Rattle.model.specs.Base.{bit, pick, sum}
 use Rattle.model.specs.State.{till, Slot, Slot.absent, Page, Lifecycle, Lifecycle.active, Lifecycle.tearingDown, Lifecycle.retired, State}
 use Rattle.model.specs.State.{generation, isAbsent, isBusy, isOccupied, isRetired, noPage, maxSlots, knownFlags}
 use Rattle.model.specs.Storage.{slotsOf, busyOf, busyIn as modelBusy}

@@ -1,18 +1,19 @@
 -- The check's first part in two: the outline, and the slots of each attached page. Assumes nothing.
 use mathlib.Core.Path.{_≡_, refl, sym, ap, _∙_}
 use mathlib.Core.Bool.{Bool, true, false, _&&_}
-use Prim.Native.Nat.{ℕ, zero, suc, _+_, _≤_, _<_}
+use Prim.Native.Nat.{ℕ, zero, suc, _+_, _<_}
+use native.Mathlib.Omega.{arith}
 use lib.Dec.{eqb, ltb, leb}
-use borrow.Author.Tests.{eqb-true, ltb-true}
-use Rattle.words.specs.Pick.{both}
+use borrow.Author.Tests.{eqb-true, ltb-true, le-ltb}
+use Rattle.words.specs.Pick.{bool, both}
 use Rattle.words.specs.All.{all, all-at, all-same}
 use Rattle.model.specs.State.{till}
 use Rattle.model.specs.Storage.{slotsOf}
 use Rattle.layout.specs.declared.Shape.{Shape}
-use Rattle.layout.specs.Layout.{Mem, head, entry, owner}
+use Rattle.layout.specs.Layout.{Mem, head, entry, owner, cell}
 use Rattle.layout.specs.Cells.{cellAt}
 use Rattle.structure.specs.Facts.{limitsTo, HeadIs}
-use Rattle.structure.specs.Checks.{headB, handleB, slotB, slotsB, frameB, pageB, pagesB, tableB, tablesB, framesB, structureB, handleC, slotC, linkB, entryB, entriesB, spanB, spansB, outlineB, head-is}
+use Rattle.structure.specs.Checks.{headB, handleB, slotB, slotsB, frameB, pageB, pagesB, tableB, tablesB, framesB, structureB, boundOf, handleC, slotC, linkB, entryB, entriesB, spanB, spansB, outlineB, head-is}
 
 -- ---- tests in another order
 
@@ -42,9 +43,9 @@ all-both (suc n) p q = ap (λ (b : Bool). b && (p n && q n)) (all-both n p q) �
 -- ---- the slots
 
 -- a slot's words tell
-pub slot-by : (m : Mem) (O life high f j : ℕ) → slotC O life high (cellAt m f j) ≡ slotB m O life high f j
+pub slot-by : (m : Mem) (O life high f j : ℕ) → slotC (boundOf O life) high (cellAt m f j) ≡ slotB m O life high f j
 unfolding slotC handleC slotB handleB
-slot-by m O life high f j = refl
+slot-by m O life high f j = bool (eqb life 2) (λ e. rw (e, le-ltb (m (cell f j 2)) 0 (omega arith))) (λ e. rw e)
 
 -- the slots of the page of entry e, whose frame is given as a link
 unfoldable pub slotsOn : Mem → Shape → ℕ → ℕ → ℕ → ℕ → Bool

@@ -5,8 +5,9 @@ ghost use lib.Dec.{eqb};
 ghost use Rattle.model.specs.Base.{bit};
 ghost use Rattle.layout.specs.Layout.{load as loadAt, head, owner};
 ghost use Rattle.structure.specs.Facts.{freeFrom, attachedIn, attachedTo};
-ghost use Rattle.structure.specs.Checks.{lifeB, headB, handleC, slotC, linkB, entryB, entriesB, spanB, spansB, groupsB, levelsB, outlineB};
-ghost use Rattle.structure.specs.Code.{counted};
+ghost use Rattle.structure.specs.Checks.{lifeB, headB, boundOf, handleC, slotC, linkB, entryB, entriesB, spanB, spansB, groupsB, levelsB, outlineB};
+ghost use Rattle.structure.specs.Code.{counted, LevelIs};
+ghost use Prim.Native.Nat.{_+_, _*_};
 use layout::CellWords;
 use layout::Shape;
 
@@ -58,36 +59,40 @@ fn head_ok(s: &[u64], sh: Shape, b: u64, e: u64) -> bool
     true
 }
 
-// The handle in an occupied slot of a table of that lifecycle.
-fn handle_ok(c: CellWords, objects: u64, life: u64) -> bool
-    ensures { λ r. ⌜ r ≡ handleC objects life c ⌝ }
+// What the objects of a table's handles are below: a retired table has no handles.
+pub fn bound_of(objects: u64, life: u64) -> u64
+    ensures { λ r. ⌜ r ≡ boundOf objects life ⌝ }
 {
     if life == 2 {
-        return false;
+        return 0;
     }
-    if c.object >= objects {
+    objects
+}
+
+// The handle in an occupied slot.
+fn handle_ok(c: CellWords, bound: u64) -> bool
+    ensures { λ r. ⌜ r ≡ handleC bound c ⌝ }
+{
+    if c.object >= bound {
         return false;
     }
     c.flags <= 3
 }
 
-// A slot, on a page with that high mark.
-pub fn slot_ok(c: CellWords, objects: u64, life: u64, high: u64) -> bool
-    ensures { λ r. ⌜ r ≡ slotC objects life high c ⌝ }
+// A slot, on a page with that high mark. Most slots are occupied.
+pub fn slot_ok(c: CellWords, bound: u64, high: u64) -> bool
+    ensures { λ r. ⌜ r ≡ slotC bound high c ⌝ }
 {
-    if c.tag > 3 {
-        return false;
-    }
     if c.generation < 1 {
         return false;
     }
     if c.generation > high {
         return false;
     }
-    if c.tag < 3 {
-        return true;
+    if c.tag == 3 {
+        return handle_ok(c, bound);
     }
-    handle_ok(c, objects, life)
+    c.tag < 3
 }
 
 // The frame of the page of entry e, given plus 1; 0 for none.
@@ -221,7 +226,39 @@ fn groups_ok(s: &[u64], sh: Shape, level: u8, size: u16, n: u16) -> bool
     true
 }
 
-// Of all three levels.
+// The free frames of 16 groups of a level, by their counts, from group `first` on.
+fn free_under(s: &[u64], sh: Shape, level: u8, size: u16, first: u32) -> u64
+    requires { ⌜ LevelIs (loadAt (now s) sh) (sh .frames) level size ⌝ }
+    ensures { λ r. ⌜ r ≡ freeFrom (loadAt (now (s .entry)) sh) (sh .frames) (first * size) (16 * size) ⌝ }
+{
+    let region = layout::SIXTEEN + (level as u64);
+    let mut count: u64 = 0;
+    let mut i: u64 = 0;
+    while i < 16 {
+        count += layout::load(s, sh, region, (first as u64) + i, 0, 0);
+        i += 1;
+    }
+    count
+}
+
+// The free frames of the first n groups of the level above one that holds: each is the sum of 16 of those.
+fn sums_ok(s: &[u64], sh: Shape, level: u8, size: u16, n: u16) -> bool
+    requires { ⌜ LevelIs (loadAt (now s) sh) (sh .frames) level size ⌝ }
+    ensures { λ r. ⌜ r ≡ groupsB (loadAt (now (s .entry)) sh) (sh .frames) (level + 1) (16 * size) n ⌝ }
+{
+    let region = layout::HUNDRED + (level as u64);
+    let mut g: u16 = 0;
+    while g < n {
+        let free = free_under(s, sh, level, size, (g as u32) * 16);
+        if layout::load(s, sh, region, g as u64, 0, 0) != free {
+            return false;
+        }
+        g += 1;
+    }
+    true
+}
+
+// Of all three levels: the first by the frames' owners, the others by the level below.
 fn levels_ok(s: &[u64], sh: Shape) -> bool
     ensures { λ r. ⌜ r ≡ levelsB (loadAt (now (s .entry)) sh) (sh .frames) ⌝ }
 {
@@ -229,10 +266,10 @@ fn levels_ok(s: &[u64], sh: Shape) -> bool
     if !groups_ok(s, sh, 0, 16, ((f + 15) / 16) as u16) {
         return false;
     }
-    if !groups_ok(s, sh, 1, 256, ((f + 255) / 256) as u16) {
+    if !sums_ok(s, sh, 0, 16, ((f + 255) / 256) as u16) {
         return false;
     }
-    groups_ok(s, sh, 2, 4096, ((f + 4095) / 4096) as u16)
+    sums_ok(s, sh, 1, 256, ((f + 4095) / 4096) as u16)
 }
 
 // The first part of the state check: heads, page entries and frames.

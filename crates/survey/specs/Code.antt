@@ -1,16 +1,15 @@
 -- What the functions' bodies and loops go by. Assumes nothing.
-use mathlib.Core.Path.{_≡_, refl, sym, ap, _∙_}
+use mathlib.Core.Path.{_≡_, sym, ap, _∙_}
 use mathlib.Core.Bool.{Bool, true, false, not, _&&_}
-use mathlib.Core.List.{List}
-use Prim.Native.Nat.{ℕ, zero, suc, _+_, _-_, _*_, _≤_, _<_, min}
+use mathlib.Core.List.{List, []}
+use Prim.Native.Nat.{ℕ, suc, _+_, _-_, _*_, _≤_, _<_, min}
 use native.Mathlib.Omega.{arith}
 use native.Mathlib.Numerals.{add-one}
-use lib.ListN.{length}
 use lib.Dec.{eqb, ltb, leb}
-use borrow.Author.Tests.{eq-eqb, ne-eqb, lt-ltb, le-ltb, ltb-true, leb-true}
-use Rattle.words.specs.Pick.{pick, both}
+use borrow.Author.Tests.{eq-eqb, ne-eqb, lt-ltb, le-ltb, ltb-true}
+use Rattle.words.specs.Pick.{pick, pick-has, both}
 use Rattle.words.specs.All.{all, all-more, all-stop}
-use Rattle.model.specs.Base.{bit, sum}
+use Rattle.model.specs.Base.{bit}
 use Rattle.model.specs.State.{till, maxSlots}
 use Rattle.model.specs.Storage.{slotsOf}
 use Rattle.layout.specs.declared.Shape.{Shape}
@@ -20,12 +19,13 @@ use Rattle.layout.specs.Regions.{region, placeIn, in-place}
 use Rattle.layout.specs.Layout.{Mem, layout, total, head, entry, cell, load, in-cell}
 use Rattle.layout.specs.Cells.{cellAt}
 use Rattle.structure.specs.Facts.{busyCells}
-use Rattle.structure.specs.Checks.{slotC}
+use Rattle.structure.specs.Checks.{boundOf, handleC, slotC}
 use Rattle.structure.specs.Code.{sum-more}
-use Rattle.ledger.specs.Ledger.{isMark, markB}
-use Rattle.counts.specs.Found.{OffObjects}
-use Rattle.counts.specs.Shift.{shifted, shifted-off}
-use Rattle.survey.specs.Walk.{wholeB, markW, slotW, slotAt, slotsW, onFrame, pageW, tableW, surveyB}
+use Rattle.ledger.specs.Ledger.{markB}
+use Rattle.counts.specs.Found.{gather, onLink, inCell, OffObjects, cell-same as in-cell-same}
+use Rattle.counts.specs.Shift.{unit, shiftW, shifted, shifted-off}
+use Rattle.counts.specs.Code.{turn-more}
+use Rattle.survey.specs.Walk.{markedB, cellB, slotAt, frameB, onFrame, pageB, tableB, surveyB, heldIn, passed-all, passed-stop, frameFound, pageFound, tableFound, cell-same, test-same}
 
 -- ---- the slots of a page
 
@@ -51,52 +51,85 @@ pub cell-place : (n : ℕ) (sh : Shape) (f j : ℕ) (e : Extent) (at : ℕ) → 
 cell-place n sh f j e at q h k z = let p = in-place (region (layout sh) 7) f j 0 n (in-cell sh f j 0 h k (omega arith)) in
     z ∙ rw q (omega (arith, p))
 
-pub whole-no : (ws : List ℕ) (sh : Shape) (f : ℕ) → sh .frames ≤ f → false ≡ wholeB ws sh f
-whole-no ws sh f h = rw (le-ltb f (sh .frames) h)
-
-pub whole-by : (ws : List ℕ) (sh : Shape) (f n t : ℕ) (r : Bool) → f < sh .frames → n ≡ length ws → t ≡ total sh → r ≡ leb t n → r ≡ wholeB ws sh f
-whole-by ws sh f n t r h en et q = q ∙ rw (lt-ltb f (sh .frames) h, en, et)
-
-pub whole-is : (ws : List ℕ) (sh : Shape) (f : ℕ) (w : Bool) → w ≡ wholeB ws sh f → w ≡ true → (f < sh .frames) × (total sh ≤ length ws)
-whole-is ws sh f w e y = let b = both (ltb f (sh .frames)) (leb (total sh) (length ws)) (sym e ∙ y) in (ltb-true f (sh .frames) (b .0), leb-true (total sh) (length ws) (b .1))
-
 -- all its words are lent
 pub cell-lent : (sh : Shape) (f j : ℕ) (e : Extent) → e ≡ region (layout sh) 7 → f < sh .frames → j < 64 → e .low + (f * 64 + j) * 6 + 6 ≤ total sh
 cell-lent sh f j e q h k = rw q (omega arith)
 
-module _ (m : Mem) (sh : Shape) (b k life high : ℕ) (c : CellWords) (t : Bool) (et : t ≡ slotC (sh .objects) life high c) where
-  pub slot-bad : t ≡ false → false ≡ slotW m sh b k life high c
-  unfolding slotW
+module _ (m : Mem) (sh : Shape) (b k life bound high : ℕ) (c : CellWords) (t : Bool) (eb : bound ≡ boundOf (sh .objects) life) (ec : t ≡ slotC bound high c) where
+  et : t ≡ slotC (boundOf (sh .objects) life) high c
+  et = ec ∙ ap (λ (x : ℕ). slotC x high c) eb
+
+  pub slot-bad : t ≡ false → false ≡ cellB m sh b k life high c
+  unfolding cellB
   slot-bad z = rw (sym et ∙ z)
 
-  pub slot-vacant : t ≡ true → c .tag ≡ 0 → true ≡ slotW m sh b k life high c
-  unfolding slotW
+  pub slot-vacant : t ≡ true → c .tag ≡ 0 → true ≡ cellB m sh b k life high c
+  unfolding cellB
   slot-vacant z h = rw (sym et ∙ z, le-ltb 0 (c .tag) (omega arith))
 
-  pub slot-held : t ≡ true → (c .tag ≡ 0 → ⊥) → 3 ≤ c .tag → true ≡ slotW m sh b k life high c
-  unfolding slotW
+  pub slot-held : t ≡ true → (c .tag ≡ 0 → ⊥) → 3 ≤ c .tag → true ≡ cellB m sh b k life high c
+  unfolding cellB
   slot-held z n h = rw (sym et ∙ z, lt-ltb 0 (c .tag) (omega arith), le-ltb (c .tag) 3 h)
 
-  pub slot-marked : (r : Bool) → t ≡ true → (c .tag ≡ 0 → ⊥) → c .tag < 3 → r ≡ markB m sh b k (c .tag) (c .object) (c .rights) → r ≡ slotW m sh b k life high c
-  unfolding slotW
+  pub slot-marked : (r : Bool) → t ≡ true → (c .tag ≡ 0 → ⊥) → c .tag < 3 → r ≡ markB m sh b k (c .tag) (c .object) (c .rights) → r ≡ cellB m sh b k life high c
+  unfolding cellB
   slot-marked r z n h q = rw (sym et ∙ z, lt-ltb 0 (c .tag) (omega arith), lt-ltb (c .tag) 3 h) q
 
--- a slot by its place in the frame
-pub slot-here : (m : Mem) (sh : Shape) (b p life high f j k : ℕ) (c : CellWords) (r : Bool) → k ≡ p * 64 + j → c ≡ cellAt m f j → r ≡ slotW m sh b k life high c
-    → r ≡ slotAt m sh b p life high f j
-slot-here m sh b p life high f j k c r ek ec q = q ∙ rw (ek, ec)
+-- an occupied slot that passes holds a handle of one of the objects
+pub slot-holds : (m : Mem) (sh : Shape) (b k life high : ℕ) (c : CellWords) (t : Bool) → t ≡ cellB m sh b k life high c → t ≡ true → c .tag ≡ 3 → c .object < sh .objects
+unfolding cellB slotC handleC
+slot-holds m sh b k life high c t e y h =
+    let bound : ℕ = boundOf (sh .objects) life in
+    let a = both (slotC bound high c) (markedB m sh b k c) (sym e ∙ y) .0 in
+    let g = both (leb 1 (c .generation)) (leb (c .generation) high && pick (eqb (c .tag) 3) (handleC bound c) true) (both (leb (c .tag) 3) _ a .1) .1 in
+    let d : handleC bound c ≡ true = rw (eq-eqb (c .tag) 3 h) at (both (leb (c .generation) high) (pick (eqb (c .tag) 3) (handleC bound c) true) g .1) in
+    let l = ltb-true (c .object) bound (both (ltb (c .object) bound) (leb (c .flags) 3) d .0) in
+    omega (arith, l, pick-has (λ (x : ℕ). x ≤ sh .objects) (eqb life 2) 0 (sh .objects) (λ q. omega arith) (λ q. omega arith))
+
+-- `note_slot`
+pub note-yes : (ws vs : List ℕ) (sh : Shape) (c : CellWords) → c .tag ≡ 3 → vs ≡ shiftW ws sh unit (c .object) → vs ≡ shifted ws sh unit (heldIn c)
+note-yes ws vs sh c h e = e ∙ rw (eq-eqb (c .tag) 3 h)
+
+pub note-no : (ws : List ℕ) (sh : Shape) (c : CellWords) → (c .tag ≡ 3 → ⊥) → ws ≡ shifted ws sh unit (heldIn c)
+note-no ws sh c h = rw (ne-eqb (c .tag) 3 h)
+
+-- what a slot shows in the words that the walk has left, it showed in those that it began with
+module _ (ws vs : List ℕ) (sh : Shape) (os : List ℕ) (ev : vs ≡ shifted ws sh unit os) where
+  off : OffObjects (load ws sh) (load vs sh)
+  off = rw ev (shifted-off ws sh unit os)
+
+  pub cell-left : (f j : ℕ) (c : CellWords) → c ≡ cellAt (load vs sh) f j → c ≡ cellAt (load ws sh) f j
+  cell-left f j c e = e ∙ cell-same (load ws sh) (load vs sh) off f j
+
+  pub slot-left : (b p life high f j k : ℕ) (c : CellWords) (r : Bool) → k ≡ p * 64 + j → c ≡ cellAt (load vs sh) f j → r ≡ cellB (load vs sh) sh b k life high c
+      → r ≡ slotAt (load ws sh) sh b p life high f j
+  slot-left b p life high f j k c r ek ec q = q ∙ test-same (load ws sh) (load vs sh) off sh b k life high c ∙ rw (ek, cell-left f j c ec)
 
 module _ (m : Mem) (sh : Shape) (b p life high f n w : ℕ) where
-  pub slots-stop : (j : ℕ) (r : Bool) → j < n → r ≡ slotAt m sh b p life high f j → r ≡ false → false ≡ slotsW m sh b p life high f n w
-  unfolding slotsW
+  pub slots-stop : (j : ℕ) (r : Bool) → j < n → r ≡ slotAt m sh b p life high f j → r ≡ false → false ≡ frameB m sh b p life high f n w
+  unfolding frameB
   slots-stop j r h q e = rw (all-stop n (slotAt m sh b p life high f) j h (sym q ∙ e))
 
   pub slots-more : (j : ℕ) (r : Bool) → all j (slotAt m sh b p life high f) ≡ true → r ≡ slotAt m sh b p life high f j → r ≡ true → all (j + 1) (slotAt m sh b p life high f) ≡ true
   slots-more j r a q e = all-more j (slotAt m sh b p life high f) a (sym q ∙ e)
 
-  pub slots-end : (j count : ℕ) → all j (slotAt m sh b p life high f) ≡ true → count ≡ busyCells m f j → j ≡ n → eqb count w ≡ slotsW m sh b p life high f n w
-  unfolding slotsW
+  pub slots-end : (j count : ℕ) → all j (slotAt m sh b p life high f) ≡ true → count ≡ busyCells m f j → j ≡ n → eqb count w ≡ frameB m sh b p life high f n w
+  unfolding frameB
   slots-end j count e q z = let a : all n (slotAt m sh b p life high f) ≡ true = rw z at e in let d : count ≡ busyCells m f n = rw z at q in rw (a, d)
+
+-- the handles counted, up to a slot that fails or to the end
+module _ (ws vs : List ℕ) (sh : Shape) (f j : ℕ) (ev : vs ≡ shifted ws sh unit (gather j (inCell (load ws sh) f))) where
+  pub noted-more : (us : List ℕ) (c : CellWords) → c ≡ cellAt (load vs sh) f j → us ≡ shifted vs sh unit (heldIn c) → us ≡ shifted ws sh unit (gather (j + 1) (inCell (load ws sh) f))
+  noted-more us c ec e = turn-more sh unit (λ (m : Mem) (k : ℕ). inCell m f k) (λ m n h k. in-cell-same m n h f k) ws vs us j ev (e ∙ ap (λ (d : CellWords). shifted vs sh unit (heldIn d)) ec)
+
+  module _ (b p life high n : ℕ) (y : all j (slotAt (load ws sh) sh b p life high f) ≡ true) where
+    pub noted-stop : (r : Bool) → j < n → r ≡ slotAt (load ws sh) sh b p life high f j → r ≡ false → vs ≡ shifted ws sh unit (frameFound (load ws sh) sh b p life high f n)
+    unfolding frameFound
+    noted-stop r h q d = ev ∙ rw (passed-stop n (slotAt (load ws sh) sh b p life high f) j h y (sym q ∙ d))
+
+    pub noted-end : j ≡ n → vs ≡ shifted ws sh unit (frameFound (load ws sh) sh b p life high f n)
+    unfolding frameFound
+    noted-end e = ev ∙ rw (← e) (rw (passed-all j (slotAt (load ws sh) sh b p life high f) y))
 
 -- one more slot may be busy
 pub busy-more : (m : Mem) (f j x v y : ℕ) (c : CellWords) → x ≡ busyCells m f j → c ≡ cellAt m f j → v ≡ bit (not (eqb (c .tag) 0)) → y ≡ x + v → y ≡ busyCells m f (j + 1)
@@ -104,21 +137,49 @@ busy-more m f j x v y c e ec q z = sum-more (λ i. bit (not (eqb (m (cell f i 0)
 
 -- ---- a page
 
-module _ (m : Mem) (sh : Shape) (b life e p l : ℕ) (el : l ≡ m (entry (e + p) 0)) where
-  pub page-none : l ≡ 0 → true ≡ pageW m sh b life e p
-  unfolding pageW
-  page-none z = ap (λ (k : ℕ). onFrame k (λ f. slotsW m sh b p life (m (entry (e + p) 1)) f (slotsOf till p) (m (entry (e + p) 2)))) (sym z ∙ el)
+module _ (ws : List ℕ) (sh : Shape) (b life e p l : ℕ) (el : l ≡ load ws sh (entry (e + p) 0)) where
+  -- what stands on the link, in both definitions
+  test : ℕ → Bool
+  test k = onFrame k (λ f. ltb f (sh .frames) && frameB (load ws sh) sh b p life (load ws sh (entry (e + p) 1)) f (slotsOf till p) (load ws sh (entry (e + p) 2)))
 
-  pub page-some : (high busy n : ℕ) (r : Bool) → (l ≡ 0 → ⊥) → high ≡ m (entry (e + p) 1) → busy ≡ m (entry (e + p) 2) → n ≡ slotsOf till p
-      → r ≡ slotsW m sh b p life high (l - 1) n busy → r ≡ pageW m sh b life e p
-  unfolding pageW
-  page-some high busy n r z eh eb en q = q ∙ rw (eh, eb, en) (go l z)
-      ∙ ap (λ (k : ℕ). onFrame k (λ f. slotsW m sh b p life (m (entry (e + p) 1)) f (slotsOf till p) (m (entry (e + p) 2)))) el
-    where
-      go : (l : ℕ) → (l ≡ 0 → ⊥) → slotsW m sh b p life (m (entry (e + p) 1)) (l - 1) (slotsOf till p) (m (entry (e + p) 2))
-          ≡ onFrame l (λ f. slotsW m sh b p life (m (entry (e + p) 1)) f (slotsOf till p) (m (entry (e + p) 2)))
-      go zero z = absurd (z refl)
-      go (suc f) z = let y : suc f - 1 ≡ f = omega arith in rw y
+  list : ℕ → List ℕ
+  list k = onLink k (λ f. pick (ltb f (sh .frames)) (frameFound (load ws sh) sh b p life (load ws sh (entry (e + p) 1)) f (slotsOf till p)) [])
+
+  by-test : (r : Bool) → r ≡ test l → r ≡ pageB (load ws sh) sh b life e p
+  unfolding pageB test
+  by-test r q = q ∙ ap test el
+
+  by-list : (vs : List ℕ) → vs ≡ shifted ws sh unit (list l) → vs ≡ shifted ws sh unit (pageFound (load ws sh) sh b life e p)
+  unfolding pageFound list
+  by-list vs q = q ∙ ap (λ (k : ℕ). shifted ws sh unit (list k)) el
+
+  pub page-none : l ≡ 0 → (ws ≡ shifted ws sh unit (pageFound (load ws sh) sh b life e p)) × (true ≡ pageB (load ws sh) sh b life e p)
+  unfolding test list
+  page-none z = (by-list ws (ap (λ (k : ℕ). shifted ws sh unit (list k)) (sym z)), by-test true (ap test (sym z)))
+
+  link-is : (l ≡ 0 → ⊥) → l ≡ suc (l - 1)
+  link-is h = omega (arith, h)
+
+  pub page-far : (l ≡ 0 → ⊥) → sh .frames ≤ l - 1 → (ws ≡ shifted ws sh unit (pageFound (load ws sh) sh b life e p)) × (false ≡ pageB (load ws sh) sh b life e p)
+  unfolding test list
+  page-far h k = let g = le-ltb (l - 1) (sh .frames) k in
+      (by-list ws (rw (link-is h, g)), by-test false (rw (link-is h, g)))
+
+  listed : (f : ℕ) → f < sh .frames → shifted ws sh unit (frameFound (load ws sh) sh b p life (load ws sh (entry (e + p) 1)) f (slotsOf till p)) ≡ shifted ws sh unit (list (suc f))
+  unfolding list
+  listed f i = rw (lt-ltb f (sh .frames) i)
+
+  tested : (f : ℕ) → f < sh .frames → frameB (load ws sh) sh b p life (load ws sh (entry (e + p) 1)) f (slotsOf till p) (load ws sh (entry (e + p) 2)) ≡ test (suc f)
+  unfolding test
+  tested f i = rw (lt-ltb f (sh .frames) i)
+
+  pub page-some : (high busy n : ℕ) (vs : List ℕ) (r : Bool) → (l ≡ 0 → ⊥) → l - 1 < sh .frames → high ≡ load ws sh (entry (e + p) 1) → busy ≡ load ws sh (entry (e + p) 2) → n ≡ slotsOf till p
+      → vs ≡ shifted ws sh unit (frameFound (load ws sh) sh b p life high (l - 1) n) → r ≡ frameB (load ws sh) sh b p life high (l - 1) n busy
+      → (vs ≡ shifted ws sh unit (pageFound (load ws sh) sh b life e p)) × (r ≡ pageB (load ws sh) sh b life e p)
+  page-some high busy n vs r h k eh eb en q t = (
+    by-list vs (q ∙ rw (eh, en) (listed (l - 1) k) ∙ ap (λ (i : ℕ). shifted ws sh unit (list i)) (sym (link-is h))),
+    by-test r (t ∙ rw (eh, eb, en) (tested (l - 1) k) ∙ ap test (sym (link-is h))),
+  )
 
 -- ---- loops that go on after a failure
 
@@ -136,10 +197,15 @@ module _ (sh : Shape) (d : ℕ) (P : Mem → ℕ → Bool) (same : (m n : Mem) �
   test-end ws k n ok a e = a ∙ ap (λ (i : ℕ). all i (P (load ws sh))) e
 
 pub table-by : (m : Mem) (sh : Shape) (b life z e n : ℕ) (ok : Bool) → life ≡ m (head b 2) → z ≡ m (head b 5) → e ≡ m (head b 10) → n ≡ min z (sh .pages)
-    → ok ≡ all n (pageW m sh b life e) → ok ≡ tableW m sh b
-unfolding tableW
+    → ok ≡ all n (pageB m sh b life e) → ok ≡ tableB m sh b
+unfolding tableB
 table-by m sh b life z e n ok el ez ee en q = q ∙ rw (en, el, ez, ee)
 
-pub survey-by : (m : Mem) (sh : Shape) (ok : Bool) → ok ≡ all (sh .tables) (tableW m sh) → ok ≡ surveyB m sh
+pub survey-by : (m : Mem) (sh : Shape) (ok : Bool) → ok ≡ all (sh .tables) (tableB m sh) → ok ≡ surveyB m sh
 unfolding surveyB
 survey-by m sh ok q = q
+
+pub found-by : (ws : List ℕ) (sh : Shape) (b life z e n : ℕ) (vs : List ℕ) → life ≡ load ws sh (head b 2) → z ≡ load ws sh (head b 5) → e ≡ load ws sh (head b 10) → n ≡ min z (sh .pages)
+    → vs ≡ shifted ws sh unit (gather n (pageFound (load ws sh) sh b life e)) → vs ≡ shifted ws sh unit (tableFound (load ws sh) sh b)
+unfolding tableFound
+found-by ws sh b life z e n vs el ez ee en q = q ∙ rw (en, el, ez, ee)

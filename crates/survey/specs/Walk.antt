@@ -1,77 +1,112 @@
--- What the walk over the slots tests, and that this does not depend on the objects' records. Assumes nothing.
-use mathlib.Core.Path.{_≡_, ap, fun-ext}
-use mathlib.Core.Bool.{Bool, true, _&&_}
-use mathlib.Core.List.{List}
-use Prim.Native.Nat.{ℕ, zero, suc, _+_, _*_, min}
-use lib.ListN.{length}
-use lib.Dec.{eqb, ltb, leb}
-use borrow.Author.Tests.{eqb-false}
+-- What the walk over the slots tests and which handles it counts, and that neither depends on the objects' records. Assumes nothing.
+use mathlib.Core.Path.{_≡_, refl, ap}
+use mathlib.Core.Bool.{Bool, true, false, _&&_}
+use mathlib.Core.List.{List, [], _∷_}
+use Prim.Native.Nat.{ℕ, zero, suc, _+_, _*_, _<_, min}
+use native.Mathlib.Omega.{arith}
+use lib.Dec.{eqb, ltb}
+use borrow.Author.Tests.{eqb-true, eqb-false}
 use Rattle.words.specs.Pick.{pick, bool}
-use Rattle.words.specs.All.{all}
+use Rattle.words.specs.All.{all, all-stop}
 use Rattle.model.specs.State.{till}
 use Rattle.model.specs.Storage.{slotsOf}
 use Rattle.layout.specs.declared.Shape.{Shape}
 use Rattle.layout.specs.declared.CellWords.{CellWords}
-use Rattle.layout.specs.Layout.{Addr, Addr.reg, Mem, total, head, entry}
+use Rattle.layout.specs.Layout.{Mem, head, entry}
 use Rattle.layout.specs.Cells.{cellAt}
 use Rattle.structure.specs.Facts.{busyCells}
-use Rattle.structure.specs.Checks.{slotC}
+use Rattle.structure.specs.Checks.{boundOf, slotC}
 use Rattle.ledger.specs.Ledger.{isMark, hitB, markB}
-use Rattle.counts.specs.Found.{OffObjects}
-
--- frame f is one of the state's, and all of the state's words are lent
-abbrev pub wholeB : List ℕ → Shape → ℕ → Bool
-wholeB ws sh f = ltb f (sh .frames) && leb (total sh) (length ws)
+use Rattle.counts.specs.Found.{gather, isOccupied, onLink, inCell, OffObjects, hide-same}
 
 -- the mark of slot k of table b
-abbrev pub markW : Mem → Shape → ℕ → ℕ → CellWords → Bool
-markW m sh b k c = pick (isMark (c .tag)) (markB m sh b k (c .tag) (c .object) (c .rights)) true
+abbrev pub markedB : Mem → Shape → ℕ → ℕ → CellWords → Bool
+markedB m sh b k c = pick (isMark (c .tag)) (markB m sh b k (c .tag) (c .object) (c .rights)) true
 
-unfoldable pub slotW : Mem → Shape → ℕ → ℕ → ℕ → ℕ → CellWords → Bool
-slotW m sh b k life high c = slotC (sh .objects) life high c && markW m sh b k c
+-- slot k of table b by its words
+unfoldable pub cellB : Mem → Shape → ℕ → ℕ → ℕ → ℕ → CellWords → Bool
+cellB m sh b k life high c = slotC (boundOf (sh .objects) life) high c && markedB m sh b k c
 
 -- slot j of page p of table b, in frame f
 abbrev pub slotAt : Mem → Shape → ℕ → ℕ → ℕ → ℕ → ℕ → ℕ → Bool
-slotAt m sh b p life high f j = slotW m sh b (p * 64 + j) life high (cellAt m f j)
+slotAt m sh b p life high f j = cellB m sh b (p * 64 + j) life high (cellAt m f j)
 
 -- the first n of them, of which w are busy
-unfoldable pub slotsW : Mem → Shape → ℕ → ℕ → ℕ → ℕ → ℕ → ℕ → ℕ → Bool
-slotsW m sh b p life high f n w = all n (slotAt m sh b p life high f) && eqb (busyCells m f n) w
+unfoldable pub frameB : Mem → Shape → ℕ → ℕ → ℕ → ℕ → ℕ → ℕ → ℕ → Bool
+frameB m sh b p life high f n w = all n (slotAt m sh b p life high f) && eqb (busyCells m f n) w
 
--- the slots of a frame that is given as a link
+-- a frame that is given as a link: none, or one of the state's
 abbrev pub onFrame : ℕ → (ℕ → Bool) → Bool
 onFrame zero t = true
 onFrame (suc f) t = t f
 
 -- page p of table b, whose first entry is e
-unfoldable pub pageW : Mem → Shape → ℕ → ℕ → ℕ → ℕ → Bool
-pageW m sh b life e p = onFrame (m (entry (e + p) 0)) (λ f. slotsW m sh b p life (m (entry (e + p) 1)) f (slotsOf till p) (m (entry (e + p) 2)))
+unfoldable pub pageB : Mem → Shape → ℕ → ℕ → ℕ → ℕ → Bool
+pageB m sh b life e p = onFrame (m (entry (e + p) 0)) (λ f. ltb f (sh .frames) && frameB m sh b p life (m (entry (e + p) 1)) f (slotsOf till p) (m (entry (e + p) 2)))
 
 -- the pages that table b has had; there are no more than the state has entries
-unfoldable pub tableW : Mem → Shape → ℕ → Bool
-tableW m sh b = all (min (m (head b 5)) (sh .pages)) (pageW m sh b (m (head b 2)) (m (head b 10)))
+unfoldable pub tableB : Mem → Shape → ℕ → Bool
+tableB m sh b = all (min (m (head b 5)) (sh .pages)) (pageB m sh b (m (head b 2)) (m (head b 10)))
 
 -- ALL SLOTS
 unfoldable pub surveyB : Mem → Shape → Bool
-surveyB m sh = all (sh .tables) (tableW m sh)
+surveyB m sh = all (sh .tables) (tableB m sh)
+
+-- ---- the handles that are counted: of each page those before the first slot that fails
+
+-- of a slot by its words
+abbrev pub heldIn : CellWords → List ℕ
+heldIn c = pick (isOccupied (c .tag)) (c .object ∷ []) []
+
+-- how many of the first n pass before one fails
+unfoldable pub passed : ℕ → (ℕ → Bool) → ℕ
+passed zero P = zero
+passed (suc n) P = pick (all (suc n) P) (suc n) (passed n P)
+
+pub passed-all : (n : ℕ) (P : ℕ → Bool) → all n P ≡ true → passed n P ≡ n
+unfolding passed
+passed-all zero P e = refl
+passed-all (suc n) P e = rw e
+
+pub passed-stop : (n : ℕ) (P : ℕ → Bool) (j : ℕ) → j < n → all j P ≡ true → P j ≡ false → passed n P ≡ j
+unfolding passed
+passed-stop zero P j h e d = absurd (omega arith)
+passed-stop (suc n) P j h e d = rw (all-stop (suc n) P j h d) (bool (eqb j n)
+    (λ q. let y : j ≡ n = eqb-true j n q in rw (← y) (passed-all j P e))
+    (λ q. passed-stop n P j (omega (arith, eqb-false j n q)) e d))
+
+unfoldable pub frameFound : Mem → Shape → ℕ → ℕ → ℕ → ℕ → ℕ → ℕ → List ℕ
+frameFound m sh b p life high f n = gather (passed n (slotAt m sh b p life high f)) (inCell m f)
+
+unfoldable pub pageFound : Mem → Shape → ℕ → ℕ → ℕ → ℕ → List ℕ
+pageFound m sh b life e p = onLink (m (entry (e + p) 0)) (λ f. pick (ltb f (sh .frames)) (frameFound m sh b p life (m (entry (e + p) 1)) f (slotsOf till p)) [])
+
+unfoldable pub tableFound : Mem → Shape → ℕ → List ℕ
+tableFound m sh b = gather (min (m (head b 5)) (sh .pages)) (pageFound m sh b (m (head b 2)) (m (head b 10)))
 
 -- ---- the walk does not look at objects
 
--- the memory without the objects
-abbrev hide : Mem → Mem
-hide m (reg k x y f) = pick (eqb k 8) 0 (m (reg k x y f))
+module _ (m n : Mem) (h : OffObjects m n) where
+  pub cell-same : (f j : ℕ) → cellAt n f j ≡ cellAt m f j
+  cell-same f j = ap (λ (u : Mem). cellAt u f j) (hide-same m n h)
 
-hide-same : (m n : Mem) → OffObjects m n → hide n ≡ hide m
-hide-same m n h = fun-ext go
-  where
-    go : (a : Addr) → hide n a ≡ hide m a
-    go (reg k x y f) = bool (eqb k 8) (λ e. rw e) (λ e. rw e (h k x y f (eqb-false k 8 e)))
+  module _ (sh : Shape) (b : ℕ) where
+    pub test-same : (k life high : ℕ) (c : CellWords) → cellB n sh b k life high c ≡ cellB m sh b k life high c
+    unfolding cellB markB hitB
+    test-same k life high c = ap (λ (u : Mem). cellB u sh b k life high c) (hide-same m n h)
 
-module _ (m n : Mem) (h : OffObjects m n) (sh : Shape) where
-  pub page-same : (b life e p : ℕ) → pageW n sh b life e p ≡ pageW m sh b life e p
-  unfolding pageW slotsW slotW markB hitB
-  page-same b life e p = ap (λ (u : Mem). pageW u sh b life e p) (hide-same m n h)
+    pub page-same : (life e p : ℕ) → pageB n sh b life e p ≡ pageB m sh b life e p
+    unfolding pageB frameB cellB markB hitB
+    page-same life e p = ap (λ (u : Mem). pageB u sh b life e p) (hide-same m n h)
 
-  pub table-same : (b : ℕ) → tableW n sh b ≡ tableW m sh b
-  unfolding tableW pageW slotsW slotW markB hitB
-  table-same b = ap (λ (u : Mem). tableW u sh b) (hide-same m n h)
+    pub table-same : tableB n sh b ≡ tableB m sh b
+    unfolding tableB pageB frameB cellB markB hitB
+    table-same = ap (λ (u : Mem). tableB u sh b) (hide-same m n h)
+
+    pub page-found-same : (life e p : ℕ) → pageFound n sh b life e p ≡ pageFound m sh b life e p
+    unfolding pageFound frameFound cellB markB hitB
+    page-found-same life e p = ap (λ (u : Mem). pageFound u sh b life e p) (hide-same m n h)
+
+    pub table-found-same : tableFound n sh b ≡ tableFound m sh b
+    unfolding tableFound pageFound frameFound cellB markB hitB
+    table-found-same = ap (λ (u : Mem). tableFound u sh b) (hide-same m n h)

@@ -1,24 +1,18 @@
-// The walk of the state check over tables, pages and slots. The slots of a page are tested in one loop, which ends at one that fails; then the page's handles
-// are counted in the upper halves of their objects' counts. The walk goes on with the next page either way, so that what it leaves does not depend on what it finds.
+// The walk of the state check over tables, pages and slots. Each page is gone over once: a slot is tested and, if it holds a handle, the handle is counted in
+// the upper half of its object's count. A page's loop ends at a slot that fails; the walk goes on with the next page either way.
 ghost use mathlib.Core.Path.{_≡_};
-ghost use mathlib.Core.Bool.{_&&_};
 ghost use Prim.Native.Nat.{_≤_, _<_};
 ghost use lib.ListN.{length};
 ghost use Rattle.model.specs.State.{till};
 ghost use Rattle.model.specs.Storage.{slotsOf};
 ghost use Rattle.layout.specs.Layout.{total, load as loadAt};
 ghost use Rattle.layout.specs.Cells.{cellAt};
-ghost use Rattle.counts.specs.Found.{gather, inTable};
+ghost use Rattle.structure.specs.Checks.{boundOf};
+ghost use Rattle.counts.specs.Found.{gather};
 ghost use Rattle.counts.specs.Shift.{unit, shifted};
-ghost use Rattle.survey.specs.Walk.{wholeB, slotW, slotsW, pageW, tableW, surveyB};
+ghost use Rattle.survey.specs.Walk.{cellB, heldIn, frameB, frameFound, pageB, pageFound, tableB, tableFound, surveyB};
 use layout::CellWords;
 use layout::Shape;
-
-fn both(a: bool, b: bool) -> bool
-    ensures { λ r. ⌜ r ≡ (a && b) ⌝ }
-{
-    if a { b } else { false }
-}
 
 // How many slots page p has: 64, and the last page of the largest table one less.
 fn slots_of(p: u32) -> u64
@@ -34,10 +28,20 @@ fn slots_of(p: u32) -> u64
 }
 
 // A slot of table b, its number k: a mark is an item of the row that it names.
-fn slot_ok(s: &[u64], sh: Shape, b: u64, k: u64, life: u64, high: u64, c: CellWords) -> bool
-    ensures { λ r. ⌜ r ≡ slotW (loadAt (now (s .entry)) sh) sh b k life high c ⌝ }
+fn slot_ok(
+    s: &[u64],
+    sh: Shape,
+    b: u64,
+    k: u64,
+    life: u64,
+    bound: u64,
+    high: u64,
+    c: CellWords,
+) -> bool
+    requires { ⌜ bound ≡ boundOf (sh .objects) life ⌝ }
+    ensures { λ r. ⌜ r ≡ cellB (loadAt (now (s .entry)) sh) sh b k life high c ⌝ }
 {
-    if !structure::slot_ok(c, sh.objects as u64, life, high) {
+    if !structure::slot_ok(c, bound, high) {
         return false;
     }
     if c.tag == 0 {
@@ -68,32 +72,20 @@ fn cell_in(s: &[u64], sh: Shape, f: u64, j: u64) -> CellWords
     }
 }
 
-// Whether frame f is one of the state's, and all of the state's words are lent.
-fn is_whole(s: &[u64], sh: Shape, f: u64) -> bool
-    ensures { λ r. ⌜ r ≡ wholeB (now (s .entry)) sh f ⌝ }
+// Counts the handle of a slot, if it is occupied.
+fn note_slot(s: &mut [u64], sh: Shape, c: CellWords)
+    requires { ⌜ (c .tag ≡ 3 → c .object < sh .objects) ⌝ }
+    requires { ⌜ total sh ≤ length (now s) ⌝ }
+    ensures { λ _. ⌜ now (s .exit) ≡ shifted (now (s .entry)) sh unit (heldIn c) ⌝ }
 {
-    let n = s.len() as u64;
-    if f >= sh.frames as u64 {
-        return false;
-    }
-    words::le(layout::total_of(sh), n)
-}
-
-fn cell_of(s: &[u64], sh: Shape, f: u64, j: u64, whole: bool) -> CellWords
-    requires { ⌜ j < 64 ⌝ }
-    requires { ⌜ whole ≡ wholeB (now s) sh f ⌝ }
-    ensures { λ r. ⌜ r ≡ cellAt (loadAt (now (s .entry)) sh) f j ⌝ }
-{
-    if whole {
-        cell_in(s, sh, f, j)
-    } else {
-        layout::cell_at(s, sh, f, j)
+    if c.tag == 3 {
+        counts::note_handle(s, sh, c.object);
     }
 }
 
 // The first n slots of frame f, which is page p of table b; w of them are busy.
-fn slots_ok(
-    s: &[u64],
+fn walk_frame(
+    s: &mut [u64],
     sh: Shape,
     b: u64,
     p: u32,
@@ -103,42 +95,52 @@ fn slots_ok(
     n: u64,
     w: u64,
 ) -> bool
-    requires { ⌜ n ≤ 64 ⌝ }
-    ensures { λ r. ⌜ r ≡ slotsW (loadAt (now (s .entry)) sh) sh b p life high f n w ⌝ }
+    requires { ⌜ (n ≤ 64) × (f < sh .frames) ⌝ }
+    requires { ⌜ total sh ≤ length (now s) ⌝ }
+    ensures noted { λ _. ⌜ now (s .exit) ≡ shifted (now (s .entry)) sh unit (frameFound (loadAt (now (s .entry)) sh) sh b p life high f n) ⌝ }
+    ensures answer { λ r. ⌜ r ≡ frameB (loadAt (now (s .entry)) sh) sh b p life high f n w ⌝ }
 {
-    let whole = is_whole(s, sh, f);
+    let bound = structure::bound_of(sh.objects as u64, life);
     let first = (p as u64) * 64;
     let mut count: u64 = 0;
     let mut j: u64 = 0;
     while j < n {
-        let c = cell_of(s, sh, f, j, whole);
-        if !slot_ok(s, sh, b, first + j, life, high, c) {
+        let c = cell_in(s, sh, f, j);
+        if !slot_ok(s, sh, b, first + j, life, bound, high, c) {
             return false;
         }
+        note_slot(s, sh, c);
         count += structure::present(c.tag);
         j += 1;
     }
     count == w
 }
 
-// The slots of page p of table b, whose first entry is e.
-fn page_ok(s: &[u64], sh: Shape, b: u64, life: u64, e: u64, p: u32) -> bool
-    ensures { λ r. ⌜ r ≡ pageW (loadAt (now (s .entry)) sh) sh b life e p ⌝ }
+// Page p of table b, whose first entry is e.
+fn walk_page(s: &mut [u64], sh: Shape, b: u64, life: u64, e: u64, p: u32) -> bool
+    requires { ⌜ total sh ≤ length (now s) ⌝ }
+    ensures noted { λ _. ⌜ now (s .exit) ≡ shifted (now (s .entry)) sh unit (pageFound (loadAt (now (s .entry)) sh) sh b life e p) ⌝ }
+    ensures answer { λ r. ⌜ r ≡ pageB (loadAt (now (s .entry)) sh) sh b life e p ⌝ }
 {
     let q = p as u64;
     let link = storage::page_word(s, sh, e, q, 0);
     if link == 0 {
         return true;
     }
+    let f = link - 1;
+    if f >= sh.frames as u64 {
+        return false;
+    }
     let high = storage::page_word(s, sh, e, q, 1);
     let busy = storage::page_word(s, sh, e, q, 2);
-    slots_ok(s, sh, b, p, life, high, link - 1, slots_of(p), busy)
+    walk_frame(s, sh, b, p, life, high, f, slots_of(p), busy)
 }
 
 // The pages of table b.
 fn walk_table(s: &mut [u64], sh: Shape, b: u64) -> bool
-    ensures noted { λ _. ⌜ now (s .exit) ≡ shifted (now (s .entry)) sh unit (inTable (loadAt (now (s .entry)) sh) sh b) ⌝ }
-    ensures answer { λ r. ⌜ r ≡ tableW (loadAt (now (s .entry)) sh) sh b ⌝ }
+    requires { ⌜ total sh ≤ length (now s) ⌝ }
+    ensures noted { λ _. ⌜ now (s .exit) ≡ shifted (now (s .entry)) sh unit (tableFound (loadAt (now (s .entry)) sh) sh b) ⌝ }
+    ensures answer { λ r. ⌜ r ≡ tableB (loadAt (now (s .entry)) sh) sh b ⌝ }
 {
     let life = layout::head_word(s, sh, b, 2);
     let size = layout::head_word(s, sh, b, 5);
@@ -147,17 +149,17 @@ fn walk_table(s: &mut [u64], sh: Shape, b: u64) -> bool
     let mut ok = true;
     let mut p: u32 = 0;
     while (p as u64) < n {
-        let page = page_ok(s, sh, b, life, e, p);
-        counts::note_page(s, sh, e, p as u64);
-        ok = both(ok, page);
+        let page = walk_page(s, sh, b, life, e, p);
+        ok = counts::both(ok, page);
         p += 1;
     }
     ok
 }
 
-// Whether the slots of every page are as a well-formed state's must be. Leaves every handle of a slot counted.
+// Whether the slots of every page are as a well-formed state's must be. Leaves every handle of a slot counted, of a page with a fault those before it.
 pub fn walk_slots(s: &mut [u64], sh: Shape) -> bool
-    ensures noted { λ _. ⌜ now (s .exit) ≡ shifted (now (s .entry)) sh unit (gather (sh .tables) (inTable (loadAt (now (s .entry)) sh) sh)) ⌝ }
+    requires { ⌜ total sh ≤ length (now s) ⌝ }
+    ensures noted { λ _. ⌜ now (s .exit) ≡ shifted (now (s .entry)) sh unit (gather (sh .tables) (tableFound (loadAt (now (s .entry)) sh) sh)) ⌝ }
     ensures answer { λ r. ⌜ r ≡ surveyB (loadAt (now (s .entry)) sh) sh ⌝ }
 {
     let n = sh.tables as u64;
@@ -165,7 +167,7 @@ pub fn walk_slots(s: &mut [u64], sh: Shape) -> bool
     let mut b: u64 = 0;
     while b < n {
         let table = walk_table(s, sh, b);
-        ok = both(ok, table);
+        ok = counts::both(ok, table);
         b += 1;
     }
     ok

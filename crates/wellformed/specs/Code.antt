@@ -1,28 +1,27 @@
 -- What the functions' bodies go by: the parts that write nothing are tried in turn, then the slots and the counts. Assumes nothing.
 use mathlib.Core.Path.{_≡_, refl, sym, ap, _∙_}
 use mathlib.Core.Bool.{Bool, true, false, _&&_, and-false}
-use mathlib.Core.List.{List}
+use mathlib.Core.List.{List, _++_}
 use Prim.Native.Nat.{ℕ, _≤_, _<_}
 use native.Mathlib.Omega.{arith}
 use lib.ListN.{length}
-use lib.Dec.{leb}
 use borrow.Author.Tests.{lt-leb}
 use Rattle.words.specs.Pick.{bool, both}
 use Rattle.words.specs.All.{all}
 use Rattle.layout.specs.declared.Shape.{Shape}
 use Rattle.layout.specs.Layout.{Mem, total, load}
-use Rattle.structure.specs.Checks.{structureB, outlineB}
+use Rattle.structure.specs.Checks.{outlineB}
 use Rattle.structure.specs.Split.{slotsIn, structure-split}
 use Rattle.orders.specs.Check.{ordersB}
-use Rattle.ledger.specs.Ledger.{marksB, ledgerB, bookB, ledger-split}
-use Rattle.counts.specs.Found.{gather, inTable, inBook, found, countsB}
+use Rattle.ledger.specs.Ledger.{marksB, bookB, ledger-split}
+use Rattle.counts.specs.Found.{gather, inBook, found}
 use Rattle.counts.specs.Shift.{unit, shifted}
 use Rattle.counts.specs.Objects.{objectsB}
-use Rattle.counts.specs.Halves.{halvesB, settledW, objects-low, settled-kept, halves-counts}
-use Rattle.counts.specs.Code.{countsIn, all-by}
+use Rattle.counts.specs.Halves.{Low, halvesB, settledW, objects-low, settled-kept, halves-counts}
+use Rattle.counts.specs.Code.{countsIn, rows-by}
 use Rattle.counts.specs.Decide.{counts-in}
-use Rattle.survey.specs.Walk.{surveyB}
-use Rattle.survey.specs.Whole.{survey-whole}
+use Rattle.survey.specs.Walk.{surveyB, tableFound}
+use Rattle.survey.specs.Whole.{survey-whole, survey-found}
 use Rattle.wellformed.specs.Whole.{partsB, wellB}
 
 -- the parts that write nothing, in the order in which they are tried
@@ -101,23 +100,38 @@ module _ (ws : List ℕ) (sh : Shape) where
     unfolding wellB
     no-parts d = rw (parts-split (load ws sh) sh, sym ea ∙ d)
 
-    module _ (y : a ≡ true) (vs us : List ℕ) (ev : vs ≡ shifted ws sh unit (gather (sh .tables) (inTable (load ws sh) sh))) (eu : us ≡ shifted vs sh unit (inBook (load vs sh) sh)) where
+    module _ (y : a ≡ true) (vs us : List ℕ) (ev : vs ≡ shifted ws sh unit (gather (sh .tables) (tableFound (load ws sh) sh))) (eu : us ≡ shifted vs sh unit (inBook (load vs sh) sh)) where
       quiet : quietB (load ws sh) sh ≡ true
       quiet = sym ea ∙ y
 
+      low : Low ws sh
+      low = objects-low ws sh (quiet-objects (load ws sh) sh quiet)
+
+      -- the handles that were counted
+      counted : List ℕ
+      counted = gather (sh .tables) (tableFound (load ws sh) sh) ++ inBook (load ws sh) sh
+
+      all-counted : us ≡ shifted ws sh unit counted
+      unfolding counted
+      all-counted = rows-by ws vs us sh unit (gather (sh .tables) (tableFound (load ws sh) sh)) ev eu
+
       -- every word is as it was
       pub check-kept : (ts : List ℕ) → ts ≡ settledW us sh → ts ≡ ws
-      check-kept ts et = et ∙ ap (λ (w : List ℕ). settledW w sh) (all-by ws vs us sh unit ev eu) ∙ settled-kept ws sh (found (load ws sh) sh) (objects-low ws sh (quiet-objects (load ws sh) sh quiet))
+      check-kept ts et = et ∙ ap (λ (w : List ℕ). settledW w sh) all-counted ∙ settled-kept ws sh counted low
 
-      -- and the answer is right
+      -- and the answer is right: where a slot fails it is no, else every handle was counted
       pub check-answer : (n t : ℕ) (s c r : Bool) → n ≡ length ws → t ≡ total sh → t ≤ n → sh .tables < 256 → sh .rows < 65536
           → s ≡ surveyB (load ws sh) sh → c ≡ halvesB (load us sh) sh → r ≡ (s && c) → r ≡ wellB ws sh
-      unfolding wellB
-      check-answer n t s c r en et h l k es ec er =
-          let room : total sh ≤ length ws = omega arith in
-          let q : c ≡ countsIn ws sh = ec ∙ ap (λ (w : List ℕ). halvesB (load w sh) sh) (all-by ws vs us sh unit ev eu)
-          ∙ halves-counts ws sh room (objects-low ws sh (quiet-objects (load ws sh) sh quiet)) l k ∙ sym (counts-in ws sh room) in
-          er ∙ rw (es, q, parts-split (load ws sh) sh, quiet, survey-whole (load ws sh) sh (quiet-outline (load ws sh) sh quiet))
+      unfolding wellB counted
+      check-answer n t s c r en et h l k es ec er = er ∙ bool (surveyB (load ws sh) sh)
+          (λ v. let room : total sh ≤ length ws = omega arith in
+          let q : us ≡ shifted ws sh unit (found (load ws sh) sh) = all-counted ∙ ap (λ (os : List ℕ). shifted ws sh unit (os ++ inBook (load ws sh) sh)) (survey-found (load ws sh) sh v) in
+          let d : c ≡ countsIn ws sh = ec ∙ ap (λ (w : List ℕ). halvesB (load w sh) sh) q ∙ halves-counts ws sh room low l k ∙ sym (counts-in ws sh room) in
+          rw (es, d, parts))
+          (λ v. rw (es, parts, v))
+        where
+          parts : partsB (load ws sh) sh ≡ surveyB (load ws sh) sh
+          parts = parts-split (load ws sh) sh ∙ rw quiet (survey-whole (load ws sh) sh (quiet-outline (load ws sh) sh quiet))
 
 -- the answer's two branches
 pub and-yes : (s c : Bool) → s ≡ true → c ≡ (s && c)

@@ -1,6 +1,8 @@
 // The state check, whole: whether lent words represent a well-formed state.
 ghost use mathlib.Core.Path.{_≡_};
-ghost use Rattle.layout.specs.Layout.{load as loadAt};
+ghost use Prim.Native.Nat.{_≤_};
+ghost use lib.ListN.{length};
+ghost use Rattle.layout.specs.Layout.{total, load as loadAt};
 ghost use Rattle.words.specs.Words.{Small};
 ghost use Rattle.wellformed.specs.Whole.{wellB};
 ghost use Rattle.wellformed.specs.Code.{quietB};
@@ -15,6 +17,7 @@ pub fn are_words(s: &[u64])
 
 // The parts that write nothing.
 fn check_parts(s: &[u64], sh: Shape) -> bool
+    requires { ⌜ total sh ≤ length (now s) ⌝ }
     ensures { λ r. ⌜ r ≡ quietB (loadAt (now (s .entry)) sh) sh ⌝ }
 {
     if !structure::check_outline(s, sh) {

@@ -4,116 +4,103 @@ use Rattle.counts.proofs.object_ok.Statement.{statement}
 use Rattle.counts.proofs.object_ok.Tie as tie
 use Rattle.counts.proofs.object_ok.Reads as reads
 use Rattle.counts.proofs.object_ok.Lts as lts
-use Rattle.counts.proofs.fields_at.Reads as fields-at-reads
 use Rattle.counts.proofs.fields_ok.Reads as fields-ok-reads
 
--- src/lib.rt:75:23
+-- src/lib.rt:66:23
 mul-at : tie.Need-mul-at
 mul-at c = search needs
 
--- src/lib.rt:75:15
+-- src/lib.rt:66:15
 add-at : tie.Need-add-at
 add-at c = search needs
 
--- src/lib.rt:76:18
-add-if1 : tie.Need-add-if1
-add-if1 c = search needs
-
--- src/lib.rt:77:9
-fields-at-requires : tie.Need-fields-at-requires
-fields-at-requires c κs = tt
-
--- src/lib.rt:77:9
-returns : tie.Need-returns
-returns c = search needs
-
--- src/lib.rt:79:15
+-- src/lib.rt:68:9
 mul-fields-ok : tie.Need-mul-fields-ok
 mul-fields-ok c = search needs
 
--- src/lib.rt:79:15
+-- src/lib.rt:68:9
 shared-slice-read-fields-ok : tie.Need-shared-slice-read-fields-ok
 shared-slice-read-fields-ok c = search needs
 
--- src/lib.rt:79:24
+-- src/lib.rt:69:11
 add-fields-ok : tie.Need-add-fields-ok
 add-fields-ok c = search needs
 
--- src/lib.rt:79:22
+-- src/lib.rt:69:9
 mul-fields-ok-2 : tie.Need-mul-fields-ok-2
 mul-fields-ok-2 c = search needs
 
--- src/lib.rt:79:22
+-- src/lib.rt:69:9
 shared-slice-read-fields-ok-2 : tie.Need-shared-slice-read-fields-ok-2
 shared-slice-read-fields-ok-2 c = search needs
 
--- src/lib.rt:79:35
+-- src/lib.rt:70:11
 add-fields-ok-2 : tie.Need-add-fields-ok-2
 add-fields-ok-2 c = search needs
 
--- src/lib.rt:79:33
+-- src/lib.rt:70:9
 mul-fields-ok-3 : tie.Need-mul-fields-ok-3
 mul-fields-ok-3 c = search needs
 
--- src/lib.rt:79:33
+-- src/lib.rt:70:9
 shared-slice-read-fields-ok-3 : tie.Need-shared-slice-read-fields-ok-3
 shared-slice-read-fields-ok-3 c = search needs
 
--- src/lib.rt:79:46
+-- src/lib.rt:71:11
 add-fields-ok-3 : tie.Need-add-fields-ok-3
 add-fields-ok-3 c = search needs
 
--- src/lib.rt:79:44
+-- src/lib.rt:71:9
 mul-fields-ok-4 : tie.Need-mul-fields-ok-4
 mul-fields-ok-4 c = search needs
 
--- src/lib.rt:79:44
+-- src/lib.rt:71:9
 shared-slice-read-fields-ok-4 : tie.Need-shared-slice-read-fields-ok-4
 shared-slice-read-fields-ok-4 c = search needs
 
--- src/lib.rt:79:57
+-- src/lib.rt:72:11
 add-fields-ok-4 : tie.Need-add-fields-ok-4
 add-fields-ok-4 c = search needs
 
--- src/lib.rt:79:55
+-- src/lib.rt:72:9
 mul-fields-ok-5 : tie.Need-mul-fields-ok-5
 mul-fields-ok-5 c = search needs
 
--- src/lib.rt:79:55
+-- src/lib.rt:72:9
 shared-slice-read-fields-ok-5 : tie.Need-shared-slice-read-fields-ok-5
 shared-slice-read-fields-ok-5 c = search needs
 
--- src/lib.rt:79:68
+-- src/lib.rt:73:11
 add-fields-ok-5 : tie.Need-add-fields-ok-5
 add-fields-ok-5 c = search needs
 
--- src/lib.rt:79:66
+-- src/lib.rt:73:9
 mul-fields-ok-6 : tie.Need-mul-fields-ok-6
 mul-fields-ok-6 c = search needs
 
--- src/lib.rt:79:66
+-- src/lib.rt:73:9
 shared-slice-read-fields-ok-6 : tie.Need-shared-slice-read-fields-ok-6
 shared-slice-read-fields-ok-6 c = search needs
 
--- src/lib.rt:79:79
+-- src/lib.rt:74:11
 add-fields-ok-6 : tie.Need-add-fields-ok-6
 add-fields-ok-6 c = search needs
 
--- src/lib.rt:79:77
+-- src/lib.rt:74:9
 mul-fields-ok-7 : tie.Need-mul-fields-ok-7
 mul-fields-ok-7 c = search needs
 
--- src/lib.rt:79:77
+-- src/lib.rt:74:9
 shared-slice-read-fields-ok-7 : tie.Need-shared-slice-read-fields-ok-7
 shared-slice-read-fields-ok-7 c = search needs
 
--- src/lib.rt:79:5
+-- src/lib.rt:67:5
 fields-ok-requires : tie.Need-fields-ok-requires
-fields-ok-requires c κs = tt
+fields-ok-requires c κs = search needs
 
--- src/lib.rt:71:1
-returns-2 : tie.Need-returns-2
-returns-2 c = fields-read (c .before .before .before .before .before .before .before .before .before .before .args .s .now) (c .before .before .before .before .before .before .before .before .before .before .args .sh) (c .before .before .before .before .before .before .before .before .before .before .args .first) (c .before .before .before .before .before .before .before .before .before .before .args .o) (c .before .before .before .before .before .before .before .before .before .before .pre .0) (c .before .before .before .before .before .before .before .before .before .before .pre .1) _ (c .fields-ok .ensures)
+-- src/lib.rt:61:1
+returns : tie.Need-returns
+returns c = fields-read (c .before .before .before .before .before .before .before .before .before .args .s .now) (c .before .before .before .before .before .before .before .before .before .args .sh) (c .before .before .before .before .before .before .before .before .before .args .first) (c .before .before .before .before .before .before .before .before .before .args .o) (c .before .before .before .before .before .before .before .before .before .pre .0 .0) (c .before .before .before .before .before .before .before .before .before .pre .0 .1) _ (c .fields-ok .ensures)
 
 pub object-ok-spec : {M : Type 1} → statement M
 object-ok-spec =
@@ -121,9 +108,6 @@ object-ok-spec =
     (tie.spec
     mul-at
     add-at
-    add-if1
-    fields-at-requires
-    returns
     mul-fields-ok
     shared-slice-read-fields-ok
     add-fields-ok
@@ -145,4 +129,4 @@ object-ok-spec =
     mul-fields-ok-7
     shared-slice-read-fields-ok-7
     fields-ok-requires
-    returns-2)
+    returns)

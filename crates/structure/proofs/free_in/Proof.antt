@@ -3,7 +3,7 @@ use Rattle.model.specs.Tests.{bit-small}
 use Rattle.structure.specs.Facts.{freeFrom}
 use mathlib.Core.Path.{_≡_, refl}
 use lib.Dec.{eqb}
-use Prim.Native.Nat.{ℕ, _-_, _≤_, _+_}
+use Prim.Native.Nat.{_-_, _≤_, _+_}
 use Rattle.layout.specs.Layout.{load, owner}
 use native.Mathlib.Omega.{arith}
 use Rattle.structure.specs.Code.{free-start, free-more, free-end}

@@ -2,7 +2,6 @@ use Rattle.structure.specs.Code.{table-bad, table-good, size-small}
 use borrow.Author.Tests.{not-true, not-false}
 use Rattle.layout.specs.Layout.{load}
 use native.Mathlib.Omega.{arith}
-use borrow.Author.Needs.{needs}
 use Rattle.structure.proofs.table_ok.Statement.{statement}
 use Rattle.structure.proofs.table_ok.Tie as tie
 use Rattle.structure.proofs.table_ok.Reads as reads

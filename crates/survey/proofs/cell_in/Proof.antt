@@ -1,10 +1,8 @@
 use Rattle.survey.specs.Code.{cell-place, cell-lent}
 use Rattle.layout.specs.Cells.{cell-read}
 use lib.ListN.{length}
-use Rattle.layout.specs.Layout.{load}
 use mathlib.Core.Path.{refl}
 use native.Mathlib.Omega.{arith}
-use borrow.Author.Needs.{needs}
 use Rattle.survey.proofs.cell_in.Statement.{statement}
 use Rattle.survey.proofs.cell_in.Tie as tie
 use Rattle.survey.proofs.cell_in.Reads as reads

@@ -1,5 +1,4 @@
 use native.Mathlib.Omega.{arith}
-use borrow.Author.Needs.{needs}
 use Rattle.wellformed.proofs.are_words.Statement.{statement}
 use Rattle.wellformed.proofs.are_words.Tie as tie
 use Rattle.wellformed.proofs.are_words.Reads as reads

@@ -23,7 +23,7 @@ returns c = (refl, too-short (c .before .before .before .args .s .now) (c .befor
 
 -- src/lib.rt:43:9
 check-parts-requires : tie.Need-check-parts-requires
-check-parts-requires c κs = tt
+check-parts-requires c κs = omega (arith, c .before .before .total-of .ensures)
 
 -- src/lib.rt:44:9
 same-length : tie.Need-same-length
@@ -35,7 +35,7 @@ returns-2 c = (refl, no-parts (c .before .before .before .before .before .before
 
 -- src/lib.rt:46:9
 walk-slots-requires : tie.Need-walk-slots-requires
-walk-slots-requires c κs = tt
+walk-slots-requires c κs = omega (arith, c .before .before .before .before .before .total-of .ensures)
 
 -- src/lib.rt:47:5
 note-rows-requires : tie.Need-note-rows-requires
@@ -43,7 +43,7 @@ note-rows-requires c κs = tt
 
 -- src/lib.rt:48:9
 settle-requires : tie.Need-settle-requires
-settle-requires c κs = tt
+settle-requires c κs = omega (arith, c .before .before .before .before .before .before .before .before .before .before .before .before .before .total-of .ensures)
 
 -- src/lib.rt:34:1
 same-length-2 : tie.Need-same-length-2

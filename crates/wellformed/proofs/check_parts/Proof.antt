@@ -1,7 +1,6 @@
 use Rattle.wellformed.specs.Code.{no-outline, no-orders, no-book, quiet-all}
 use borrow.Author.Tests.{not-true, not-false}
 use Rattle.layout.specs.Layout.{load}
-use borrow.Author.Needs.{needs}
 use Rattle.wellformed.proofs.check_parts.Statement.{statement}
 use Rattle.wellformed.proofs.check_parts.Tie as tie
 use Rattle.wellformed.proofs.check_parts.Reads as reads
@@ -37,7 +36,7 @@ returns-3 c = no-book (load (c .before .before .before .before .before .before .
 
 -- src/lib.rt:29:5
 check-objects-requires : tie.Need-check-objects-requires
-check-objects-requires c κs = tt
+check-objects-requires c κs = c .before .before .before .before .before .before .before .pre
 
 -- src/lib.rt:17:1
 returns-4 : tie.Need-returns-4
