@@ -2,11 +2,14 @@
 -- the model's answer. Assumes nothing.
 use mathlib.Core.Path.{_≡_, refl, sym, ap, _∙_}
 use mathlib.Core.List.{List, [], _∷_, _++_}
-use Prim.Native.Nat.{ℕ, suc, _+_}
+use Prim.Native.Nat.{ℕ, zero, suc, _+_, _-_}
 use native.Mathlib.Omega.{arith}
 use lib.ListN.{length, getD, set}
+use lib.Dec.{eqb}
+use borrow.Author.Tests.{ne-eqb}
+use Rattle.words.specs.Pick.{pick}
 use Rattle.model.specs.State.{till, State}
-use Rattle.model.specs.Request.{Request, Answer, Answer.refused}
+use Rattle.model.specs.Request.{Request, Answer, Answer.done}
 use Rattle.model.specs.Decision.{Decision.refusal, Decision.refusalAfterId, Decision.accept}
 use Rattle.model.specs.Book.{spendId}
 use Rattle.model.specs.Step.{decide, step}
@@ -30,6 +33,10 @@ answered os base vs = puts os base 0 vs
 -- a refusal: the number, and no word of the state changes
 abbrev pub refuseR : List ℕ → List ℕ → ℕ → ℕ → Both
 refuseR ws os base n = both ws (answered os base (n ∷ []))
+
+-- what f makes of the row of a link, which is its place plus 1; "unknown .. open row of the kind named": 18
+unfoldable pub onRowR : (ℕ → List ℕ) → List ℕ → List ℕ → ℕ → ℕ → Both
+onRowR f ws os base l = pick (eqb l 0) (refuseR ws os base 18) (both (f (l - 1)) (answered os base (0 ∷ [])))
 
 -- the words with one id spent: the next id, word 5 of the header, is one more
 unfoldable pub idSpent : List ℕ → List ℕ
@@ -67,13 +74,14 @@ module _ (os : List ℕ) (sh : Shape) (base : ℕ) (s : State) (r : Request) whe
   unfolding step
   does-accepted vs u a i e = record { state = rw e i; answers = rw e; kept = λ k q. absurd (accept-not u a k (sym e ∙ q)); spent = λ k q. absurd (accept-never u a k (sym e ∙ q)) }
 
--- ---- answers of many words
+  pub does-on-row : (ws : List ℕ) (f : ℕ → List ℕ) (l : ℕ) → Reps ws sh s → (l ≡ 0 → decide till s r ≡ refusal 18)
+      → ((x : ℕ) → l ≡ suc x → (u : State) × Reps (f x) sh u × (decide till s r ≡ accept u done)) → Does ws os sh base s r (onRowR f ws os base l)
+  unfolding onRowR usedWords
+  does-on-row ws f zero i none-there there = does-refused ws 18 i (none-there refl)
+  does-on-row ws f (suc x) i none-there there = let p = there x refl in let z : suc x - 1 ≡ x = omega arith in
+      rw (z, ne-eqb (suc x) 0 (λ q. omega arith)) (does-accepted (f x) (p .0) done (p .1) (p .2))
 
--- one word more at the end
-pub puts-more : (os : List ℕ) (base i : ℕ) (vs : List ℕ) (v : ℕ) → puts os base i (vs ++ (v ∷ [])) ≡ set (puts os base i vs) (base + (i + length vs)) v
-unfolding puts
-puts-more os base i [] v = ap (λ (k : ℕ). set os (base + k) v) (omega arith)
-puts-more os base i (x ∷ vs) v = puts-more (set os (base + i) x) base (suc i) vs v ∙ ap (λ (k : ℕ). set (puts (set os (base + i) x) base (suc i) vs) (base + k) v) (omega arith)
+-- ---- answers of many words
 
 -- words after words
 pub puts-append : (os : List ℕ) (base i : ℕ) (us vs : List ℕ) → puts os base i (us ++ vs) ≡ puts (puts os base i us) base (i + length us) vs

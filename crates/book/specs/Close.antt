@@ -1,7 +1,7 @@
 -- A row leaves: its place is the first out of use, the rows after it come one rank down, and no row moves. Assumes nothing.
 use mathlib.Core.Path.{_≡_, refl, sym, ap, _∙_}
 use mathlib.Core.Bool.{true}
-use mathlib.Core.Logic.{_⊎_, inl, inr, ⊎-elim}
+use mathlib.Core.Logic.{inl, inr, ⊎-elim}
 use mathlib.Core.List.{List, [], _∷_}
 use mathlib.Core.Option.{some}
 use Prim.Native.Nat.{ℕ, suc, _+_, _-_, _≤_, _<_}
@@ -17,9 +17,10 @@ use Rattle.layout.specs.declared.Shape.{Shape}
 use Rattle.layout.specs.Layout.{Mem, total, root, index, rank, row, item, load, in-root, in-index, in-rank, Write.at, upds, load-writes}
 use Rattle.representation.specs.Represents.{slotWord, isMarked, Represents}
 use Rattle.storage.specs.Order.{same?}
+use Rattle.storage.specs.Kept.{body-kept}
 use Rattle.storage.specs.Reps.{Held}
 use Rattle.book.specs.Lists.{nth-below, drop-before, drop-after, drop-one}
-use Rattle.book.specs.Places.{Indexed, rank-one, RowIs, row-of, rows-all, body-kept}
+use Rattle.book.specs.Places.{Indexed, rank-one, RowIs, row-of, rows-all}
 use Rattle.book.specs.Whole.{Books, books-then, books-writes, slot-kept, book-held}
 use Rattle.book.specs.Ops.{lastOf, shiftW, closeW}
 use Rattle.book.specs.Find.{Fits, RowAt, indexed}

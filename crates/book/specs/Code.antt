@@ -9,7 +9,20 @@ use Rattle.words.specs.Pick.{pick, yes-is, no-is}
 use Rattle.layout.specs.declared.Shape.{Shape}
 use Rattle.layout.specs.Layout.{Mem, root, index, rank, row, item, load, save}
 use Rattle.storage.specs.Ops.{up, vacateW}
-use Rattle.book.specs.Ops.{idAt, linkFrom, rowLink, spare, openP, openW, shiftW, closeW, vacateItemsW}
+use Rattle.book.specs.Ops.{idAt, linkFrom, rowLink, kindLink, spare, openP, openW, shiftW, closeW, vacateItemsW}
+
+-- the row of a kind with an id
+module _ (what : ℕ) (m : Mem) (sh : Shape) (i l x w : ℕ) (t : Bool) (e₁ : l ≡ rowLink m sh i) (e₂ : x ≡ l - 1) (e₃ : w ≡ m (row x 1)) (e₄ : t ≡ eqb w what) where
+  tested : eqb (m (row (rowLink m sh i - 1) 1)) what ≡ t
+  tested = rw (e₄, e₃, e₂, e₁)
+
+  pub kind-yes : t ≡ true → l ≡ kindLink what m sh i
+  unfolding kindLink
+  kind-yes y = yes-is _ _ _ _ (tested ∙ y) e₁
+
+  pub kind-no : t ≡ false → 0 ≡ kindLink what m sh i
+  unfolding kindLink
+  kind-no y = no-is _ _ _ _ (tested ∙ y) refl
 
 -- ---- `row_of`
 

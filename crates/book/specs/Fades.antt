@@ -2,9 +2,8 @@
 use mathlib.Core.Path.{_≡_, refl, sym, ap, _∙_}
 use mathlib.Core.Bool.{true, false}
 use mathlib.Core.List.{List}
-use Prim.Native.Nat.{ℕ, suc, _<_}
+use Prim.Native.Nat.{ℕ, _<_}
 use native.Mathlib.Omega.{arith}
-use lib.ListN.{length}
 use lib.Dec.{eqb}
 use borrow.Author.Tests.{eqb-true, eqb-false}
 use Rattle.words.specs.Pick.{bool, clash}
@@ -12,21 +11,20 @@ use Rattle.codec.specs.Codec.{nextGeneration}
 use Rattle.model.specs.State.{till, Handle, Slot, Slot.vacant, Slot.occupied, Table, Body, State, generation, isBusy}
 use Rattle.model.specs.Storage.{place, keep, vacate}
 use Rattle.model.specs.Change.{withTable}
-use Rattle.model.specs.Book.{addRow, dropRow, swapRow}
+use Rattle.model.specs.Book.{dropRow}
 use Rattle.model.specs.Tests.{put-other, put-same}
-use Rattle.invariant.specs.BookLemmas.{length-add, length-drop, length-swap, ids-add, ids-drop, ids-swap}
+use Rattle.invariant.specs.BookLemmas.{length-drop, ids-drop}
 use Rattle.invariant.specs.Pointwise.{place-slots, vacate-slots}
 use Rattle.layout.specs.declared.Shape.{Shape}
-use Rattle.layout.specs.Layout.{Mem, index, rank, row, item, load}
+use Rattle.layout.specs.Layout.{Mem, load}
 use Rattle.representation.specs.Represents.{slotWord, isMarked}
 use Rattle.representation.specs.Told.{marked-full}
 use Rattle.storage.specs.Sight.{OnlyTable}
 use Rattle.storage.specs.Ops.{vacateW, occupyW}
 use Rattle.storage.specs.Turns.{Turns, vacate-turns, occupy-turns}
-use Rattle.storage.specs.Whole.{off-table, other-slot}
+use Rattle.storage.specs.Whole.{table-rows, other-slot}
 use Rattle.storage.specs.Reps.{Held, ready-of}
-use Rattle.book.specs.Places.{body-kept}
-use Rattle.book.specs.Find.{Fits, RowAt}
+use Rattle.book.specs.Find.{Fits, RowAt, row-kept}
 use Rattle.book.specs.Ops.{closeW}
 use Rattle.book.specs.Close.{close-slots}
 use Rattle.book.specs.Marks.{NamedBy, Unnamed}
@@ -106,33 +104,12 @@ module _ (ws : List ℕ) (sh : Shape) (s : State) (h : Held ws sh s) (b : ℕ) (
 -- ---- rows through an operation on a table
 
 pub row-turned : (m n : Mem) (s : State) (b : ℕ) (u : Table) → OnlyTable b m n → (x i : ℕ) (y : Body) → RowAt m s x i y → RowAt n (withTable s b u) x i y
-row-turned m n s b u o x i y a =
-    let rk : n (rank x) ≡ m (rank x) = off-table b m n o 9 x 0 1 (λ e. omega arith) (λ e. omega arith) (λ e. omega arith) in
-    let ix : n (index (m (rank x))) ≡ m (index (m (rank x))) = off-table b m n o 9 (m (rank x)) 0 0 (λ e. omega arith) (λ e. omega arith) (λ e. omega arith) in
-    let rw′ : (f : ℕ) → n (row x f) ≡ m (row x f) = λ f. off-table b m n o 10 x 0 f (λ e. omega arith) (λ e. omega arith) (λ e. omega arith) in
-    let it : (j f : ℕ) → n (item x j f) ≡ m (item x j f) = λ j f. off-table b m n o 10 x (suc j) f (λ e. omega arith) (λ e. omega arith) (λ e. omega arith) in
-    record {
-      place = a .place;
-      used = rw rk (a .used);
-      named = rw rk (ix ∙ a .named);
-      listed = rw rk (a .listed);
-      id = rw′ 0 ∙ a .id;
-      body = body-kept m n x it rw′ y (a .body);
-    }
+row-turned m n s b u o = row-kept m n s (withTable s b u) refl (table-rows b m n o)
 
 -- ---- the book fits after each operation
 
 pub fits-table : (s : State) (b : ℕ) (u : Table) → Fits s → Fits (withTable s b u)
 fits-table s b u f = record { room = f .room; rise = f .rise }
 
-pub fits-add : (s : State) (y : Body) → Fits s → length (s .book .rows) < s .book .capacity → Fits (addRow y s)
-fits-add s y f l = record {
-  room = let e = length-add (s .book .rows) (record { id = s .book .next; body = y }) in omega arith;
-  rise = ids-add 1 (s .book .next) y (s .book .rows) (f .rise);
-}
-
 pub fits-drop : (s : State) (i : ℕ) → Fits s → Fits (dropRow i s)
 fits-drop s i f = record { room = let e = length-drop i (s .book .rows) in omega (arith, f .room); rise = ids-drop 1 (s .book .next) i (s .book .rows) (f .rise) }
-
-pub fits-swap : (s : State) (i : ℕ) (y : Body) → Fits s → Fits (swapRow i y s)
-fits-swap s i y f = record { room = let e = length-swap i y (s .book .rows) in omega (arith, f .room); rise = ids-swap 1 (s .book .next) i y (s .book .rows) (f .rise) }

@@ -5,7 +5,7 @@ use Prim.Native.Nat.{ℕ, zero, suc, _+_, _-_, _/_, _≤_, _<_}
 use native.Mathlib.Omega.{arith}
 use lib.ListN.{length}
 use lib.Dec.{eqb, ltb}
-use borrow.Author.Tests.{eqb-true, eqb-false, ltb-true, ltb-false}
+use borrow.Author.Tests.{eq-eqb, eqb-true, eqb-false, ltb-true, ltb-false}
 use Rattle.words.specs.Pick.{bool}
 use Rattle.model.specs.Base.{nth}
 use Rattle.model.specs.State.{till, Body, Row, State}
@@ -15,10 +15,11 @@ use Rattle.model.specs.Tests.{nth-some}
 use Rattle.layout.specs.declared.Shape.{Shape}
 use Rattle.layout.specs.Layout.{Mem, index, rank, row}
 use Rattle.representation.specs.Represents.{BodyIs, Represents}
+use Rattle.storage.specs.Kept.{body-kept, RowsStay}
 use Rattle.storage.specs.Ops.{up}
 use Rattle.book.specs.Lists.{ids-rise, find-nth, nth-find, nth-below}
 use Rattle.book.specs.Places.{Indexed, row-of}
-use Rattle.book.specs.Ops.{idAt, linkFrom, usedOf, rowLink}
+use Rattle.book.specs.Ops.{idAt, linkFrom, usedOf, rowLink, kindLink}
 
 -- the book of a well-formed state: its rows have places, and their ids rise
 pub record Fits (s : State) : Type 0 where
@@ -36,6 +37,17 @@ pub record RowAt (m : Mem) (s : State) (x i : ℕ) (b : Body) : Type 0 where
   pub listed : nth (s .book .rows) (m (rank x)) ≡ some (record { id = i; body = b })
   pub id : m (row x 0) ≡ i
   pub body : BodyIs m x b
+
+-- it does so where the rows stay
+pub row-kept : (m n : Mem) (s u : State) → u .book ≡ s .book → RowsStay m n → (x i : ℕ) (b : Body) → RowAt m s x i b → RowAt n u x i b
+row-kept m n s u e o x i b a = record {
+  place = rw e (a .place);
+  used = rw (o .ranks x, e) (a .used);
+  named = rw (o .ranks x) (o .places (m (rank x)) ∙ a .named);
+  listed = rw (o .ranks x, e) (a .listed);
+  id = o .rows x 0 ∙ a .id;
+  body = body-kept m n x (o .items x) (o .rows x) b (a .body);
+}
 
 pub indexed : (sh : Shape) (m : Mem) (s : State) → Represents sh m s → Indexed m (s .book .capacity)
 indexed sh m s r = record { named = r .book .places }
@@ -135,3 +147,26 @@ module _ (sh : Shape) (m : Mem) (s : State) (r : Represents sh m s) (f : Fits s)
       go (some b) d = let p = nth-find (s .book .rows) i b d in
           let a = row-at sh m s r f (p .0) i b (p .1) in
           absurd (link-none m i (usedOf m sh) 0 (usedOf m sh) (omega arith) rising e (p .0) (omega arith) (omega (arith, used-is sh m s r f, nth-below (s .book .rows) (p .0) (record { id = i; body = b }) (p .1))) (a .id))
+
+  -- no row of the kind: none with the id, or one that word 1 tells from it
+  pub kind-none : sh .rows ≤ 256 → (what i : ℕ) (P : Option Body → Type 0) → P none → ((x : ℕ) (b : Body) → BodyIs m x b → (m (row x 1) ≡ what → ⊥) → P (some b))
+      → kindLink what m sh i ≡ 0 → P (find i (s .book .rows))
+  unfolding kindLink
+  kind-none few what i P p q e = go (rowLink m sh i) refl e
+    where
+      go : (l : ℕ) → rowLink m sh i ≡ l → kindLink what m sh i ≡ 0 → P (find i (s .book .rows))
+      go zero z d = rw (row-none i z) p
+      go (suc x) z d =
+          let g = row-found few i x z in
+          let y : rowLink m sh i - 1 ≡ x = omega arith in
+          rw (g .1) (q x (g .0) (g .2 .body) (λ k. let n : rowLink m sh i ≡ 0 = rw (y, eq-eqb (m (row x 1)) what k) at d in omega arith))
+
+  -- the row of the kind
+  pub kind-some : sh .rows ≤ 256 → (what i x : ℕ) → kindLink what m sh i ≡ suc x → (b : Body) × (find i (s .book .rows) ≡ some b) × RowAt m s x i b × (m (row x 1) ≡ what)
+  unfolding kindLink
+  kind-some few what i x e = bool (eqb (m (row (rowLink m sh i - 1) 1)) what)
+      (λ q. let l : rowLink m sh i ≡ suc x = rw q at e in
+      let g = row-found few i x l in
+      let y : rowLink m sh i - 1 ≡ x = omega arith in
+      (g .0, g .1, g .2, ap (λ (v : ℕ). m (row v 1)) (sym y) ∙ eqb-true (m (row (rowLink m sh i - 1) 1)) what q))
+      (λ q. let l : 0 ≡ suc x = rw q at e in absurd (omega arith))

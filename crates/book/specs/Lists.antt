@@ -2,7 +2,7 @@
 use mathlib.Core.Path.{_≡_, refl, sym, ap, _∙_}
 use mathlib.Core.List.{List, [], _∷_, _++_}
 use mathlib.Core.Option.{none, some}
-use Prim.Native.Nat.{ℕ, zero, suc, _+_, _-_, _≤_, _<_}
+use Prim.Native.Nat.{ℕ, zero, suc, _+_, _≤_, _<_}
 use native.Mathlib.Omega.{arith}
 use lib.ListN.{length, take, drop}
 use lib.Dec.{eqb}
@@ -79,11 +79,6 @@ pub occurs-before : (n : ℕ) (l : List ℕ) (k : ℕ) → nth l n ≡ some k �
 occurs-before n [] k e h = nothing k e
 occurs-before zero (x ∷ l) k e h = refl
 occurs-before (suc n) (x ∷ l) k e h = omega (arith, occurs-before n l k e (omega arith), nth-occurs l n k e)
-
-pub occurs-take : (n : ℕ) (l : List ℕ) (k : ℕ) → occurs k (take n l) ≤ occurs k l
-occurs-take zero l k = omega arith
-occurs-take (suc n) [] k = omega arith
-occurs-take (suc n) (x ∷ l) k = omega (arith, occurs-take n l k)
 
 -- ---- rows by rising id
 

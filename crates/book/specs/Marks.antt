@@ -2,7 +2,7 @@
 use mathlib.Core.Path.{_≡_, refl, sym, ap, _∙_}
 use mathlib.Core.Bool.{Bool, true, false}
 use mathlib.Core.List.{List, [], _∷_}
-use mathlib.Core.Option.{none, some}
+use mathlib.Core.Option.{some}
 use Prim.Native.Nat.{ℕ, zero, suc, _-_, _%_, _≤_, _<_}
 use native.Mathlib.Omega.{arith}
 use borrow.Author.Tests.{eqb-true, eq-eqb}
@@ -10,10 +10,9 @@ use Rattle.words.specs.Pick.{clash}
 use Rattle.model.specs.Base.{bit, nth, occurs}
 use Rattle.model.specs.State.{Handle, Slot, Slot.absent, Slot.vacant, Slot.reserved, Slot.transferReserved, Slot.occupied, Entry, Entry.moved, Entry.copied, Body, Body.reservation, Body.claim, Body.parcel, State}
 use Rattle.model.specs.Book.{movedOf}
-use Rattle.model.specs.WellFormed.{Marks, isReservedBy, isMovingBy}
+use Rattle.model.specs.WellFormed.{Marks, isReservedBy}
 use Rattle.model.specs.Tests.{nth-some, some-same}
-use Rattle.model.specs.Counting.{bit-same}
-use Rattle.invariant.specs.Marks.{isBy, inRow, Marked, keys-reservation, keys-claim, owns, both-marks}
+use Rattle.invariant.specs.Marks.{isBy, inRow, Marked, keys-reservation, owns, both-marks}
 use Rattle.layout.specs.declared.Shape.{Shape}
 use Rattle.layout.specs.Layout.{Mem, cell, rank, row, item}
 use Rattle.representation.specs.Represents.{wordIn, frameOf, slotWord, tagged, slotFrom, isMarked, EntryIs, Represents}
@@ -120,19 +119,6 @@ moved-occurs (x ∷ es) zero k h g e = rw (some-same x (moved k h g) e) (occurs-
 moved-occurs (moved k′ h′ g′ ∷ es) (suc j) k h g e = omega (arith, moved-occurs es j k h g e)
 moved-occurs (copied h′ ∷ es) (suc j) k h g e = moved-occurs es j k h g e
 
--- a slot moved once is moved in one item
-moved-once : (es : List Entry) (i j k : ℕ) (h h′ : Handle) (g g′ : ℕ) → occurs k (movedOf es) ≤ 1 → nth es i ≡ some (moved k h g) → nth es j ≡ some (moved k h′ g′) → i ≡ j
-moved-once [] i j k h h′ g g′ o d e = nothing (moved k h g) d
-moved-once (x ∷ es) zero zero k h h′ g g′ o d e = refl
-moved-once (x ∷ es) zero (suc j) k h h′ g g′ o d e =
-    let o′ : occurs k (movedOf (moved k h g ∷ es)) ≤ 1 = rw (some-same x (moved k h g) d) at o in
-    absurd (omega (arith, bit-same k k refl, moved-occurs es j k h′ g′ e))
-moved-once (x ∷ es) (suc i) zero k h h′ g g′ o d e =
-    let o′ : occurs k (movedOf (moved k h′ g′ ∷ es)) ≤ 1 = rw (some-same x (moved k h′ g′) e) at o in
-    absurd (omega (arith, bit-same k k refl, moved-occurs es i k h g d))
-moved-once (moved k₁ h₁ g₁ ∷ es) (suc i) (suc j) k h h′ g g′ o d e = ap suc (moved-once es i j k h h′ g g′ (omega arith) d e)
-moved-once (copied h₁ ∷ es) (suc i) (suc j) k h h′ g g′ o d e = ap suc (moved-once es i j k h h′ g g′ o d e)
-
 -- item j of a claim moves slot k
 abbrev pub Moves : List Entry → ℕ → ℕ → Type 0
 Moves es k j = (h : Handle) × (g : ℕ) × (nth es j ≡ some (moved k h g))
@@ -191,18 +177,6 @@ module _ (sh : Shape) (m : Mem) (s : State) (r : Represents sh m s) (f : Fits s)
             let y = nth-some es (slotWord m d k 3) (omega (arith, g .0, a .body .2)) in
             let v = moves-is m x (slotWord m d k 3) k (y .0) (item-of (EntryIs m x) es (a .body .3) (slotWord m d k 3) (y .0) (y .1)) (g .3) (g .2) in
             (sym (g .1) ∙ a .body .1, (v .0, v .1, y .1 ∙ ap some (v .2)))
-
-    pub moving-once : (k : ℕ) → occurs k (movedOf es) ≤ 1
-    moving-once = owns (s .tables) (s .book .rows) (both-marks s w) false i b (movedOf es) (claim b es) (keys-claim b es) (at-find sh m s r f x i (claim b es) a) .once
-
-    pub moving-at : b < s .tableCount → (j k : ℕ) (h : Handle) (g : ℕ) → nth es j ≡ some (moved k h g)
-        → (isMovingBy i (s .tables b .slots k) ≡ true) × (slotWord m b k 0 ≡ 2) × (slotWord m b k 2 ≡ x) × (slotWord m b k 3 ≡ j)
-    moving-at l j k h g e =
-        let by : isBy false i (s .tables b .slots k) ≡ true
-        = owns (s .tables) (s .book .rows) (both-marks s w) false i b (movedOf es) (claim b es) (keys-claim b es) (at-find sh m s r f x i (claim b es) a) .on k (moved-occurs es j k h g e) in
-        let p = names sh m s r f (both-marks s w) x i (claim b es) a false b k l by in
-        let q = named-claim b k l (by-marked false i (s .tables b .slots k) by) (p .1) .1 in
-        (by, p .0, p .1, moved-once es (slotWord m b k 3) j k (q .0) h (q .1) g (moving-once k) (q .2) e)
 
   -- a parcel: no slot names it
   pub named-parcel : (hs : List Handle) → RowAt m s x i (parcel hs) → Unnamed m s x

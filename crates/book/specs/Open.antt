@@ -1,10 +1,10 @@
 -- A row opens: its words, then the count and the next id. Assumes nothing.
 use mathlib.Core.Path.{_≡_, refl, sym, ap, _∙_}
 use mathlib.Core.Bool.{and-false}
-use mathlib.Core.Logic.{_⊎_, inl, inr, ⊎-elim}
+use mathlib.Core.Logic.{inl, inr, ⊎-elim}
 use mathlib.Core.List.{List, [], _∷_}
 use mathlib.Core.Option.{some}
-use Prim.Native.Nat.{ℕ, suc, _+_, _-_, _^_, _<_}
+use Prim.Native.Nat.{ℕ, suc, _+_, _^_, _<_}
 use native.Mathlib.Omega.{arith}
 use lib.ListN.{length}
 use lib.Dec.{eqb}
@@ -18,9 +18,10 @@ use Rattle.layout.specs.Layout.{Addr, Mem, root, index, rank, row, item, load, 
 use Rattle.representation.specs.Represents.{slotWord, HandleIs, EntryIs, Items, BodyIs, Represents}
 use Rattle.storage.specs.Order.{same?}
 use Rattle.storage.specs.Ops.{up}
+use Rattle.storage.specs.Kept.{slots-kept, entries-kept, handles-kept, body-kept}
 use Rattle.storage.specs.Reps.{Held}
 use Rattle.book.specs.Lists.{nth-below, nth-one, nth-front, nth-last}
-use Rattle.book.specs.Places.{RowIs, row-of, rows-all, body-kept, items-kept, handle-kept, entry-kept}
+use Rattle.book.specs.Places.{RowIs, row-of, rows-all}
 use Rattle.book.specs.Whole.{Books, books-writes, books-save, slot-kept, book-held}
 use Rattle.book.specs.Ops.{spare, openP, openW, spendW}
 use Rattle.book.specs.Find.{RowAt}
@@ -34,10 +35,9 @@ Opens m x what b n (parcel hs) = (what ≡ 3) × (n ≡ length hs) × Items (Han
 
 opens-body : (m n : Mem) (x what b c : ℕ) (y : Body) → ((j f : ℕ) → n (item x j f) ≡ m (item x j f)) → n (row x 1) ≡ what → n (row x 2) ≡ b → n (row x 3) ≡ c
     → Opens m x what b c y → BodyIs n x y
-opens-body m n x what b c (reservation t ks) its e₁ e₂ e₃ p =
-    (e₁ ∙ p .0, e₂ ∙ p .1, e₃ ∙ p .2, items-kept m n x its (λ j k. m (item x j 0) ≡ k) (λ j k. n (item x j 0) ≡ k) (λ j k q. its j 0 ∙ q) 0 ks (p .3))
-opens-body m n x what b c (claim t es) its e₁ e₂ e₃ p = (e₁ ∙ p .0, e₂ ∙ p .1, e₃ ∙ p .2, items-kept m n x its (EntryIs m x) (EntryIs n x) (entry-kept m n x its) 0 es (p .3))
-opens-body m n x what b c (parcel hs) its e₁ e₂ e₃ p = (e₁ ∙ p .0, e₃ ∙ p .1, items-kept m n x its (HandleIs m x) (HandleIs n x) (handle-kept m n x its) 0 hs (p .2))
+opens-body m n x what b c (reservation t ks) its e₁ e₂ e₃ p = (e₁ ∙ p .0, e₂ ∙ p .1, e₃ ∙ p .2, slots-kept m n x its 0 ks (p .3))
+opens-body m n x what b c (claim t es) its e₁ e₂ e₃ p = (e₁ ∙ p .0, e₂ ∙ p .1, e₃ ∙ p .2, entries-kept m n x its 0 es (p .3))
+opens-body m n x what b c (parcel hs) its e₁ e₂ e₃ p = (e₁ ∙ p .0, e₃ ∙ p .1, handles-kept m n x its 0 hs (p .2))
 
 module _ (ws : List ℕ) (sh : Shape) (s : State) (h : Held ws sh s) (free : length (s .book .rows) < s .book .capacity) (what b c : ℕ) where
   abbrev x : ℕ
@@ -170,25 +170,6 @@ module _ (ws : List ℕ) (sh : Shape) (s : State) (h : Held ws sh s) (free : len
           id = row-0 ∙ r .book .next;
           body = opens-body (load ws sh) (load (openW ws sh what b c) sh) (spare (load ws sh)) what b c y (item-same (spare (load ws sh))) row-1 row-2 row-3 p;
         }
-
-    -- the others stand where they stood
-    pub open-other : (z i : ℕ) (q : Body) → RowAt (load ws sh) s z i q → RowAt (load (openW ws sh what b c) sh) (addRow y s) z i q
-    open-other z i q a =
-        let more : length (addRow y s .book .rows) ≡ suc (length (s .book .rows)) = length-add (s .book .rows) (record { id = s .book .next; body = y }) in
-        let ne = apart z (a .used) in
-        let e = rank-same z in
-        record {
-          place = a .place;
-          used = omega (arith, more, a .used);
-          named = rw e (index-same (load ws sh (rank z)) ∙ a .named);
-          listed = rw e (nth-front (s .book .rows) (record { id = s .book .next; body = y } ∷ []) (load ws sh (rank z)) (a .used) ∙ a .listed);
-          id = row-off z ne 0 ∙ a .id;
-          body = body-kept (load ws sh) (load (openW ws sh what b c) sh) z (item-same z) (row-off z ne) q (a .body);
-        }
-
-    -- slots keep their words
-    pub open-slots : (d k f : ℕ) → slotWord (load (openW ws sh what b c) sh) d k f ≡ slotWord (load ws sh) d k f
-    open-slots = slot-kept (load ws sh) (load (openW ws sh what b c) sh) (books .only)
 
 -- AN ID IS SPENT
 module _ (ws : List ℕ) (sh : Shape) (s : State) (h : Held ws sh s) where

@@ -30,6 +30,10 @@ usedOf m sh = min (m (root 6)) (sh .rows)
 unfoldable pub rowLink : Mem → Shape → ℕ → ℕ
 rowLink m sh id = linkFrom m id (usedOf m sh) 0 (usedOf m sh)
 
+-- if word 1 of that row says what it is; 1 is a reservation, 2 a claim, 3 a parcel
+unfoldable pub kindLink : ℕ → Mem → Shape → ℕ → ℕ
+kindLink what m sh id = pick (eqb (m (row (rowLink m sh id - 1) 1)) what) (rowLink m sh id) 0
+
 -- the place of the next row: that of the first rank out of use
 abbrev pub spare : Mem → ℕ
 spare m = m (index (m (root 6)))

@@ -1,20 +1,20 @@
 -- The places of the rows: the index names each place once, rows and items place by place. Assumes nothing.
 use mathlib.Core.Path.{_≡_, refl, sym, ap, _∙_}
-use mathlib.Core.Logic.{_⊎_, ⊎-elim}
+use mathlib.Core.Logic.{⊎-elim}
 use mathlib.Core.List.{List, [], _∷_}
 use mathlib.Core.Option.{some}
-use Prim.Native.Nat.{ℕ, zero, suc, _+_, _-_, _≤_, _<_}
+use Prim.Native.Nat.{ℕ, zero, suc, _+_, _≤_, _<_}
 use native.Mathlib.Omega.{arith}
 use lib.ListN.{length}
 use lib.Dec.{ltb}
 use borrow.Author.Tests.{ltb-true, ltb-false}
 use Rattle.words.specs.Pick.{bool}
 use Rattle.model.specs.Base.{nth, occurs}
-use Rattle.model.specs.State.{Handle, Entry, Entry.moved, Entry.copied, Body, Body.reservation, Body.claim, Body.parcel, Row}
+use Rattle.model.specs.State.{Row}
 use Rattle.model.specs.Counting.{bit-same, bit-other}
 use Rattle.model.specs.Tests.{some-same}
-use Rattle.layout.specs.Layout.{Mem, index, rank, row, item}
-use Rattle.representation.specs.Represents.{HandleIs, EntryIs, Items, BodyIs, RowsAre}
+use Rattle.layout.specs.Layout.{Mem, index, rank, row}
+use Rattle.representation.specs.Represents.{Items, BodyIs, RowsAre}
 use Rattle.storage.specs.Order.{same?, NoDup, length-below}
 use Rattle.book.specs.Lists.{nothing}
 
@@ -115,22 +115,3 @@ module _ {A : Type 0} (P : ℕ → A → Type 0) where
 
   pub items-all : (xs : List A) → ((j : ℕ) (x : A) → nth xs j ≡ some x → P j x) → Items P 0 xs
   items-all xs f = items-from 0 xs (λ j x e. let z : 0 + j ≡ j = omega arith in rw z (f j x e))
-
--- ---- one place keeps its row
-
-module _ (m n : Mem) (x : ℕ) (its : (j f : ℕ) → n (item x j f) ≡ m (item x j f)) where
-  pub items-kept : {A : Type 0} (P Q : ℕ → A → Type 0) → ((j : ℕ) (y : A) → P j y → Q j y) → (j : ℕ) (ys : List A) → Items P j ys → Items Q j ys
-  items-kept P Q f j [] p = tt
-  items-kept P Q f j (y ∷ ys) p = (f j y (p .0), items-kept P Q f (suc j) ys (p .1))
-
-  pub handle-kept : (j : ℕ) (h : Handle) → HandleIs m x j h → HandleIs n x j h
-  handle-kept j h p = (its j 2 ∙ p .0, its j 3 ∙ p .1, its j 4 ∙ p .2)
-
-  pub entry-kept : (j : ℕ) (e : Entry) → EntryIs m x j e → EntryIs n x j e
-  entry-kept j (moved k h r) p = (its j 0 ∙ p .0, its j 1 ∙ p .1, handle-kept j h (p .2), its j 5 ∙ p .3)
-  entry-kept j (copied h) p = (its j 0 ∙ p .0, handle-kept j h (p .1))
-
-  pub body-kept : ((f : ℕ) → n (row x f) ≡ m (row x f)) → (b : Body) → BodyIs m x b → BodyIs n x b
-  body-kept rws (reservation b ks) p = (rws 1 ∙ p .0, rws 2 ∙ p .1, rws 3 ∙ p .2, items-kept (λ j k. m (item x j 0) ≡ k) (λ j k. n (item x j 0) ≡ k) (λ j k q. its j 0 ∙ q) 0 ks (p .3))
-  body-kept rws (claim b es) p = (rws 1 ∙ p .0, rws 2 ∙ p .1, rws 3 ∙ p .2, items-kept (EntryIs m x) (EntryIs n x) entry-kept 0 es (p .3))
-  body-kept rws (parcel hs) p = (rws 1 ∙ p .0, rws 3 ∙ p .1, items-kept (HandleIs m x) (HandleIs n x) handle-kept 0 hs (p .2))

@@ -17,7 +17,7 @@ use Rattle.book.specs.Lists.{nth-below, nth-take}
 use Rattle.book.specs.Places.{item-of, items-all}
 use Rattle.book.specs.Ops.{shrinkW, Fills, fills-row}
 use Rattle.book.specs.Find.{Fits, RowAt}
-use Rattle.book.specs.Swap.{swap-held, swap-row}
+use Rattle.book.specs.Swap.{swap-held}
 
 module _ (ws : List ℕ) (sh : Shape) (s : State) (h : Held ws sh s) (f : Fits s) (x i b : ℕ) (ks : List ℕ) (a : RowAt (load ws sh) s x i (reservation b ks)) (n : ℕ) (few : n ≤ length ks) where
   fills : Fills ws (shrinkW ws sh x n) sh x
@@ -51,6 +51,3 @@ module _ (ws : List ℕ) (sh : Shape) (s : State) (h : Held ws sh s) (f : Fits s
         sees (item x (slotWord (load ws sh) d k 3) (slotWord (load ws sh) d k 0 - 1)) ∙ ap (λ (v : ℕ). load ws sh (item v (slotWord (load ws sh) d k 3) (slotWord (load ws sh) d k 0 - 1))) (sym e) ∙ w .4,
         λ y. sees (item x (slotWord (load ws sh) d k 3) 0) ∙ ap (λ (v : ℕ). load ws sh (item v (slotWord (load ws sh) d k 3) 0)) (sym e) ∙ w .5 y,
       ))
-
-  pub shrink-row : RowAt (load (shrinkW ws sh x n) sh) (swapRow i (reservation b (take n ks)) s) x i (reservation b (take n ks))
-  shrink-row = swap-row ws (shrinkW ws sh x n) sh s h x fills f i (reservation b ks) (reservation b (take n ks)) a (sees (row x 0) ∙ a .id) body

@@ -1,7 +1,7 @@
 -- Stores into one row: a row out of use keeps the state, and a row in use gets another body. Assumes nothing.
 use mathlib.Core.Path.{_≡_, refl, sym, ap, _∙_}
 use mathlib.Core.Bool.{true}
-use mathlib.Core.Logic.{_⊎_, ⊎-elim}
+use mathlib.Core.Logic.{⊎-elim}
 use mathlib.Core.List.{List}
 use mathlib.Core.Option.{some}
 use Prim.Native.Nat.{ℕ, suc, _-_, _<_}
@@ -15,10 +15,10 @@ use Rattle.layout.specs.declared.Shape.{Shape}
 use Rattle.layout.specs.Layout.{Mem, root, index, rank, row, item, load}
 use Rattle.representation.specs.Represents.{slotWord, BodyIs, isMarked, Represents}
 use Rattle.storage.specs.Order.{same?}
-use Rattle.storage.specs.Whole.{MarkIs}
+use Rattle.storage.specs.Kept.{body-kept}
 use Rattle.storage.specs.Reps.{Held}
 use Rattle.book.specs.Lists.{nth-below, nth-one, swap-at, swap-off}
-use Rattle.book.specs.Places.{RowIs, row-of, rows-all, body-kept}
+use Rattle.book.specs.Places.{RowIs, row-of, rows-all}
 use Rattle.book.specs.Whole.{Books, slot-kept, book-held}
 use Rattle.book.specs.Ops.{spare, Fills}
 use Rattle.book.specs.Find.{Fits, RowAt}
@@ -141,14 +141,3 @@ module _ (ws ws′ : List ℕ) (sh : Shape) (s : State) (h : Held ws sh s) (x : 
               mark-off d k (slotWord (load ws sh) d k 0) (slotWord (load ws sh) d k 2) (slotWord (load ws sh) d k 3) (length (s .book .rows)) z w)
               (same? (slotWord (load ws sh) d k 2) x)));
         })
-
-    -- it stands where it stood
-    pub swap-row : RowAt (load ws′ sh) (swapRow i c s) x i c
-    swap-row = record {
-      place = a .place;
-      used = rw (rank-same x, length-swap i c (s .book .rows)) (a .used);
-      named = rw (rank-same x) (index-same (load ws sh (rank x)) ∙ a .named);
-      listed = rw (rank-same x) (swap-at i b c 1 (s .book .next) (s .book .rows) (load ws sh (rank x)) (f .rise) (a .listed));
-      id = id;
-      body = body;
-    }

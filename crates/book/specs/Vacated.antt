@@ -3,28 +3,28 @@ use mathlib.Core.Path.{_≡_, refl, sym, ap, _∙_, fun-ext, subst}
 use mathlib.Core.Bool.{true}
 use mathlib.Core.List.{List, [], _∷_, _++_}
 use mathlib.Core.Option.{some}
-use Prim.Native.Nat.{ℕ, zero, suc, _+_, _-_, _≤_, _<_}
+use Prim.Native.Nat.{ℕ, zero, suc, _+_, _≤_, _<_}
 use native.Mathlib.Omega.{arith}
 use lib.ListN.{length, take, drop}
 use lib.Dec.{eqb}
 use borrow.Author.Tests.{eq-eqb, eqb-true}
 use Rattle.words.specs.Pick.{bool}
 use Rattle.model.specs.Base.{put, nth, occurs}
-use Rattle.model.specs.State.{till, Handle, Slot.occupied, Table, Body, Body.reservation, State, isBusy}
-use Rattle.model.specs.Storage.{keep, vacate, vacateAll}
+use Rattle.model.specs.State.{till, Table, Body, Body.reservation, State, isBusy}
+use Rattle.model.specs.Storage.{vacate, vacateAll}
 use Rattle.model.specs.Change.{withTable}
 use Rattle.model.specs.Tests.{nth-some, put-put}
 use Rattle.invariant.specs.Pointwise.{vacateAll-out}
 use Rattle.layout.specs.declared.Shape.{Shape}
 use Rattle.layout.specs.Layout.{Mem, item, load}
-use Rattle.storage.specs.Ops.{vacateW, occupyW}
-use Rattle.storage.specs.Turns.{vacate-turns, occupy-turns}
-use Rattle.storage.specs.Reps.{Held, ready-of, vacate-held, occupy-held}
+use Rattle.storage.specs.Ops.{vacateW}
+use Rattle.storage.specs.Turns.{vacate-turns}
+use Rattle.storage.specs.Reps.{Held, ready-of, vacate-held}
 use Rattle.book.specs.Lists.{nth-drop, take-more, occurs-drop, occurs-before}
 use Rattle.book.specs.Places.{item-of}
 use Rattle.book.specs.Ops.{vacateItemsW}
 use Rattle.book.specs.Find.{RowAt}
-use Rattle.book.specs.Fades.{Fades, fades-none, fades-then, vacate-fades, occupy-fades, row-turned}
+use Rattle.book.specs.Fades.{Fades, fades-none, fades-then, vacate-fades, row-turned}
 
 -- a table put where it stands, and one put over another
 put-own : (f : ℕ → Table) (b : ℕ) → put f b (f b) ≡ f
@@ -58,16 +58,6 @@ module _ (m : Mem) (u : State) (ws : List ℕ) (sh : Shape) (s : State) (x i : �
     fades = fades-then m u (load ws sh) s (load (vacateW ws sh b k) sh) (withTable s b (vacate till (s .tables b) k)) (p .fades) (vacate-fades ws sh s (p .held) b l k was);
   }
 
-  occupy-one : (h : Handle) → Follows m u ws sh s x i y → b < s .tableCount → isBusy (s .tables b .slots k) ≡ true
-      → Follows m u (occupyW ws sh b k (h .object) (h .rights) (h .flags)) sh (withTable s b (keep till (λ g. occupied g h) (s .tables b) k)) x i y
-  occupy-one h p l was = let ws′ : List ℕ = occupyW ws sh b k (h .object) (h .rights) (h .flags) in
-      record {
-        held = occupy-held ws sh s (p .held) b l k h was;
-        row = row-turned (load ws sh) (load ws′ sh) s b (keep till (λ g. occupied g h) (s .tables b) k)
-            (occupy-turns ws sh b (s .tables b) (ready-of ws sh s (p .held) b l) k was (h .object) (h .rights) (h .flags) .only) x i y (p .row);
-        fades = fades-then m u (load ws sh) s (load ws′ sh) (withTable s b (keep till (λ g. occupied g h) (s .tables b) k)) (p .fades) (occupy-fades ws sh s (p .held) b l k was h);
-      }
-
 -- the same, by the table as it is then
 module _ (m : Mem) (u : State) (ws : List ℕ) (sh : Shape) (s : State) (x i : ℕ) (y : Body) (b : ℕ) (t : Table) (p : Follows m u ws sh (withTable s b t) x i y) (l : b < s .tableCount) (k : ℕ)
     (was : isBusy (t .slots k) ≡ true) where
@@ -79,12 +69,6 @@ module _ (m : Mem) (u : State) (ws : List ℕ) (sh : Shape) (s : State) (x i : �
       subst (λ (v : State). Follows m u (vacateW ws sh b k) sh v x i y) (with-over s b t (vacate till t k))
       (subst (λ (v : Table). Follows m u (vacateW ws sh b k) sh (withTable (withTable s b t) b (vacate till v k)) x i y) (with-table-at s b t)
       (vacate-one m u ws sh (withTable s b t) x i y b k p l then-busy))
-
-  pub occupy-step : (h : Handle) → Follows m u (occupyW ws sh b k (h .object) (h .rights) (h .flags)) sh (withTable s b (keep till (λ g. occupied g h) t k)) x i y
-  occupy-step h =
-      subst (λ (v : State). Follows m u (occupyW ws sh b k (h .object) (h .rights) (h .flags)) sh v x i y) (with-over s b t (keep till (λ g. occupied g h) t k))
-      (subst (λ (v : Table). Follows m u (occupyW ws sh b k (h .object) (h .rights) (h .flags)) sh (withTable (withTable s b t) b (keep till (λ g. occupied g h) v k)) x i y) (with-table-at s b t)
-      (occupy-one m u ws sh (withTable s b t) x i y b k h p l then-busy))
 
 -- n of the slots from a position on
 abbrev pub part : ℕ → ℕ → List ℕ → List ℕ

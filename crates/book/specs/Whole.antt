@@ -1,29 +1,25 @@
 -- An operation on the book, in the state: tables, frames and objects are as they were. Assumes nothing.
-use mathlib.Core.Path.{_≡_, refl, sym, ap, _∙_, fun-ext}
-use mathlib.Core.Bool.{true, and-false}
+use mathlib.Core.Path.{_≡_, refl, sym, _∙_}
+use mathlib.Core.Bool.{and-false}
 use mathlib.Core.Logic.{_⊎_, ⊎-elim}
 use mathlib.Core.List.{List, [], _∷_}
-use Prim.Native.Nat.{ℕ, zero, suc, _+_, _-_, _/_, _%_, _≤_, _<_}
+use Prim.Native.Nat.{ℕ, _+_, _≤_, _<_}
 use native.Mathlib.Omega.{arith}
 use lib.ListN.{length}
 use Rattle.words.specs.Pick.{bool}
-use Rattle.model.specs.State.{Slot.reserved, Slot.transferReserved, Table, Book, State}
+use Rattle.model.specs.State.{Book, State}
 use Rattle.model.specs.Change.{withBook}
 use Rattle.layout.specs.declared.Shape.{Shape}
-use Rattle.layout.specs.Layout.{Addr, Addr.reg, Mem, total, root, head, entry, owner, cell, object, row, load, save, same, same-is, isIn, length-save, load-save-any, Write, Write.at, writes}
-use Rattle.representation.specs.Represents.{wordIn, frameOf, slotWord, tagged, slotFrom, TableIs, FramesAre, ObjectIs, isMarked, BookIs, Represents}
-use Rattle.storage.specs.Sight.{Spot, Spot.hd, Spot.pg, Spot.sl, look}
-use Rattle.storage.specs.Slots.{Seen, see}
+use Rattle.layout.specs.ShapeOf.{roots-kept}
+use Rattle.layout.specs.Layout.{Addr, Addr.reg, Mem, total, root, head, entry, load, save, same, same-is, isIn, length-save, load-save-any, Write, Write.at, writes}
+use Rattle.representation.specs.Represents.{entryAt, slotWord, BookIs, Represents}
+use Rattle.storage.specs.Kept.{Stays, all-stay, SameIds, slot-kept as words-kept, table-kept, PoolSame, frames-kept, object-kept}
 use Rattle.storage.specs.Reps.{Held}
 
 -- only the book: the next id, the count of rows, the index and the rows may differ
 pub record OnlyBook (m n : Mem) : Type 0 where
   pub roots : (f : ℕ) → (f ≡ 5 → ⊥) → (f ≡ 6 → ⊥) → n (root f) ≡ m (root f)
   pub other : (k x y f : ℕ) → (k ≡ 0 → ⊥) → (k ≡ 9 → ⊥) → (k ≡ 10 → ⊥) → n (reg k x y f) ≡ m (reg k x y f)
-
--- the rows that the marks of table b name have the ids that they had
-abbrev pub SameIds : Mem → Mem → ℕ → Table → Type 0
-SameIds m n b t = (k : ℕ) → isMarked (t .slots k) ≡ true → n (row (slotWord m b k 2) 0) ≡ m (row (slotWord m b k 2) 0)
 
 module _ (m n : Mem) (o : OnlyBook m n) where
   off-head : (b f : ℕ) → n (head b f) ≡ m (head b f)
@@ -32,88 +28,19 @@ module _ (m n : Mem) (o : OnlyBook m n) where
   off-entry : (e f : ℕ) → n (entry e f) ≡ m (entry e f)
   off-entry e f = o .other 2 e 0 f (λ e. omega arith) (λ e. omega arith) (λ e. omega arith)
 
-  off-owner : (f : ℕ) → n (owner f) ≡ m (owner f)
-  off-owner f = o .other 3 f 0 0 (λ e. omega arith) (λ e. omega arith) (λ e. omega arith)
+  book-stays : (b : ℕ) → Stays m n b
+  book-stays = all-stay m n off-head off-entry (λ fr j f. o .other 7 fr j f (λ e. omega arith) (λ e. omega arith) (λ e. omega arith))
 
-  off-cell : (fr j f : ℕ) → n (cell fr j f) ≡ m (cell fr j f)
-  off-cell fr j f = o .other 7 fr j f (λ e. omega arith) (λ e. omega arith) (λ e. omega arith)
-
-  off-object : (x f : ℕ) → n (object x f) ≡ m (object x f)
-  off-object x f = o .other 8 x 0 f (λ e. omega arith) (λ e. omega arith) (λ e. omega arith)
-
-  off-frame : (b k : ℕ) → frameOf n b k ≡ frameOf m b k
-  off-frame b k = rw (off-head b 5, off-head b 10, off-entry (m (head b 10) + k / 64) 0)
-
-  off-word : (fr j f : ℕ) → wordIn n fr j f ≡ wordIn m fr j f
-  off-word zero j f = refl
-  off-word (suc fr) j f = off-cell fr j f
+  book-pool : PoolSame m n
+  book-pool = record {
+    owners = λ g. o .other 3 g 0 0 (λ e. omega arith) (λ e. omega arith) (λ e. omega arith);
+    groups = λ i l g. o .other (4 + i) g 0 0 (λ e. omega arith) (λ e. omega arith) (λ e. omega arith);
+    count = o .roots 7 (λ e. omega arith) (λ e. omega arith);
+  }
 
   -- slots keep their words
   pub slot-kept : (b k f : ℕ) → slotWord n b k f ≡ slotWord m b k f
-  slot-kept b k f = ap (λ (fr : ℕ). wordIn n fr (k % 64) f) (off-frame b k) ∙ off-word (frameOf m b k) (k % 64) f
-
-  look-kept : (b : ℕ) (p : Spot) → look n b p ≡ look m b p
-  unfolding look
-  look-kept b (hd f) = off-head b f
-  look-kept b (pg p f) = ap (λ (e : ℕ). n (entry (e + p) f)) (off-head b 10) ∙ off-entry (m (head b 10) + p) f
-  look-kept b (sl k f) = slot-kept b k f
-
-  -- a slot is as it was, if the row that its mark names has the id that it had
-  tagged-kept : (t g x y w : ℕ) → (isMarked (tagged m t g x y w) ≡ true → n (row x 0) ≡ m (row x 0)) → tagged n t g x y w ≡ tagged m t g x y w
-  tagged-kept zero g x y w e = refl
-  tagged-kept (suc zero) g x y w e = ap (reserved g) (e refl)
-  tagged-kept (suc (suc zero)) g x y w e = ap (transferReserved g) (e refl)
-  tagged-kept (suc (suc (suc zero))) g x y w e = refl
-  tagged-kept (suc (suc (suc (suc t)))) g x y w e = refl
-
-  from-kept : (fr j : ℕ) → (isMarked (slotFrom m fr j) ≡ true → n (row (wordIn m fr j 2) 0) ≡ m (row (wordIn m fr j 2) 0)) → slotFrom n fr j ≡ slotFrom m fr j
-  from-kept zero j e = refl
-  from-kept (suc fr) j e =
-      rw (off-cell fr j 0, off-cell fr j 1, off-cell fr j 2, off-cell fr j 3, off-cell fr j 4)
-      (tagged-kept (m (cell fr j 0)) (m (cell fr j 1)) (m (cell fr j 2)) (m (cell fr j 3)) (m (cell fr j 4)) e)
-
-  table-kept : (b : ℕ) (t : Table) → TableIs m b t → SameIds m n b t → TableIs n b t
-  unfolding look
-  table-kept b t i ids =
-      let z : Seen m (look n b) t = rw (fun-ext (look-kept b)) (see m b t i) in
-      record {
-        limit = z .limit;
-        mask = z .mask;
-        life = z .life;
-        epoch = z .epoch;
-        size = z .size;
-        frame = z .frame;
-        high = z .high;
-        busy = z .busy;
-        slots = λ k. ap (λ (fr : ℕ). slotFrom n fr (k % 64)) (off-frame b k)
-            ∙ from-kept (frameOf m b k) (k % 64) (λ e. ids k (sym (ap isMarked (i .slots k)) ∙ e)) ∙ i .slots k;
-        free = z .free;
-        freeCount = z .freeCount;
-        empty = z .empty;
-        detached = z .detached;
-      }
-
-  frames-kept : (s : State) (k : Book) → FramesAre m s → FramesAre n (withBook s k)
-  frames-kept s k q = record {
-    held = λ c p f l h e. off-owner f ∙ q .held c p f l h e ∙ ap (λ (x : ℕ). suc (x + p)) (sym (off-head c 10));
-    free = λ f h. off-owner f ∙ q .free f h;
-    sixteens = λ g h. o .other 4 g 0 0 (λ e. omega arith) (λ e. omega arith) (λ e. omega arith) ∙ q .sixteens g h;
-    hundreds = λ g h. o .other 5 g 0 0 (λ e. omega arith) (λ e. omega arith) (λ e. omega arith) ∙ q .hundreds g h;
-    thousands = λ g h. o .other 6 g 0 0 (λ e. omega arith) (λ e. omega arith) (λ e. omega arith) ∙ q .thousands g h;
-    count = o .roots 7 (λ e. omega arith) (λ e. omega arith) ∙ q .count;
-  }
-
-  object-kept : (s : State) (x : ℕ) → ObjectIs m x (s .objects x) → ObjectIs n x (s .objects x)
-  object-kept s x q = record {
-    koid = off-object x 0 ∙ q .koid;
-    kind = off-object x 1 ∙ q .kind;
-    class = off-object x 2 ∙ q .class;
-    supported = off-object x 3 ∙ q .supported;
-    exportable = off-object x 4 ∙ q .exportable;
-    stage = off-object x 5 ∙ q .stage;
-    count = off-object x 6 ∙ q .count;
-    limit = off-object x 7 ∙ q .limit;
-  }
+  slot-kept b = words-kept m n b (book-stays b)
 
   -- THE STATE WITH THE BOOK
   pub with-book : (sh : Shape) (s : State) (k : Book) → Represents sh m s → k .capacity ≡ s .book .capacity → ((b : ℕ) → b < s .tableCount → SameIds m n b (s .tables b))
@@ -125,9 +52,9 @@ module _ (m n : Mem) (o : OnlyBook m n) where
     capacity = r .capacity ∙ sym c;
     pageCount = r .pageCount;
     first = λ b l. off-head b 10 ∙ r .first b l;
-    tables = λ b l. table-kept b (s .tables b) (r .tables b l) (ids b l);
-    frames = frames-kept s k (r .frames);
-    objects = λ x l. object-kept s x (r .objects x l);
+    tables = λ b l. table-kept m n b (book-stays b) (s .tables b) (r .tables b l) (ids b l) (λ p f h. off-entry (entryAt m b p) f) (λ p f h. off-entry (entryAt m b p) f);
+    frames = frames-kept m n s (withBook s k) book-pool (λ c. off-head c 10) refl refl (λ c p f l h e. (l, h, e)) (r .frames);
+    objects = λ x l. object-kept m n x (s .objects x) (λ f. o .other 8 x 0 f (λ e. omega arith) (λ e. omega arith) (λ e. omega arith)) (r .objects x l);
     book = book;
   }
 
@@ -185,17 +112,10 @@ pub book-held : (ws ws′ : List ℕ) (sh : Shape) (s : State) (k : Book) → He
     → ((b : ℕ) → b < s .tableCount → SameIds (load ws sh) (load ws′ sh) b (s .tables b)) → BookIs (load ws′ sh) (withBook s k) → Held ws′ sh (withBook s k)
 book-held ws ws′ sh s k h w c ids book = record {
   reps = record {
-    shaped = let q = h .reps .shaped in let e = w .only .roots in record {
+    shaped = let q = h .reps .shaped in record {
       limits = q .limits;
       room = omega (arith, w .long, q .room);
-      roots = record {
-        version = e 0 (λ z. omega arith) (λ z. omega arith) ∙ q .roots .version;
-        tables = e 1 (λ z. omega arith) (λ z. omega arith) ∙ q .roots .tables;
-        frames = e 2 (λ z. omega arith) (λ z. omega arith) ∙ q .roots .frames;
-        objects = e 3 (λ z. omega arith) (λ z. omega arith) ∙ q .roots .objects;
-        rows = e 4 (λ z. omega arith) (λ z. omega arith) ∙ q .roots .rows;
-        pages = e 8 (λ z. omega arith) (λ z. omega arith) ∙ q .roots .pages;
-      };
+      roots = roots-kept sh (load ws sh) (load ws′ sh) (λ f i. w .only .roots f (λ e. i (omega arith) (omega arith)) (λ e. i (omega arith) (omega arith))) (q .roots);
     };
     memory = with-book (load ws sh) (load ws′ sh) (w .only) sh s k (h .reps .memory) c ids book;
   };

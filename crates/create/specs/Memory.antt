@@ -10,7 +10,7 @@ use Rattle.words.specs.Pick.{pick, bool}
 use Rattle.words.specs.Words.{get-past, get-put, get-other}
 use Rattle.codec.specs.Codec.{maskOf}
 use Rattle.layout.specs.declared.Shape.{Shape}
-use Rattle.layout.specs.Layout.{Addr, Mem, total, root, head, owner, group, object, index, rank, load, place, place-low, isIn, in-is, load-out, writes, upds, length-writes, load-writes, writes-past}
+use Rattle.layout.specs.Layout.{Addr, Mem, total, root, head, owner, group, object, index, rank, load, place, place-low, isIn, in-is, load-out, Write, writes, upds, length-writes, load-writes, writes-past}
 use Rattle.layout.specs.Layout.{in-root, in-head, in-object, in-index, in-rank}
 use Rattle.layout.specs.Turns.{hit, length-turns, load-turns, miss, turns, turns-past, turnsM}
 use Rattle.create.specs.Parameters.{tableFrom, objectOf, pageSum}
@@ -52,6 +52,10 @@ here i v w = rw (eq-eqb i i refl)
 
 pub there : (i j v w : ℕ) → (i ≡ j → ⊥) → pick (eqb i j) v w ≡ w
 there i j v w h = rw (ne-eqb i j h)
+
+-- of turns of which each stores its own at an address of its number
+own : (m : Mem) (plan : ℕ → List Write) (a : Addr) (v : ℕ → ℕ) (i : ℕ) → ((j : ℕ) (k : Mem) → upds k (plan j) a ≡ pick (eqb i j) (v j) (k a)) → (n : ℕ) → i < n → turnsM m plan n a ≡ v i
+own m plan a v i e n h = hit m plan a i (v i) (λ k. e i k ∙ here i (v i) (k a)) (λ j k d. e j k ∙ there i j (v j) (k a) d) n h
 
 -- ---- the memory of a new state
 
@@ -153,16 +157,13 @@ module _ (ps : List ℕ) (sh : Shape) where
       ∙ miss mHeads (objectP ps (sh .tables)) (head b f) (λ i k. refl) (sh .objects)
 
   pub new-limit : (b : ℕ) → b < sh .tables → mNew (head b 0) ≡ tableFrom ps b .pages
-  new-limit b h = new-head b 0 ∙ hit mRoot (headP ps) (head b 0) b (tableFrom ps b .pages)
-      (λ k. here b (tableFrom ps b .pages) (k (head b 0))) (λ j k d. there b j (tableFrom ps j .pages) (k (head b 0)) d) (sh .tables) h
+  new-limit b h = new-head b 0 ∙ own mRoot (headP ps) (head b 0) (λ j. tableFrom ps j .pages) b (λ j k. refl) (sh .tables) h
 
   pub new-mask : (b : ℕ) → b < sh .tables → mNew (head b 1) ≡ maskOf (tableFrom ps b .seed)
-  new-mask b h = new-head b 1 ∙ hit mRoot (headP ps) (head b 1) b (maskOf (tableFrom ps b .seed))
-      (λ k. here b (maskOf (tableFrom ps b .seed)) (k (head b 1))) (λ j k d. there b j (maskOf (tableFrom ps j .seed)) (k (head b 1)) d) (sh .tables) h
+  new-mask b h = new-head b 1 ∙ own mRoot (headP ps) (head b 1) (λ j. maskOf (tableFrom ps j .seed)) b (λ j k. refl) (sh .tables) h
 
   pub new-first : (b : ℕ) → b < sh .tables → mNew (head b 10) ≡ pageSum ps b
-  new-first b h = new-head b 10 ∙ hit mRoot (headP ps) (head b 10) b (pageSum ps b)
-      (λ k. here b (pageSum ps b) (k (head b 10))) (λ j k d. there b j (pageSum ps j) (k (head b 10)) d) (sh .tables) h
+  new-first b h = new-head b 10 ∙ own mRoot (headP ps) (head b 10) (λ j. pageSum ps j) b (λ j k. refl) (sh .tables) h
 
   -- the other fields of a head
   pub new-life : (b : ℕ) → mNew (head b 2) ≡ 0
@@ -196,20 +197,15 @@ module _ (ps : List ℕ) (sh : Shape) where
   new-sixteen g h =
       offPlaces (group 0 g) (λ i k. refl) ∙ miss mHundreds (groupP sh 6 4096) (group 0 g) (λ i k. refl) ((sh .frames + 4095) / 4096)
       ∙ miss mSixteens (groupP sh 5 256) (group 0 g) (λ i k. refl) ((sh .frames + 255) / 256)
-      ∙ hit mObjects (groupP sh 4 16) (group 0 g) g (min 16 (sh .frames - g * 16)) (λ k. here g (min 16 (sh .frames - g * 16)) (k (group 0 g)))
-      (λ j k d. there g j (min 16 (sh .frames - j * 16)) (k (group 0 g)) d) ((sh .frames + 15) / 16) h
+      ∙ own mObjects (groupP sh 4 16) (group 0 g) (λ j. min 16 (sh .frames - j * 16)) g (λ j k. refl) ((sh .frames + 15) / 16) h
 
   pub new-hundred : (g : ℕ) → g < (sh .frames + 255) / 256 → mNew (group 1 g) ≡ min 256 (sh .frames - g * 256)
   new-hundred g h =
       offPlaces (group 1 g) (λ i k. refl) ∙ miss mHundreds (groupP sh 6 4096) (group 1 g) (λ i k. refl) ((sh .frames + 4095) / 4096)
-      ∙ hit mSixteens (groupP sh 5 256) (group 1 g) g (min 256 (sh .frames - g * 256)) (λ k. here g (min 256 (sh .frames - g * 256)) (k (group 1 g)))
-      (λ j k d. there g j (min 256 (sh .frames - j * 256)) (k (group 1 g)) d) ((sh .frames + 255) / 256) h
+      ∙ own mSixteens (groupP sh 5 256) (group 1 g) (λ j. min 256 (sh .frames - j * 256)) g (λ j k. refl) ((sh .frames + 255) / 256) h
 
   pub new-thousand : (g : ℕ) → g < (sh .frames + 4095) / 4096 → mNew (group 2 g) ≡ min 4096 (sh .frames - g * 4096)
-  new-thousand g h =
-      offPlaces (group 2 g) (λ i k. refl)
-      ∙ hit mHundreds (groupP sh 6 4096) (group 2 g) g (min 4096 (sh .frames - g * 4096)) (λ k. here g (min 4096 (sh .frames - g * 4096)) (k (group 2 g)))
-      (λ j k d. there g j (min 4096 (sh .frames - j * 4096)) (k (group 2 g)) d) ((sh .frames + 4095) / 4096) h
+  new-thousand g h = offPlaces (group 2 g) (λ i k. refl) ∙ own mHundreds (groupP sh 6 4096) (group 2 g) (λ j. min 4096 (sh .frames - j * 4096)) g (λ j k. refl) ((sh .frames + 4095) / 4096) h
 
   -- objects
   new-object : (o f : ℕ) → mNew (object o f) ≡ mObjects (object o f)
@@ -217,28 +213,22 @@ module _ (ps : List ℕ) (sh : Shape) where
 
   module _ (o : ℕ) (h : o < sh .objects) where
     pub new-koid : mNew (object o 0) ≡ objectOf ps (sh .tables) o .koid
-    new-koid = new-object o 0 ∙ hit mHeads (objectP ps (sh .tables)) (object o 0) o (objectOf ps (sh .tables) o .koid)
-        (λ k. here o (objectOf ps (sh .tables) o .koid) (k (object o 0))) (λ j k d. there o j (objectOf ps (sh .tables) j .koid) (k (object o 0)) d) (sh .objects) h
+    new-koid = new-object o 0 ∙ own mHeads (objectP ps (sh .tables)) (object o 0) (λ j. objectOf ps (sh .tables) j .koid) o (λ j k. refl) (sh .objects) h
 
     pub new-kind : mNew (object o 1) ≡ objectOf ps (sh .tables) o .kind
-    new-kind = new-object o 1 ∙ hit mHeads (objectP ps (sh .tables)) (object o 1) o (objectOf ps (sh .tables) o .kind)
-        (λ k. here o (objectOf ps (sh .tables) o .kind) (k (object o 1))) (λ j k d. there o j (objectOf ps (sh .tables) j .kind) (k (object o 1)) d) (sh .objects) h
+    new-kind = new-object o 1 ∙ own mHeads (objectP ps (sh .tables)) (object o 1) (λ j. objectOf ps (sh .tables) j .kind) o (λ j k. refl) (sh .objects) h
 
     pub new-class : mNew (object o 2) ≡ objectOf ps (sh .tables) o .class
-    new-class = new-object o 2 ∙ hit mHeads (objectP ps (sh .tables)) (object o 2) o (objectOf ps (sh .tables) o .class)
-        (λ k. here o (objectOf ps (sh .tables) o .class) (k (object o 2))) (λ j k d. there o j (objectOf ps (sh .tables) j .class) (k (object o 2)) d) (sh .objects) h
+    new-class = new-object o 2 ∙ own mHeads (objectP ps (sh .tables)) (object o 2) (λ j. objectOf ps (sh .tables) j .class) o (λ j k. refl) (sh .objects) h
 
     pub new-supported : mNew (object o 3) ≡ objectOf ps (sh .tables) o .supported
-    new-supported = new-object o 3 ∙ hit mHeads (objectP ps (sh .tables)) (object o 3) o (objectOf ps (sh .tables) o .supported)
-        (λ k. here o (objectOf ps (sh .tables) o .supported) (k (object o 3))) (λ j k d. there o j (objectOf ps (sh .tables) j .supported) (k (object o 3)) d) (sh .objects) h
+    new-supported = new-object o 3 ∙ own mHeads (objectP ps (sh .tables)) (object o 3) (λ j. objectOf ps (sh .tables) j .supported) o (λ j k. refl) (sh .objects) h
 
     pub new-exportable : mNew (object o 4) ≡ objectOf ps (sh .tables) o .exportable
-    new-exportable = new-object o 4 ∙ hit mHeads (objectP ps (sh .tables)) (object o 4) o (objectOf ps (sh .tables) o .exportable)
-        (λ k. here o (objectOf ps (sh .tables) o .exportable) (k (object o 4))) (λ j k d. there o j (objectOf ps (sh .tables) j .exportable) (k (object o 4)) d) (sh .objects) h
+    new-exportable = new-object o 4 ∙ own mHeads (objectP ps (sh .tables)) (object o 4) (λ j. objectOf ps (sh .tables) j .exportable) o (λ j k. refl) (sh .objects) h
 
     pub new-most : mNew (object o 7) ≡ objectOf ps (sh .tables) o .limit
-    new-most = new-object o 7 ∙ hit mHeads (objectP ps (sh .tables)) (object o 7) o (objectOf ps (sh .tables) o .limit)
-        (λ k. here o (objectOf ps (sh .tables) o .limit) (k (object o 7))) (λ j k d. there o j (objectOf ps (sh .tables) j .limit) (k (object o 7)) d) (sh .objects) h
+    new-most = new-object o 7 ∙ own mHeads (objectP ps (sh .tables)) (object o 7) (λ j. objectOf ps (sh .tables) j .limit) o (λ j k. refl) (sh .objects) h
 
     pub new-stage : mNew (object o 5) ≡ 0
     new-stage = new-object o 5 ∙ miss mHeads (objectP ps (sh .tables)) (object o 5) (λ i k. refl) (sh .objects) ∙ miss mRoot (headP ps) (object o 5) (λ i k. refl) (sh .tables)
@@ -248,7 +238,7 @@ module _ (ps : List ℕ) (sh : Shape) where
 
   -- the row index
   pub new-index : (i : ℕ) → i < sh .rows → mNew (index i) ≡ i
-  new-index i h = hit mThousands placeP (index i) i i (λ k. here i i (k (index i))) (λ j k d. there i j j (k (index i)) d) (sh .rows) h
+  new-index i h = own mThousands placeP (index i) (λ j. j) i (λ j k. refl) (sh .rows) h
 
   pub new-rank : (i : ℕ) → i < sh .rows → mNew (rank i) ≡ i
-  new-rank i h = hit mThousands placeP (rank i) i i (λ k. here i i (k (rank i))) (λ j k d. there i j j (k (rank i)) d) (sh .rows) h
+  new-rank i h = own mThousands placeP (rank i) (λ j. j) i (λ j k. refl) (sh .rows) h

@@ -228,15 +228,6 @@ checked-good ps k =
 
 -- ---- the plan
 
-pub plan-is : (ps : List ℕ) (sh : Shape) → planOf ps ≡ found sh → Good ps × (sh ≡ shapeIn ps)
-unfolding planOf
-plan-is ps sh q = bool (leb (need ps) (length ps) && permitted till (parametersOf ps))
-    (λ e. let b = both (leb (need ps) (length ps)) (permitted till (parametersOf ps)) e in
-    let z : found (shapeIn ps) ≡ found sh = rw e at q in
-    let i : sh ≡ shapeIn ps = cc in
-    (record { long = leb-true (need ps) (length ps) (b .0); within = b .1 }, i))
-    (λ e. let z : Bad ≡ found sh = rw e at q in let y : _≡_ {A = ℕ} 0 1 = cc in absurd (omega arith))
-
 pub plan-good : (ps : List ℕ) → Good ps → found (shapeIn ps) ≡ planOf ps
 unfolding planOf
 plan-good ps g = rw (le-leb (need ps) (length ps) (g .long), g .within)

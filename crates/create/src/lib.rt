@@ -1,6 +1,6 @@
 // Creation: a new state in lent words. A call beside the request list.
 ghost use mathlib.Core.Path.{_≡_};
-ghost use Prim.Native.Nat.{_+_, _-_, _*_, _/_};
+ghost use Prim.Native.Nat.{_+_, _*_, _/_};
 ghost use Rattle.model.specs.Base.{every};
 ghost use Rattle.model.specs.State.{till};
 ghost use Rattle.model.specs.Create.{tablePermitted, objectPermitted};
@@ -219,13 +219,6 @@ fn make_objects(s: &mut [u64], sh: Shape, p: &[u64])
     }
 }
 
-// What is left of x after y.
-fn left(x: u64, y: u64) -> u64
-    ensures { λ r. ⌜ r ≡ x - y ⌝ }
-{
-    if y < x { x - y } else { 0 }
-}
-
 // The free frames of the first n groups of a level.
 fn make_groups(s: &mut [u64], sh: Shape, region: u64, size: u16, n: u16)
     ensures { λ _. ⌜ now (s .exit) ≡ groupsW (now (s .entry)) sh region size n ⌝ }
@@ -235,7 +228,7 @@ fn make_groups(s: &mut [u64], sh: Shape, region: u64, size: u16, n: u16)
     let mut k: u16 = 0;
     while k < n {
         let g = k as u64;
-        let rest = left(frames, g * each);
+        let rest = words::left(frames, g * each);
         layout::save(s, sh, region, g, 0, 0, words::smaller(each, rest));
         k += 1;
     }

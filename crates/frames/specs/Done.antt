@@ -2,31 +2,31 @@
 use mathlib.Core.Path.{_≡_, refl, sym, ap, _∙_, fun-ext}
 use mathlib.Core.Bool.{true}
 use mathlib.Core.Logic.{⊎-elim}
-use mathlib.Core.List.{List, _∷_}
+use mathlib.Core.List.{List}
 use mathlib.Core.Option.{none, some}
-use Prim.Native.Nat.{ℕ, zero, suc, _+_, _/_, _%_, _≤_, _<_}
+use Prim.Native.Nat.{ℕ, _+_, _≤_, _<_}
 use native.Mathlib.Omega.{arith}
 use lib.ListN.{length}
-use Rattle.model.specs.Base.{occurs, insert}
+use Rattle.model.specs.Base.{insert}
 use Rattle.model.specs.State.{till, Table, State}
 use Rattle.model.specs.WellFormed.{Frames}
 use Rattle.model.specs.Tests.{apart}
 use Rattle.invariant.specs.Orders.{Sound}
 use Rattle.layout.specs.declared.Shape.{Shape}
 use Rattle.layout.specs.Layout.{Addr.reg, Mem, total, head, entry, load}
-use Rattle.representation.specs.Represents.{entryAt, wordIn, frameOf, slotWord, linkOf, TableIs, isMarked}
-use Rattle.storage.specs.Order.{same?, occurs-head}
+use Rattle.representation.specs.Represents.{slotWord, linkOf, TableIs, isMarked}
+use Rattle.storage.specs.Order.{same?}
 use Rattle.storage.specs.Sight.{Spot, Spot.hd, Spot.pg, Spot.sl, look}
 use Rattle.storage.specs.Slots.{see, unsee}
-use Rattle.storage.specs.Whole.{MarkIs, mark-kept}
+use Rattle.storage.specs.Kept.{all-stay, slot-kept, PoolSame, RowsStay, rows-stay, MarkIs, mark-kept}
 use Rattle.storage.specs.Reps.{Held}
 use Rattle.storage.specs.Ops.{up}
-use Rattle.frames.specs.Paged.{Has, OnlyPaged, free-alone, own-alone, paged-first, entry-below}
+use Rattle.frames.specs.Paged.{Has, OnlyPaged, own-alone, paged-first}
 use Rattle.frames.specs.Whole.{paged, placed-paged, held-paged}
-use Rattle.frames.specs.Pool.{Pooled, down}
-use Rattle.frames.specs.Frames.{framesAre-taken, framesAre-given, free-below, frames-few, rising-head, some-is}
-use Rattle.frames.specs.Ops.{takeFrameW, giveFrameW}
-use Rattle.frames.specs.Words.{PoolSame, pooled-between, OnlyPool, paged-pool, Steps, take-steps, give-steps}
+use Rattle.frames.specs.Pool.{Pooled}
+use Rattle.frames.specs.Frames.{framesAre-given, frames-few}
+use Rattle.frames.specs.Ops.{giveFrameW}
+use Rattle.frames.specs.Words.{pooled-between, OnlyPool, paged-pool, Steps, give-steps}
 
 -- ---- the pool's words are no table's
 
@@ -37,43 +37,34 @@ module _ (f : ℕ) (m n : Mem) (o : OnlyPool f m n) where
   pool-head : (b g : ℕ) → n (head b g) ≡ m (head b g)
   pool-head b g = pool-off 1 b 0 g (λ e. omega arith) (λ e d. omega arith) (λ e. omega arith)
 
-  pool-page : (b p g : ℕ) → n (entry (entryAt n b p) g) ≡ m (entry (entryAt m b p) g)
-  pool-page b p g = ap (λ (x : ℕ). n (entry (x + p) g)) (pool-head b 10) ∙ pool-off 2 (m (head b 10) + p) 0 g (λ e. omega arith) (λ e d. omega arith) (λ e. omega arith)
+  pool-entry : (x g : ℕ) → n (entry x g) ≡ m (entry x g)
+  pool-entry x g = pool-off 2 x 0 g (λ e. omega arith) (λ e d. omega arith) (λ e. omega arith)
 
   pool-slot : (b k g : ℕ) → slotWord n b k g ≡ slotWord m b k g
-  pool-slot b k g = ap (λ (x : ℕ). wordIn n x (k % 64) g) there ∙ go (frameOf m b k)
-    where
-      there : frameOf n b k ≡ frameOf m b k
-      there = rw (pool-head b 5, pool-page b (k / 64) 0)
+  pool-slot b = slot-kept m n b (all-stay m n pool-head pool-entry (λ x j g. pool-off 7 x j g (λ e. omega arith) (λ e d. omega arith) (λ e. omega arith)) b)
 
-      go : (x : ℕ) → wordIn n x (k % 64) g ≡ wordIn m x (k % 64) g
-      go zero = refl
-      go (suc x) = pool-off 7 x (k % 64) g (λ e. omega arith) (λ e d. omega arith) (λ e. omega arith)
+  pool-rows : RowsStay m n
+  pool-rows = rows-stay m n (λ k x y g l. pool-off k x y g (λ e. omega arith) (λ e d. omega arith) (λ e. omega arith))
 
-  pool-look : (b : ℕ) (c : Spot) → look n b c ≡ look m b c
+  pub pool-look : (b : ℕ) → look n b ≡ look m b
   unfolding look
-  pool-look b (hd g) = pool-head b g
-  pool-look b (pg p g) = pool-page b p g
-  pool-look b (sl k g) = pool-slot b k g
+  pool-look b = fun-ext shows
+    where
+      shows : (c : Spot) → look n b c ≡ look m b c
+      shows (hd g) = pool-head b g
+      shows (pg p g) = ap (λ (x : ℕ). n (entry (x + p) g)) (pool-head b 10) ∙ pool-entry (m (head b 10) + p) g
+      shows (sl k g) = pool-slot b k g
 
   pub pool-table : (b : ℕ) (u : Table) → TableIs m b u → TableIs n b u
-  pool-table b u i = let q : look n b ≡ look m b = fun-ext (pool-look b) in
-      unsee m n b u (λ r. pool-off 10 r 0 0 (λ e. omega arith) (λ e d. omega arith) (λ e. omega arith)) (rw q (see m b u i))
+  pool-table b u i = unsee m n b u (λ r. pool-rows .rows r 0) (rw (pool-look b) (see m b u i))
 
   pub pool-mark : (s : State) (b k : ℕ) → MarkIs m s b k → MarkIs n s b k
-  pool-mark s b k = mark-kept m n s b k
-      (λ r. pool-off 9 r 0 1 (λ e. omega arith) (λ e d. omega arith) (λ e. omega arith))
-      (λ r g. pool-off 10 r 0 g (λ e. omega arith) (λ e d. omega arith) (λ e. omega arith))
-      (λ r j g. pool-off 10 r (suc j) g (λ e. omega arith) (λ e d. omega arith) (λ e. omega arith))
-      (pool-slot b k 0) (pool-slot b k 2) (pool-slot b k 3)
+  pool-mark s b k = mark-kept m n pool-rows s b k (pool-slot b k 0) (pool-slot b k 2) (pool-slot b k 3)
 
 -- ---- the whole change
 
 pool-same : (m : Mem) → PoolSame m m
 pool-same m = record { owners = λ g. refl; groups = λ i l g. refl; count = refl }
-
-pool-at : (step : ℕ → ℕ) (m n : Mem) (f o x : ℕ) → o ≡ x → Pooled step m n f o → Pooled step m n f x
-pool-at step m n f o x e p = rw e at p
 
 -- ws₁ are the words before the pool's step: table b has changed, and the pool has not
 module _ (ws ws₁ : List ℕ) (sh : Shape) (s : State) (h : Held ws sh s) (w : Frames s) (b : ℕ) (lb : b < s .tableCount) (f p : ℕ)
@@ -83,30 +74,6 @@ module _ (ws ws₁ : List ℕ) (sh : Shape) (s : State) (h : Held ws sh s) (w : 
     (marked : (k : ℕ) → isMarked (u .slots k) ≡ true → MarkIs (load ws₁ sh) s b k) where
   room : total sh ≤ length ws₁
   room = omega (arith, long, h .reps .shaped .room)
-
-  -- PAGE p GOT THE FREE FRAME f
-  pub held-taken : (e : ℕ) (fs : List ℕ) → e ≡ entryAt (load ws₁ sh) b p → s .frames ≡ f ∷ fs → p < u .limit → u .pages p .frame ≡ some f
-      → ((q : ℕ) → (q ≡ p → ⊥) → q < u .size → q < s .tables b .size) → Held (takeFrameW ws₁ sh f e) sh (paged s b u fs)
-  held-taken e fs at first lp got size =
-      let r = h .reps .memory in
-      let inside : 0 < occurs f (s .frames) = rw first (occurs-head f fs) in
-      let below : f < s .frameCount = free-below s w f inside in
-      let entry-is : e ≡ entryAt (load ws sh) b p = at ∙ ap (λ (x : ℕ). x + p) (paged-first b f (load ws sh) (load ws₁ sh) o b) in
-      let c = h .reps .shaped .limits in
-      let small : e < 0xffff_ffff_ffff_ffff = omega (arith, entry-is, entry-below sh (load ws sh) s r (h .placed) b p lb (omega (arith, lim)), c .few-pages, c .few-tables) in
-      let ws₂ : List ℕ = takeFrameW ws₁ sh f e in
-      let st : Steps down ws₁ ws₂ sh f (suc e) = take-steps ws₁ sh room f (omega (arith, below, r .frameCount)) e small in
-      let only : OnlyPaged b f (load ws sh) (load ws₂ sh) = paged-pool b f (load ws sh) (load ws₁ sh) (load ws₂ sh) o (st .only) in
-      let pool : Pooled down (load ws sh) (load ws₂ sh) f (suc e) = pooled-between down (load ws sh) (load ws₁ sh) (load ws₂ sh) (load ws₂ sh) f (suc e) same (pool-same (load ws₂ sh)) (st .pool) in
-      held-paged ws ws₂ sh s h b lb f (free-alone sh (load ws sh) s r (h .placed) b f inside) (st .long ∙ long)
-      only u (pool-table f (load ws₁ sh) (load ws₂ sh) (st .only) b u now) lim fs
-      (framesAre-taken (load ws sh) (load ws₂ sh) s b p f u (paged-first b f (load ws sh) (load ws₂ sh) only) others (r .frames) fs first
-      (rising-head f fs (rw first at (w .rising))) (pool-at down (load ws sh) (load ws₂ sh) f (suc e) (suc (entryAt (load ws sh) b p)) (ap suc entry-is) pool) got size)
-      (placed-paged s b u fs (h .placed) sound (λ q g i d. ⊎-elim
-      (λ (y : q ≡ p). let z : g ≡ f = some-is f g (sym got ∙ ap (λ (x : ℕ). u .pages x .frame) (sym y) ∙ d) in omega (arith, below))
-      (λ (y : q ≡ p → ⊥). h .placed .frames b q g lb (size q y i) (sym (others q y) ∙ d))
-      (same? q p)))
-      (λ k i. pool-mark f (load ws₁ sh) (load ws₂ sh) (st .only) s b k (marked k i))
 
   -- PAGE p LOST ITS FRAME f
   pub held-given : p < s .tables b .size → s .tables b .pages p .frame ≡ some f → u .pages p .frame ≡ none → u .size ≡ s .tables b .size

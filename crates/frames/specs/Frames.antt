@@ -14,9 +14,8 @@ use Rattle.model.specs.Base.{bit, occurs, insert, put, sum}
 use Rattle.model.specs.State.{Table, State}
 use Rattle.model.specs.WellFormed.{Rising, pagesWith, Frames}
 use Rattle.model.specs.Tests.{apart, bit-true, bit-small}
-use Rattle.model.specs.Sums.{occurs-insert, sum-put, sum-part}
-use Rattle.model.specs.Counting.{bit-same}
-use Rattle.invariant.specs.Frames.{owned, rising-tail, rising-insert}
+use Rattle.model.specs.Sums.{sum-put}
+use Rattle.invariant.specs.Frames.{owned, rising-tail}
 use Rattle.layout.specs.declared.Shape.{Shape}
 use Rattle.layout.specs.Layout.{Mem, head, owner}
 use Rattle.representation.specs.Represents.{entryAt, FramesAre, Represents}
@@ -121,12 +120,3 @@ module _ (s : State) (b : ℕ) (u : Table) (lb : b < s .tableCount) (w : Frames 
     once = λ g. let o : pagesWith s g + (bit (eqb g f) + occurs g fs) ≡ bit (ltb g (s .frameCount)) = rw e at (w .once g) in omega (arith, o, with-pages g, h g);
     rising = rising-tail f fs (rw e at (w .rising));
   }
-
-  pub frames-given : (f : ℕ) → ((g : ℕ) → owned u g + bit (eqb g f) ≡ owned (s .tables b) g) → Frames (paged s b u (insert f (s .frames)))
-  frames-given f h = record {
-    once = λ g. omega (arith, w .once g, with-pages g, h g, occurs-insert g f (s .frames));
-    rising = rising-insert f (s .frames) (omega (arith, w .once f, with-pages f, h f, bit-same f f refl, bit-small (ltb f (s .frameCount)), own-part)) (w .rising);
-  }
-    where
-      own-part : owned (s .tables b) f ≤ pagesWith s f
-      own-part = sum-part (s .tableCount) (λ c. owned (s .tables c) f) b lb

@@ -1,21 +1,18 @@
 -- A change of one table's pages, in the state: every other table, the objects and the rows are as they were. Assumes nothing.
-use mathlib.Core.Path.{_≡_, refl, sym, ap, _∙_}
+use mathlib.Core.Path.{_≡_, refl, sym, _∙_}
 use mathlib.Core.Logic.{_⊎_, inl, inr, ⊎-elim}
-use Prim.Native.Nat.{ℕ, zero, suc, _+_, _-_, _/_, _%_, _≤_, _<_}
+use Prim.Native.Nat.{ℕ, suc, _+_, _-_, _≤_, _<_}
 use native.Mathlib.Omega.{arith}
-use lib.Dec.{ltb}
-use borrow.Author.Tests.{ltb-true}
 use Rattle.words.specs.Pick.{bool}
 use Rattle.model.specs.Base.{occurs}
-use Rattle.model.specs.State.{Table, State}
+use Rattle.model.specs.State.{State}
 use Rattle.model.specs.Counting.{sum-next, runs-apart}
 use Rattle.layout.specs.declared.Shape.{Shape}
-use Rattle.layout.specs.Layout.{Addr, Addr.reg, Mem, root, head, entry, owner, cell, object, index, rank, row, item, same, same-is, Write.at, upd}
-use Rattle.representation.specs.Represents.{entryAt, wordIn, frameOf, slotWord, tagged, TableIs, Represents}
+use Rattle.layout.specs.Layout.{Addr, Addr.reg, Mem, root, head, entry, owner, cell, same, same-is, Write.at, upd}
+use Rattle.representation.specs.Represents.{entryAt, slotWord, TableIs, Represents}
 use Rattle.representation.specs.Told.{link-some}
-use Rattle.storage.specs.Order.{chain-frame, linked-frame}
-use Rattle.storage.specs.Sight.{Spot.pg, look, OnlyTable, frame-is}
-use Rattle.storage.specs.Slots.{framed, Seen, see, unsee, empty-below, detached-below}
+use Rattle.storage.specs.Sight.{OnlyTable}
+use Rattle.storage.specs.Kept.{Stays, slot-kept, sound-kept, RowsStay, rows-stay}
 use Rattle.storage.specs.Whole.{Placed}
 
 -- a page of table b has the frame x
@@ -66,27 +63,13 @@ module _ (b fr : ℕ) (m n : Mem) (o : OnlyPaged b fr m n) where
   pub paged-first : (c : ℕ) → n (head c 10) ≡ m (head c 10)
   paged-first c = paged-head c 10 (λ s t. omega arith)
 
-  pub paged-owner : (g : ℕ) → (g ≡ fr → ⊥) → n (owner g) ≡ m (owner g)
-  paged-owner g h = o (owner g) (outside m b fr 3 g 0 0 (λ e q. omega arith) (λ e q s t. omega arith) (λ e q s. omega arith) (λ e q. h q) (λ e q. omega arith) (λ e q. omega arith))
-
   -- regions above the frames
   pub paged-high : (k x y f : ℕ) → 8 ≤ k → n (reg k x y f) ≡ m (reg k x y f)
   paged-high k x y f l = o (reg k x y f) (outside m b fr k x y f (λ e q. omega arith) (λ e q s t. omega arith) (λ e q s. omega arith) (λ e q. omega arith) (λ e q. omega arith) (λ e q. omega arith))
 
-  pub paged-object : (x f : ℕ) → n (object x f) ≡ m (object x f)
-  paged-object x f = paged-high 8 x 0 f (omega arith)
-
-  pub paged-index : (i : ℕ) → n (index i) ≡ m (index i)
-  paged-index i = paged-high 9 i 0 0 (omega arith)
-
-  pub paged-rank : (i : ℕ) → n (rank i) ≡ m (rank i)
-  paged-rank i = paged-high 9 i 0 1 (omega arith)
-
-  pub paged-row : (x f : ℕ) → n (row x f) ≡ m (row x f)
-  paged-row x f = paged-high 10 x 0 f (omega arith)
-
-  pub paged-item : (x j f : ℕ) → n (item x j f) ≡ m (item x j f)
-  paged-item x j f = paged-high 10 x (suc j) f (omega arith)
+  -- the row index and the rows
+  pub paged-rows : RowsStay m n
+  paged-rows = rows-stay m n (λ k x y f l. paged-high k x y f (omega arith))
 
   -- a change of the table as it stands in n, whose frames are fr and those that it had
   pub paged-table : (l : Mem) → OnlyTable b n l → n (head b 5) ≤ m (head b 0) → ((x : ℕ) → Has n b x → (x ≡ fr) ⊎ Has m b x) → OnlyPaged b fr m l
@@ -140,64 +123,22 @@ own-alone sh m s r pl b fr l h c k i = has-apart sh m s r pl c b fr k l i h
 module _ (sh : Shape) (m : Mem) (s : State) (r : Represents sh m s) (pl : Placed s) (b : ℕ) (lb : b < s .tableCount) (fr : ℕ) (alone : Alone m s b fr)
     (n : Mem) (o : OnlyPaged b fr m n) where
   module _ (c : ℕ) (lc : c < s .tableCount) (ne : c ≡ b → ⊥) where
-    other-head : (f : ℕ) → n (head c f) ≡ m (head c f)
-    other-head f = o (head c f) (outside m b fr 1 c 0 f (λ e q. omega arith) (λ e q i j. ne q) (λ e q i. omega arith) (λ e q. omega arith) (λ e q. omega arith) (λ e q. omega arith))
+    -- its words stay
+    other-stays : Stays m n c
+    other-stays = record {
+      heads = λ f. o (head c f) (outside m b fr 1 c 0 f (λ e q. omega arith) (λ e q i j. ne q) (λ e q i. omega arith) (λ e q. omega arith) (λ e q. omega arith) (λ e q. omega arith));
+      pages = λ p f h. o (entry (entryAt m c p) f) (outside m b fr 2 (m (head c 10) + p) 0 f (λ e q. omega arith) (λ e q i j. omega arith)
+          (λ e q i. ne (entries-apart sh m s r pl c b p (m (head c 10) + p - m (head b 10)) lc lb
+          (omega (arith, r .tables c lc .size, pl .sound c lc .size)) (omega (arith, r .tables b lb .limit)) (omega arith)))
+          (λ e q. omega arith) (λ e q. omega arith) (λ e q. omega arith));
+      cells = λ p x j f h e. let w : Has m c x = (p, h, e) in
+          o (cell x j f) (outside m b fr 7 x j f (λ e q. omega arith) (λ e q i j. omega arith) (λ e q i. omega arith) (λ e q. omega arith) (λ e q. omega arith)
+          (λ e. ⊎-elim (λ (d : x ≡ fr). ne (alone c lc (rw d at w))) (λ d. ne (has-apart sh m s r pl c b x lc lb w d))));
+    }
 
-    -- pages below the size
-    other-page : (p f : ℕ) → p < m (head c 5) → look n c (pg p f) ≡ look m c (pg p f)
-    unfolding look
-    other-page p f h = ap (λ (e : ℕ). n (entry (e + p) f)) (other-head 10) ∙ o (entry (m (head c 10) + p) f)
-        (outside m b fr 2 (m (head c 10) + p) 0 f (λ e q. omega arith) (λ e q i j. omega arith)
-        (λ e q i. ne (entries-apart sh m s r pl c b p (m (head c 10) + p - m (head b 10)) lc lb
-        (omega (arith, r .tables c lc .size, pl .sound c lc .size)) (omega (arith, r .tables b lb .limit)) (omega arith)))
-        (λ e q. omega arith) (λ e q. omega arith) (λ e q. omega arith))
-
-    other-frame : (k : ℕ) → frameOf n c k ≡ frameOf m c k
-    unfolding look
-    other-frame k = bool (ltb (k / 64) (m (head c 5)))
-        (λ l. rw (other-head 5, l, other-page (k / 64) 0 (ltb-true (k / 64) (m (head c 5)) l)))
-        (λ l. rw (other-head 5, l))
-
-    -- and all slots
     pub other-slot : (k f : ℕ) → slotWord n c k f ≡ slotWord m c k f
-    other-slot k f = ap (λ (x : ℕ). wordIn n x (k % 64) f) (other-frame k) ∙ go (frameOf m c k) refl
-      where
-        go : (x : ℕ) → frameOf m c k ≡ x → wordIn n x (k % 64) f ≡ wordIn m x (k % 64) f
-        go zero e = refl
-        go (suc x) e = let i = frame-is m c k x e in let h : Has m c x = (k / 64, i .1, i .2) in
-            o (cell x (k % 64) f) (outside m b fr 7 x (k % 64) f (λ e q. omega arith) (λ e q i j. omega arith) (λ e q i. omega arith) (λ e q. omega arith) (λ e q. omega arith)
-            (λ e. ⊎-elim (λ (d : x ≡ fr). ne (alone c lc (rw d at h))) (λ d. ne (has-apart sh m s r pl c b x lc lb h d))))
-
-    other-seen : Seen m (look n c) (s .tables c)
-    unfolding look
-    other-seen =
-        let t : Table = s .tables c in
-        let z : Seen m (look m c) t = see m c t (r .tables c lc) in
-        let d = pl .sound c lc in
-        let inside : (p : ℕ) → p < t .size → p < m (head c 5) = λ p h. omega (arith, z .size) in
-        record {
-          limit = other-head 0 ∙ z .limit;
-          mask = other-head 1 ∙ z .mask;
-          life = rw (other-head 2, other-head 3) (z .life);
-          epoch = other-head 4 ∙ z .epoch;
-          size = other-head 5 ∙ z .size;
-          frame = λ p h. other-page p 0 (inside p h) ∙ z .frame p h;
-          high = λ p h. other-page p 1 (inside p h) ∙ z .high p h;
-          busy = λ p h a. other-page p 2 (inside p h) ∙ z .busy p h a;
-          slots = λ k. same-slot (frameOf n c k) (frameOf m c k) (other-frame k) (slotWord n c k 0) (slotWord n c k 1) (slotWord n c k 2) (slotWord n c k 3) (slotWord n c k 4) _ _ _ _ _
-              (other-slot k 0) (other-slot k 1) (other-slot k 2) (other-slot k 3) (other-slot k 4) ∙ z .slots k;
-          free = rw (other-head 6) (chain-frame (λ k. slotWord m c k 2) (λ k. slotWord m c k 3) _ _ (m (head c 6)) 0 (t .free) (z .free) (λ k i. (other-slot k 2, other-slot k 3)));
-          freeCount = other-head 7 ∙ z .freeCount;
-          empty = rw (other-head 8) (chain-frame (λ p. m (entry (entryAt m c p) 3)) (λ p. m (entry (entryAt m c p) 4)) _ _ (m (head c 8)) 0 (t .empty) (z .empty)
-              (λ p i. let h : p < m (head c 5) = inside p (empty-below t d p i) in (other-page p 3 h, other-page p 4 h)));
-          detached = rw (other-head 9) (linked-frame (λ p. m (entry (entryAt m c p) 3)) _ (m (head c 9)) (t .detached) (z .detached)
-              (λ p i. other-page p 3 (inside p (detached-below t d p i))));
-        }
-      where
-        same-slot : (fr fr′ : ℕ) → fr ≡ fr′ → (a₀ a₁ a₂ a₃ a₄ e₀ e₁ e₂ e₃ e₄ : ℕ) → a₀ ≡ e₀ → a₁ ≡ e₁ → a₂ ≡ e₂ → a₃ ≡ e₃ → a₄ ≡ e₄
-            → framed fr (tagged m a₀ a₁ a₂ a₃ a₄) ≡ framed fr′ (tagged m e₀ e₁ e₂ e₃ e₄)
-        same-slot fr fr′ p a₀ a₁ a₂ a₃ a₄ e₀ e₁ e₂ e₃ e₄ q₀ q₁ q₂ q₃ q₄ = rw (p, q₀, q₁, q₂, q₃, q₄)
+    other-slot = slot-kept m n c other-stays
 
     -- THE OTHER TABLES are as they were
     pub other-table : TableIs n c (s .tables c)
-    other-table = unsee m n c (s .tables c) (λ x. paged-row b fr m n o x 0) other-seen
+    other-table = sound-kept m n c other-stays (s .tables c) (r .tables c lc) (pl .sound c lc) (λ k e. paged-rows b fr m n o .rows (slotWord m c k 2) 0)

@@ -1,5 +1,5 @@
 -- The state with a table whose pages changed, and other free frames. Assumes nothing.
-use mathlib.Core.Path.{_≡_, sym, _∙_}
+use mathlib.Core.Path.{_≡_, refl, sym, _∙_}
 use mathlib.Core.Bool.{true}
 use mathlib.Core.List.{List}
 use mathlib.Core.Option.{some}
@@ -15,17 +15,18 @@ use Rattle.model.specs.Change.{withTable, withFrames}
 use Rattle.model.specs.Sums.{sum-equal}
 use Rattle.invariant.specs.Orders.{Sound}
 use Rattle.layout.specs.declared.Shape.{Shape}
-use Rattle.layout.specs.Layout.{Mem, object, index, load}
-use Rattle.layout.specs.ShapeOf.{Roots}
-use Rattle.representation.specs.Represents.{slotWord, TableIs, FramesAre, ObjectIs, isMarked, Represents}
-use Rattle.storage.specs.Whole.{Placed, rows-kept, MarkIs, mark-kept, put-like}
+use Rattle.layout.specs.Layout.{Mem, load}
+use Rattle.layout.specs.ShapeOf.{roots-kept}
+use Rattle.representation.specs.Represents.{slotWord, TableIs, FramesAre, isMarked, Represents}
+use Rattle.storage.specs.Kept.{object-kept, MarkIs, mark-kept, book-kept}
+use Rattle.storage.specs.Whole.{Placed, put-like}
 use Rattle.storage.specs.Reps.{Held}
-use Rattle.frames.specs.Paged.{OnlyPaged, Alone, paged-root, paged-first, paged-object, paged-index, paged-rank, paged-row, paged-item, other-slot, other-table}
+use Rattle.frames.specs.Paged.{OnlyPaged, Alone, paged-root, paged-first, paged-high, paged-rows, other-slot, other-table}
 
 -- a mark on a slot whose words stay
 pub paged-mark : (b fr : ℕ) (m n : Mem) → OnlyPaged b fr m n → (s : State) (k : ℕ) → slotWord n b k 0 ≡ slotWord m b k 0 → slotWord n b k 2 ≡ slotWord m b k 2 → slotWord n b k 3 ≡ slotWord m b k 3
     → MarkIs m s b k → MarkIs n s b k
-paged-mark b fr m n o s k = mark-kept m n s b k (paged-rank b fr m n o) (paged-row b fr m n o) (paged-item b fr m n o)
+paged-mark b fr m n o s k = mark-kept m n (paged-rows b fr m n o) s b k
 
 -- the state then
 abbrev pub paged : State → ℕ → Table → List ℕ → State
@@ -33,20 +34,6 @@ paged s b u fs = withFrames (withTable s b u) fs
 
 module _ (sh : Shape) (m : Mem) (s : State) (r : Represents sh m s) (pl : Placed s) (b : ℕ) (lb : b < s .tableCount) (fr : ℕ) (alone : Alone m s b fr)
     (n : Mem) (o : OnlyPaged b fr m n) (u : Table) (now : TableIs n b u) (lim : u .limit ≡ s .tables b .limit) where
-  with-object : (x : ℕ) → x < s .objectCount → ObjectIs n x (s .objects x)
-  with-object x l = let q = r .objects x l in
-      let e : (f : ℕ) → n (object x f) ≡ m (object x f) = paged-object b fr m n o x in
-      record {
-        koid = e 0 ∙ q .koid;
-        kind = e 1 ∙ q .kind;
-        class = e 2 ∙ q .class;
-        supported = e 3 ∙ q .supported;
-        exportable = e 4 ∙ q .exportable;
-        stage = e 5 ∙ q .stage;
-        count = e 6 ∙ q .count;
-        limit = e 7 ∙ q .limit;
-      }
-
   -- THE STATE WITH THE TABLE AND THE FREE FRAMES: the marks of table b are the operation's to show
   pub with-paged : (fs : List ℕ) → FramesAre n (paged s b u fs) → ((k : ℕ) → isMarked (u .slots k) ≡ true → MarkIs n s b k) → Represents sh n (paged s b u fs)
   with-paged fs frames marked = record {
@@ -62,17 +49,12 @@ module _ (sh : Shape) (m : Mem) (s : State) (r : Represents sh m s) (pl : Placed
         (λ e. rw (e, eqb-true c b e) now)
         (λ e. rw e (other-table sh m s r pl b lb fr alone n o c l (eqb-false c b e)));
     frames = frames;
-    objects = with-object;
-    book = let q = r .book in record {
-      next = paged-root b fr m n o 5 (λ e. omega arith) ∙ q .next;
-      used = paged-root b fr m n o 6 (λ e. omega arith) ∙ q .used;
-      rows = rows-kept m n (paged-index b fr m n o) (paged-row b fr m n o) (paged-item b fr m n o) 0 (s .book .rows) (q .rows);
-      places = λ i h. rw (paged-index b fr m n o i) (q .places i h .0, paged-rank b fr m n o (m (index i)) ∙ q .places i h .1);
-      marks = λ c k l h. bool (eqb c b)
-          (λ e. rw (eqb-true c b e) (marked k (rw e at h)))
-          (λ e. let w : (f : ℕ) → slotWord n c k f ≡ slotWord m c k f = other-slot sh m s r pl b lb fr alone n o c l (eqb-false c b e) k in
-          mark-kept m n s c k (paged-rank b fr m n o) (paged-row b fr m n o) (paged-item b fr m n o) (w 0) (w 2) (w 3) (q .marks c k l (rw e at h)));
-    };
+    objects = λ x l. object-kept m n x (s .objects x) (λ f. paged-high b fr m n o 8 x 0 f (omega arith)) (r .objects x l);
+    book = book-kept m n (paged-rows b fr m n o) s (paged s b u fs) refl (paged-root b fr m n o 5 (λ e. omega arith)) (paged-root b fr m n o 6 (λ e. omega arith))
+        (λ c k l h. bool (eqb c b)
+        (λ e. rw (eqb-true c b e) (marked k (rw e at h)))
+        (λ e. let w : (f : ℕ) → slotWord n c k f ≡ slotWord m c k f = other-slot sh m s r pl b lb fr alone n o c l (eqb-false c b e) k in
+        mark-kept m n (paged-rows b fr m n o) s c k (w 0) (w 2) (w 3) (r .book .marks c k l (rw e at h)))) (r .book);
   }
 
   -- marks that were there, on slots whose words stay
@@ -82,17 +64,6 @@ module _ (sh : Shape) (m : Mem) (s : State) (r : Represents sh m s) (pl : Placed
       → Represents sh n (paged s b u fs)
   with-paged-marks fs frames h = with-paged fs frames (λ k e. let q = h k e in
       paged-mark b fr m n o s k (q .1) (q .2) (q .3) (r .book .marks b k lb (q .0)))
-
--- the header's counts stay
-pub paged-roots : (sh : Shape) (b fr : ℕ) (m n : Mem) → OnlyPaged b fr m n → Roots sh m → Roots sh n
-paged-roots sh b fr m n o r = record {
-  version = paged-root b fr m n o 0 (λ e. omega arith) ∙ r .version;
-  tables = paged-root b fr m n o 1 (λ e. omega arith) ∙ r .tables;
-  frames = paged-root b fr m n o 2 (λ e. omega arith) ∙ r .frames;
-  objects = paged-root b fr m n o 3 (λ e. omega arith) ∙ r .objects;
-  rows = paged-root b fr m n o 4 (λ e. omega arith) ∙ r .rows;
-  pages = paged-root b fr m n o 8 (λ e. omega arith) ∙ r .pages;
-}
 
 -- a change of one table whose pages are in frames that there are
 pub placed-paged : (s : State) (b : ℕ) (u : Table) (fs : List ℕ) → Placed s → Sound till u (u .free)
@@ -114,7 +85,7 @@ module _ (ws ws′ : List ℕ) (sh : Shape) (s : State) (h : Held ws sh s) (b : 
       shaped = let q = h .reps .shaped in record {
         limits = q .limits;
         room = omega (arith, long, q .room);
-        roots = paged-roots sh b fr (load ws sh) (load ws′ sh) o (q .roots);
+        roots = roots-kept sh (load ws sh) (load ws′ sh) (λ f i. paged-root b fr (load ws sh) (load ws′ sh) o f (λ e. i (omega arith) (omega arith))) (q .roots);
       };
       memory = i;
     };

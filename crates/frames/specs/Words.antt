@@ -2,14 +2,13 @@
 use mathlib.Core.Path.{_≡_, refl, ap, _∙_}
 use mathlib.Core.Logic.{_⊎_, inl, inr, ⊎-elim}
 use mathlib.Core.List.{List}
-use Prim.Native.Nat.{ℕ, zero, suc, _+_, _/_, _≤_, _<_}
+use Prim.Native.Nat.{ℕ, zero, suc, _/_, _≤_, _<_}
 use native.Mathlib.Omega.{arith}
 use lib.ListN.{length}
 use borrow.Author.Tests.{eq-eqb, ne-eqb}
 use Rattle.layout.specs.declared.Shape.{Shape}
 use Rattle.layout.specs.Layout.{Addr, Addr.reg, Mem, total, root, owner, group, load, upds, InAll, length-writes, load-writes, in-root, in-owner, in-sixteen, in-hundred, in-thousand}
-use Rattle.storage.specs.Sight.{OnlyTable}
-use Rattle.storage.specs.Whole.{off-table}
+use Rattle.storage.specs.Kept.{PoolSame}
 use Rattle.storage.specs.Ops.{up}
 use Rattle.frames.specs.Paged.{OnlyPaged, only-write}
 use Rattle.frames.specs.Pool.{span, Pooled, down}
@@ -17,20 +16,6 @@ use Rattle.frames.specs.Ops.{stepP, takeFrameW, giveFrameW}
 
 -- ---- memories with the same pool
 
-pub record PoolSame (m n : Mem) : Type 0 where
-  pub owners : (g : ℕ) → n (owner g) ≡ m (owner g)
-  pub groups : (i : ℕ) → i < 3 → (g : ℕ) → n (group i g) ≡ m (group i g)
-  pub count : n (root 7) ≡ m (root 7)
-
--- a change of one table that leaves its place keeps the pool
-pub table-pool : (b : ℕ) (m n : Mem) → OnlyTable b m n → PoolSame m n
-table-pool b m n o = record {
-  owners = λ g. off-table b m n o 3 g 0 0 (λ e. omega arith) (λ e. omega arith) (λ e. omega arith);
-  groups = λ i l g. off-table b m n o (4 + i) g 0 0 (λ e. omega arith) (λ e. omega arith) (λ e. omega arith);
-  count = off-table b m n o 0 0 0 7 (λ e. omega arith) (λ e. omega arith) (λ e. omega arith);
-}
-
--- what changes the pool between changes that keep it
 pub pooled-between : (step : ℕ → ℕ) (m m′ n n′ : Mem) (f o : ℕ) → PoolSame m m′ → PoolSame n n′ → Pooled step m′ n f o → Pooled step m n′ f o
 pooled-between step m m′ n n′ f o a c p = record {
   own = c .owners f ∙ p .own;

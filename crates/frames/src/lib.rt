@@ -1,6 +1,6 @@
 // The pool of frames over the state's words: the lowest free frame, a frame taken for a page, a frame given back.
 ghost use mathlib.Core.Path.{_≡_};
-ghost use Prim.Native.Nat.{ℕ, _+_, _≤_};
+ghost use Prim.Native.Nat.{_+_, _≤_};
 ghost use Rattle.layout.specs.Layout.{load as loadAt, writes};
 ghost use Rattle.frames.specs.Ops.{poolP, takeFrameW, giveFrameW, firstOf, hasFree, lowestAt};
 use layout::Shape;

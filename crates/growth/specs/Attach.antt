@@ -1,10 +1,10 @@
 -- A page is attached in the lowest free frame: the words come to represent the model's state after it. Assumes nothing.
-use mathlib.Core.Path.{_≡_, refl, sym, ap, _∙_, fun-ext}
+use mathlib.Core.Path.{_≡_, refl, sym, ap, _∙_}
 use mathlib.Core.Bool.{true, _&&_}
-use mathlib.Core.Logic.{_⊎_, ⊎-elim}
+use mathlib.Core.Logic.{_⊎_}
 use mathlib.Core.List.{List, _∷_}
-use mathlib.Core.Option.{Option, some}
-use Prim.Native.Nat.{ℕ, zero, suc, _+_, _*_, _/_, _%_, _≤_, _<_, min}
+use mathlib.Core.Option.{some}
+use Prim.Native.Nat.{ℕ, suc, _+_, _*_, _/_, _<_, min}
 use native.Mathlib.Omega.{arith}
 use lib.ListN.{length}
 use lib.Dec.{eqb, ltb}
@@ -12,7 +12,7 @@ use borrow.Author.Tests.{eq-eqb, ne-eqb, eqb-true, eqb-false}
 use Rattle.words.specs.Pick.{bool, clash}
 use Rattle.codec.specs.Codec.{nextGeneration}
 use Rattle.model.specs.Base.{pick, occurs}
-use Rattle.model.specs.State.{till, Slot, Slot.absent, Slot.vacant, Table, State, maxSlots}
+use Rattle.model.specs.State.{till, Slot, Slot.absent, Slot.vacant, State, maxSlots}
 use Rattle.model.specs.Storage.{slotsOf, onPage, attach}
 use Rattle.model.specs.Change.{withTable, withFrames}
 use Rattle.model.specs.WellFormed.{Frames}
@@ -21,22 +21,24 @@ use Rattle.invariant.specs.Pages.{till-sane}
 use Rattle.invariant.specs.Pointwise.{attach-slots, attach-free}
 use Rattle.invariant.specs.Orders.{Room, order-is, absent-past, attach-sound}
 use Rattle.layout.specs.declared.Shape.{Shape}
-use Rattle.layout.specs.Layout.{Addr.reg, Mem, head, entry, load, Write, writes, length-writes}
+use Rattle.layout.specs.Layout.{Mem, head, load, Write, writes, length-writes}
 use Rattle.layout.specs.Turns.{turns, length-turns}
-use Rattle.representation.specs.Represents.{entryAt, wordIn, frameOf, slotWord, TableIs, FramesAre, isMarked}
+use Rattle.representation.specs.Represents.{entryAt, slotWord, TableIs, FramesAre, isMarked}
 use Rattle.representation.specs.Told.{marked-full}
 use Rattle.storage.specs.Order.{occurs-head, head-in}
-use Rattle.storage.specs.Sight.{Spot, Spot.hd, Spot.pg, Spot.sl, look, linkFrame, reals, writesAll, length-all}
+use Rattle.storage.specs.Sight.{Spot, Spot.sl, look, linkFrame, reals, writesAll, length-all}
 use Rattle.storage.specs.Slots.{Seen, see, unsee, free-vacant}
 use Rattle.storage.specs.Ops.{up, joinP, joinW}
 use Rattle.frames.specs.Ops.{stepP, takeFrameW}
+use Rattle.storage.specs.Kept.{PoolSame}
 use Rattle.storage.specs.Whole.{Placed}
 use Rattle.storage.specs.Reps.{Held, ready-of}
-use Rattle.frames.specs.Paged.{OnlyPaged, has-owner, free-alone, paged-first, paged-row}
+use Rattle.frames.specs.Paged.{OnlyPaged, has-owner, free-alone, paged-first, paged-rows}
 use Rattle.frames.specs.Whole.{paged, placed-paged, held-paged-marks}
 use Rattle.frames.specs.Pool.{Pooled, down}
-use Rattle.frames.specs.Frames.{framesAre-taken, rising-head, free-below}
-use Rattle.frames.specs.Words.{PoolSame, pooled-between, OnlyPool, paged-pool, Steps, take-steps}
+use Rattle.frames.specs.Frames.{framesAre-taken, rising-head, free-below, some-is}
+use Rattle.frames.specs.Done.{pool-look}
+use Rattle.frames.specs.Words.{pooled-between, paged-pool, Steps, take-steps}
 use Rattle.growth.specs.Words.{slotsP, builtW, orderP, entryP, fresh, sizeWith, detachedWith, joinedW, attachW}
 use Rattle.growth.specs.Memory.{mJoined, joined-off}
 use Rattle.growth.specs.Table.{below, joined-seen}
@@ -60,29 +62,6 @@ length-joined ws sh b p f =
 pub length-attach : (ws : List ℕ) (sh : Shape) (b p f : ℕ) → length (attachW ws sh b p f) ≡ length ws
 unfolding attachW takeFrameW
 length-attach ws sh b p f = length-writes (joinedW ws sh b p f) sh (stepP down (load (joinedW ws sh b p f) sh) f (up (min (load ws sh (head b 10)) 4294967295 + p))) ∙ length-joined ws sh b p f
-
--- the pool's words are no table's
-look-pool : (f b : ℕ) (m n : Mem) → OnlyPool f m n → look n b ≡ look m b
-unfolding look
-look-pool f b m n o = fun-ext shows
-  where
-    off : (r x y i : ℕ) → (r ≡ 3 → ⊥) → (4 ≤ r → r ≤ 6 → ⊥) → (r ≡ 0 → ⊥) → n (reg r x y i) ≡ m (reg r x y i)
-    off r x y i n₃ n₄ n₀ = o (reg r x y i) (⊎-elim (λ q. n₃ (q .0)) (⊎-elim (λ q. n₄ (q .0) (q .1)) (λ q. n₀ (q .0))))
-
-    heads : (i : ℕ) → n (head b i) ≡ m (head b i)
-    heads i = off 1 b 0 i (λ e. omega arith) (λ e d. omega arith) (λ e. omega arith)
-
-    pages : (p i : ℕ) → n (entry (entryAt n b p) i) ≡ m (entry (entryAt m b p) i)
-    pages p i = ap (λ (x : ℕ). n (entry (x + p) i)) (heads 10) ∙ off 2 (m (head b 10) + p) 0 i (λ e. omega arith) (λ e d. omega arith) (λ e. omega arith)
-
-    words : (fr j i : ℕ) → wordIn n fr j i ≡ wordIn m fr j i
-    words zero j i = refl
-    words (suc fr) j i = off 7 fr j i (λ e. omega arith) (λ e d. omega arith) (λ e. omega arith)
-
-    shows : (c : Spot) → look n b c ≡ look m b c
-    shows (hd i) = heads i
-    shows (pg p i) = pages p i
-    shows (sl k i) = let e : frameOf n b k ≡ frameOf m b k = rw (heads 5, pages (k / 64) 0) in ap (λ (x : ℕ). wordIn n x (k % 64) i) e ∙ words (frameOf m b k) (k % 64) i
 
 marked-here : (x : Slot) (g : ℕ) → x ≡ vacant g → isMarked x ≡ true → ⊥
 marked-here x g e d = clash (sym (ap isMarked e) ∙ d) refl
@@ -123,13 +102,13 @@ module _ (ws : List ℕ) (sh : Shape) (s : State) (h : Held ws sh s) (b : ℕ) (
   only = paged-pool b f (load ws sh) (load (joinedW ws sh b p f) sh) (load (attachW ws sh b p f) sh) only₁ (steps .only)
 
   shows : look (load (attachW ws sh b p f) sh) b ≡ look (mJoined (load ws sh) b p f) b
-  shows = look-pool f b (load (joinedW ws sh b p f) sh) (load (attachW ws sh b p f) sh) (steps .only) ∙ ap (λ (k : Mem). look k b) (load-joined ws sh b (s .tables b) p f ripe)
+  shows = pool-look f (load (joinedW ws sh b p f) sh) (load (attachW ws sh b p f) sh) (steps .only) b ∙ ap (λ (k : Mem). look k b) (load-joined ws sh b (s .tables b) p f ripe)
 
   seen : Seen (load ws sh) (look (load ws sh) b) (s .tables b)
   seen = see (load ws sh) b (s .tables b) (h .reps .memory .tables b l)
 
   table-is : TableIs (load (attachW ws sh b p f) sh) b (attach till (s .tables b) p f)
-  table-is = unsee (load ws sh) (load (attachW ws sh b p f) sh) b (attach till (s .tables b) p f) (λ x. paged-row b f (load ws sh) (load (attachW ws sh b p f) sh) only x 0)
+  table-is = unsee (load ws sh) (load (attachW ws sh b p f) sh) b (attach till (s .tables b) p f) (λ x. paged-rows b f (load ws sh) (load (attachW ws sh b p f) sh) only .rows x 0)
       (rw shows (joined-seen (load ws sh) (look (load ws sh) b) (look (mJoined (load ws sh) b p f) b) (s .tables b) seen (h .placed .sound b l) p f room ds turn
       (joined-is ws sh b (s .tables b) p f ripe)))
 
@@ -150,9 +129,6 @@ module _ (ws : List ℕ) (sh : Shape) (s : State) (h : Held ws sh s) (b : ℕ) (
       (λ q n. rw (ne-eqb q p n)) (h .reps .memory .frames) fs first (rising-head f fs (rw first at (w .rising))) pooled (rw (eq-eqb p p refl))
       (λ q n k. below (load ws sh) (look (load ws sh) b) (look (mJoined (load ws sh) b p f) b) (s .tables b) seen (h .placed .sound b l) p f room ds turn
       (joined-is ws sh b (s .tables b) p f ripe) q n k)
-
-  some-is : (x y : ℕ) → _≡_ {A = Option ℕ} (some x) (some y) → y ≡ x
-  some-is x y e = cc
 
   placed : Placed (paged s b (attach till (s .tables b) p f) fs)
   placed = placed-paged s b (attach till (s .tables b) p f) fs (h .placed)

@@ -2,23 +2,20 @@
 use mathlib.Core.Path.{_≡_, refl, sym, ap, _∙_}
 use mathlib.Core.Bool.{Bool, true, false}
 use mathlib.Core.List.{List}
-use Prim.Native.Nat.{ℕ, zero, suc, _+_, _-_, _*_, _%_, _≤_, _<_, min}
+use Prim.Native.Nat.{ℕ, suc, _+_, _-_, _≤_, _<_, min}
 use native.Mathlib.Omega.{arith}
 use native.Mathlib.Numerals.{add-one}
-use lib.Dec.{eqb, ltb}
+use lib.Dec.{eqb}
 use borrow.Author.Tests.{eq-eqb, ne-eqb}
 use Rattle.words.specs.Pick.{pick, yes-is, no-is}
-use Rattle.codec.specs.Codec.{nextGeneration}
 use Rattle.model.specs.State.{till}
 use Rattle.model.specs.Storage.{slotsOf}
 use Rattle.layout.specs.declared.Shape.{Shape}
-use Rattle.layout.specs.Layout.{Mem, head, entry, cell, load, save, writes}
+use Rattle.layout.specs.Layout.{Mem, head, entry, load, save, writes}
 use Rattle.layout.specs.Turns.{turns, turns-more}
 use Rattle.head.specs.declared.TableHead.{TableHead}
 use Rattle.head.specs.Head.{headAt, agedBy, nextEpoch, epochP}
-use Rattle.storage.specs.Sight.{linkFrame, slotP}
 use Rattle.storage.specs.Ops.{up}
-use Rattle.storage.specs.Code.{slot-some, cell-none, cell-some}
 use Rattle.frames.specs.Ops.{takeFrameW, lowestAt}
 use Rattle.growth.specs.Late.{ownP}
 use Rattle.growth.specs.Words.{nextWord, prevWord, cellsP, slotsP, builtW, joinedW, attachW, pageAt, linkAfter, sizeAfter, isFull, countFrom, pagesNeeded, attachNextW, attachAllW, advanceW, growW}
@@ -39,14 +36,6 @@ built-more ws sh f p g h j n x y us vs a b c e q = turns-more ws sh (slotsP f p 
 pub built-end : (ws : List ℕ) (sh : Shape) (f p g h j n : ℕ) (us : List ℕ) → n ≡ slotsOf till p → us ≡ turns ws sh (slotsP f p g h) j → j ≤ n → n ≤ j → us ≡ builtW ws sh f p g h
 unfolding builtW
 built-end ws sh f p g h j n us a e l k = let d : j ≡ slotsOf till p = omega arith in e ∙ ap (turns ws sh (slotsP f p g h)) d
-
--- `put_before`
-pub before-none : (ws : List ℕ) (sh : Shape) (fr h v : ℕ) → fr ≡ 0 → ws ≡ writes ws sh (slotP fr h 3 v)
-before-none ws sh fr zero v e = refl
-before-none ws sh fr (suc h) v e = cell-none ws sh fr (h % 64) 3 v e
-
-pub before-some : (ws vs : List ℕ) (sh : Shape) (fr h v : ℕ) → (h ≡ 0 → ⊥) → (fr ≡ 0 → ⊥) → vs ≡ save ws sh (cell (fr - 1) ((h - 1) % 64) 3) v → vs ≡ writes ws sh (slotP fr h 3 v)
-before-some ws vs sh fr h v a b q = slot-some ws vs sh fr h 3 v a (cell-some ws vs sh fr ((h - 1) % 64) 3 v b q)
 
 -- `attach_page`
 pub attach-is : (ws : List ℕ) (sh : Shape) (b p f : ℕ) (e₀ e : ℕ) (w₁ w₂ : List ℕ) → e₀ ≡ load ws sh (head b 10) → e ≡ min e₀ 4294967295 → w₁ ≡ joinedW ws sh b p f

@@ -3,12 +3,12 @@ use mathlib.Core.Path.{_≡_, refl, sym, ap, _∙_, fun-ext}
 use mathlib.Core.Bool.{and-true}
 use mathlib.Core.Logic.{inl, inr}
 use mathlib.Core.List.{List, [], _∷_}
-use Prim.Native.Nat.{ℕ, zero, suc, _+_, _%_, _^_, _≤_, _<_}
+use Prim.Native.Nat.{ℕ, zero, suc, _+_, _%_, _^_, _<_}
 use native.Mathlib.Omega.{arith}
 use native.Mathlib.Nat.{mod-lt}
 use lib.ListN.{length}
 use lib.Dec.{eqb}
-use borrow.Author.Tests.{eq-eqb, ne-eqb, eqb-true}
+use borrow.Author.Tests.{eq-eqb, eqb-true}
 use Rattle.words.specs.Pick.{bool}
 use Rattle.model.specs.Base.{put}
 use Rattle.model.specs.State.{till, Table, State}
@@ -16,7 +16,7 @@ use Rattle.model.specs.Storage.{advance}
 use Rattle.model.specs.Change.{withTable}
 use Rattle.invariant.specs.Orders.{recast}
 use Rattle.layout.specs.declared.Shape.{Shape}
-use Rattle.layout.specs.Layout.{Addr.reg, Mem, head, load, Write.at, upd, in-head, length-writes, load-writes}
+use Rattle.layout.specs.Layout.{Mem, head, load, Write.at, upd, in-head, length-writes, load-writes}
 use Rattle.representation.specs.Represents.{wordIn, frameOf, slotWord, TableIs, FramesAre}
 use Rattle.storage.specs.Sight.{Spot, Spot.hd, Spot.pg, Spot.sl, look, Put.toHead, put₁}
 use Rattle.storage.specs.Slots.{Seen, see, unsee}
@@ -96,10 +96,6 @@ module _ (ws : List ℕ) (sh : Shape) (s : State) (h : Held ws sh s) (b : ℕ) (
 
   same-slot : (k i : ℕ) → slotWord n b k i ≡ slotWord (load ws sh) b k i
   same-slot k i = same-words (frameOf (load ws sh) b k) (k % 64) i
-
-  -- the objects, the row index and the rows keep their words
-  pub advance-high : (k i j f : ℕ) → 8 ≤ k → load (advanceW ws sh b) sh (reg k i j f) ≡ load ws sh (reg k i j f)
-  advance-high k i j f m = rw load-advance (rw (ne-eqb k 1 (λ e. omega arith)))
 
   -- ADVANCE
   pub advance-held : Held (advanceW ws sh b) sh (withTable s b (advance (s .tables b)))

@@ -29,10 +29,9 @@ use Rattle.frames.specs.Paged.{paged-high}
 use Rattle.frames.specs.Whole.{paged}
 use Rattle.frames.specs.Frames.{frames-taken}
 use Rattle.frames.specs.Lowest.{lowest-free}
-use Rattle.frames.specs.Ops.{lowestAt}
 use Rattle.growth.specs.Words.{pageAt, attachW, attachNextW, attachAllW, advanceW, growW}
-use Rattle.growth.specs.Attach.{length-attach, only, attach-held}
-use Rattle.growth.specs.Epoch.{length-advance, advance-high, advance-held}
+use Rattle.growth.specs.Attach.{only, attach-held}
+use Rattle.growth.specs.Epoch.{advance-held}
 
 -- ---- the pages of a plan come in the order in which growth finds them
 
@@ -48,7 +47,8 @@ Follows t (p ∷ ps) = (p ≡ nextPage (t .detached) (t .size)) × Room t p × (
 planned : (fuel k : ℕ) (ds : List ℕ) (n l : ℕ) (t : Table) (fr : List ℕ) → Sound till t fr → t .detached ≡ ds → t .size ≡ n → t .limit ≡ l
     → (ps : List ℕ) → pagesFrom till fuel k ds n l ≡ some ps → Grows till t ps → Follows t ps
 unfolding attach
-planned zero k ds n l t fr o d c i ps e g = let y : ps ≡ [] = cc in rw y tt
+planned zero zero ds n l t fr o d c i ps e g = let y : ps ≡ [] = cc in rw y tt
+planned zero (suc k) ds n l t fr o d c i ps e g = apart (cc)
 planned (suc fuel) zero ds n l t fr o d c i ps e g = let y : ps ≡ [] = cc in rw y tt
 planned (suc fuel) (suc k) [] n l t fr o d c i ps e g = bool (eqb n l)
     (λ q. let x : none ≡ some ps = rw q at e in apart (cc))
@@ -187,29 +187,6 @@ module _ (sh : Shape) (b : ℕ) where
           = subst (λ (x : Table). Held (advanceW (attachAllW ws sh b (length (p ∷ ps))) sh b) sh (paged (paged s b u fs) b (advance x) fs)) (paged-table s b u fs) j in
           rw d (subst (λ (x : State). Held (advanceW (attachAllW ws sh b (length (p ∷ ps))) sh b) sh x) (paged-twice s b u (advance u) fs fs) j′)
 
-  pub grow-kept : (ws : List ℕ) (s : State) → Held ws sh s → b < s .tableCount → Frames s → (k : ℕ) (ps : List ℕ) → pagesFor till (s .tables b) k ≡ some ps → length ps ≤ length (s .frames)
-      → Kept sh ws (growW ws sh b (length ps))
-  unfolding growW
-  grow-kept ws s h l w k ps e n =
-      let i = all-both ps ws s h l w (plan-follows (s .tables b) (s .tables b .free) (h .placed .sound b l) k ps e) n in
-      bool (eqb (length ps) 0)
-      (λ d. rw d (i .1))
-      (λ d. rw d (λ r x y j m. advance-high (attachAllW ws sh b (length ps)) sh _ (i .0) b l r x y j m ∙ i .1 r x y j m))
-
   -- the free order then has as many slots as the batch
   pub grow-enough : (t : Table) → Sound till t (t .free) → (k : ℕ) → k ≤ 64 → (ps fs : List ℕ) → pagesFor till t k ≡ some ps → length ps ≤ length fs → k ≤ length (grow till ps fs t .free)
   grow-enough t o k n ps fs e l = omega (arith, reserve-length till till-sane t (t .free) o k (omega (arith, batch-max)) ps fs e l, length-take k (grow till ps fs t .free))
-
--- no word is added or lost
-next-length : (ws : List ℕ) (sh : Shape) (b : ℕ) → length (attachNextW ws sh b) ≡ length ws
-unfolding attachNextW
-next-length ws sh b = length-attach ws sh b (min (pageAt (load ws sh (head b 9)) (load ws sh (head b 5))) 262143) (lowestAt (load ws sh))
-
-all-length : (ws : List ℕ) (sh : Shape) (b n : ℕ) → length (attachAllW ws sh b n) ≡ length ws
-unfolding attachAllW
-all-length ws sh b zero = refl
-all-length ws sh b (suc n) = next-length (attachAllW ws sh b n) sh b ∙ all-length ws sh b n
-
-pub length-grow : (ws : List ℕ) (sh : Shape) (b n : ℕ) → length (growW ws sh b n) ≡ length ws
-unfolding growW
-length-grow ws sh b n = bool (eqb n 0) (λ d. rw d (all-length ws sh b n)) (λ d. rw d (length-advance (attachAllW ws sh b n) sh b ∙ all-length ws sh b n))

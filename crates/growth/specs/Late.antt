@@ -2,24 +2,23 @@
 use mathlib.Core.Path.{_≡_, refl, sym, ap, _∙_}
 use mathlib.Core.Bool.{Bool, true, false}
 use mathlib.Core.List.{List, [], _∷_}
-use Prim.Native.Nat.{ℕ, zero, suc, _+_, _-_, _*_, _%_, _<_, min}
+use Prim.Native.Nat.{ℕ, zero, suc, _+_, _*_, _<_, min}
 use native.Mathlib.Omega.{arith}
 use lib.Dec.{eqb, ltb}
 use Rattle.words.specs.Pick.{pick, yes-is, no-is}
 use Rattle.codec.specs.Codec.{nextGeneration}
-use Rattle.model.specs.State.{maxSlots, till}
+use Rattle.model.specs.State.{till}
 use Rattle.model.specs.Storage.{slotsOf}
 use Rattle.layout.specs.declared.Shape.{Shape}
-use Rattle.layout.specs.Layout.{Addr, Mem, head, entry, cell, load, save, Write, Write.at, writes}
+use Rattle.layout.specs.Layout.{Addr, Mem, head, entry, load, save, Write, Write.at, writes}
 use Rattle.head.specs.declared.TableHead.{TableHead}
-use Rattle.head.specs.Head.{headAt, attachedBy, drawnBy, emptyBy, slotsIn, pagesP}
+use Rattle.head.specs.Head.{headAt, attachedBy, drawnBy, emptyBy, pagesP}
 use Rattle.head.specs.Apart.{Off, load-off}
-use Rattle.storage.specs.Sight.{linkFrame, slotP, writesAll}
+use Rattle.storage.specs.Sight.{linkFrame, slotP}
 use Rattle.storage.specs.Ops.{up, joinW}
-use Rattle.model.specs.Bounds.{slots-max}
 use Rattle.storage.specs.Late.{linkFrom, link-of, linkedW, join-by, linked-last, entry-last, slot-keeps}
 use Rattle.layout.specs.Turns.{turns}
-use Rattle.growth.specs.Words.{slotsP, builtW, orderP, entryP, fresh, sizeWith, detachedWith, joinedW}
+use Rattle.growth.specs.Words.{slotsP, builtW, entryP, fresh, sizeWith, detachedWith, joinedW}
 
 -- the generation of page p and the link of the first detached page then, by the head
 unfoldable pub freshFrom : Mem → TableHead → ℕ → ℕ
@@ -87,9 +86,6 @@ joined-last ws sh b p f g e x z c n d q i =
     x (i ∙ sym (load-off own sh (head b 8) hs (refl, (refl, (refl, (refl, tt)))) ∙ load-off ws sh (head b 8) (ownP e p f g) (refl, (refl, (refl, tt)))))
     ∙ ap (λ (u : List ℕ). save u sh (head b 8) (up p)) (linked-last sh hs o own e p x)
 
-slots-are : (p : ℕ) → slotsOf till p ≡ slotsIn p
-slots-are p = ap (λ (z : ℕ). min 64 (z - p * 64)) slots-max
-
 -- `join_page`
 pub page-is : (ws : List ℕ) (sh : Shape) (b p f : ℕ) (h t : TableHead) (d g fr : ℕ) (w₁ w₂ w₃ w₄ w₅ : List ℕ) → p < 4294967296
     → h ≡ headAt (load ws sh) b → g ≡ freshFrom (load ws sh) h p → fr ≡ linkFrom (load ws sh) h (h .«first_free») → d ≡ detachedFrom (load ws sh) h p
@@ -105,7 +101,7 @@ page-is ws sh b p f h t d g fr w₁ w₂ w₃ w₄ w₅ l e₁ e₂ e₃ e₄ e�
     let v : List ℕ = writes u sh (slotP (linkFrame m b (m (head b 6))) (m (head b 6)) 3 (p * 64 + 1)) in
     let keeps : (i : ℕ) → m (head b i) ≡ load v sh (head b i)
     = λ (i : ℕ). sym (slot-keeps sh (head b i) u (linkFrame m b (m (head b 6))) (m (head b 6)) 3 (p * 64 + 1) (λ y z w. (refl, tt)) ∙ built-keeps ws sh b i f p (fresh m b p) (m (head b 6))) in
-    rw (a₅, a₄, a₃, a₂, a₁, e₅, e₄, e₃, e₂, e₁, k, ← slots-are p, fresh-of, detached-of, link-of)
+    rw (a₅, a₄, a₃, a₂, a₁, e₅, e₄, e₃, e₂, e₁, k, fresh-of, detached-of, link-of)
     (sym (joined-last v sh b p f (fresh m b p) (m (head b 10)) (m (head b 8)) (p * 64 + slotsOf till p) (min (m (head b 7)) 16777215 + slotsOf till p) (sizeWith m b p) (detachedWith m b p) (keeps 10) (keeps 8)))
 
 -- `attached_head`

@@ -1,19 +1,21 @@
 -- The count of the pages that a batch needs is that of the model's plan. Assumes nothing.
-use mathlib.Core.Path.{_≡_, refl, sym, ap, _∙_}
+use mathlib.Core.Path.{_≡_, refl, ap, _∙_}
 use mathlib.Core.List.{List, [], _∷_}
 use mathlib.Core.Option.{Option, none, some}
 use Prim.Native.Nat.{ℕ, zero, suc, _+_, _-_, _≤_, _<_}
 use native.Mathlib.Omega.{arith}
 use lib.ListN.{length}
-use lib.Dec.{eqb}
-use borrow.Author.Tests.{ne-eqb, eqb-false}
+use lib.Dec.{eqb, ltb}
+use borrow.Author.Tests.{ne-eqb, eqb-false, ltb-true}
 use Rattle.words.specs.Pick.{bool}
-use Rattle.model.specs.Base.{also}
+use Rattle.model.specs.Base.{also, occurs}
 use Rattle.model.specs.State.{till, Table, maxBatch}
 use Rattle.model.specs.Storage.{slotsOf, pagesFrom, pagesFor}
-use Rattle.model.specs.Tests.{apart}
+use Rattle.model.specs.Tests.{apart, same}
+use Rattle.model.specs.Create.{maxPages}
 use Rattle.model.specs.Bounds.{pages-max}
 use Rattle.invariant.specs.Orders.{Sound}
+use Rattle.invariant.specs.Pages.{till-sane, page-slots}
 use Rattle.layout.specs.Layout.{Mem, head, entry}
 use Rattle.representation.specs.Represents.{Linked, TableIs}
 use Rattle.storage.specs.Ops.{up}
@@ -29,32 +31,44 @@ counted-also : (c p : ℕ) (x : Option (List ℕ)) → counted (suc c) x ≡ cou
 counted-also c p none = refl
 counted-also c p (some ps) = omega arith
 
-count-is : (m : Mem) (e l fuel k d n c : ℕ) (ds : List ℕ) → Linked (λ q. m (entry (e + q) 3)) d ds → n ≤ l → l ≤ 262144
+-- every page brings a slot at least, so that the turns are enough
+count-is : (m : Mem) (e l fuel k d n c : ℕ) (ds : List ℕ) → Linked (λ q. m (entry (e + q) 3)) d ds → n ≤ l → l ≤ maxPages till → ((p : ℕ) → 0 < occurs p ds → p < maxPages till) → k ≤ fuel
     → countFrom m e l fuel k d n c ≡ counted c (pagesFrom till fuel k ds n l)
 unfolding countFrom
-count-is m e l zero k d n c ds i a b = omega arith
-count-is m e l (suc fuel) zero d n c ds i a b = omega arith
-count-is m e l (suc fuel) (suc k) d n c [] i a b = rw (i, ne-eqb (suc k) 0 (λ y. omega arith)) (bool (eqb n l)
+count-is m e l zero zero d n c ds i a b h f = omega arith
+count-is m e l zero (suc k) d n c ds i a b h f = absurd (omega arith)
+count-is m e l (suc fuel) zero d n c ds i a b h f = omega arith
+count-is m e l (suc fuel) (suc k) d n c [] i a b h f = rw (i, ne-eqb (suc k) 0 (λ y. omega arith)) (bool (eqb n l)
     (λ t. rw t)
-    (λ t. let u : up n ≡ suc n = up-small n (omega arith) in
-    rw (t, u) (count-is m e l fuel (suc k - slotsOf till n) 0 (suc n) (suc c) [] refl (omega (arith, eqb-false n l t)) b
+    (λ t. let o : n < maxPages till = omega (arith, eqb-false n l t) in
+    let u : up n ≡ suc n = up-small n (omega (arith, pages-max)) in
+    rw (t, u) (count-is m e l fuel (suc k - slotsOf till n) 0 (suc n) (suc c) [] refl (omega (arith, eqb-false n l t)) b h (omega (arith, page-slots till till-sane n o))
     ∙ counted-also c n (pagesFrom till fuel (suc k - slotsOf till n) [] (suc n) l))))
-count-is m e l (suc fuel) (suc k) d n c (p ∷ ds) i a b =
+count-is m e l (suc fuel) (suc k) d n c (p ∷ ds) i a b h f =
     let z : suc p - 1 ≡ p = omega arith in
+    let o : p < maxPages till = h p (rw (same p) (omega arith)) in
     rw (i .0, ne-eqb (suc p) 0 (λ y. omega arith), ne-eqb (suc k) 0 (λ y. omega arith), z) (count-is m e l fuel (suc k - slotsOf till p) (m (entry (e + p) 3)) n (suc c) ds (i .1) a b
+    (λ q v. h q (omega arith)) (omega (arith, page-slots till till-sane p o))
     ∙ counted-also c p (pagesFrom till fuel (suc k - slotsOf till p) ds n l))
 
--- THE COUNT
-pub needed-is : (m : Mem) (b : ℕ) (t : Table) → TableIs m b t → Sound till t (t .free) → (k : ℕ) → pagesNeeded m b k ≡ counted 0 (pagesFor till t k)
-unfolding pagesNeeded pagesFor maxBatch
-needed-is m b t i o k = rw (i .freeCount, i .size, i .limit)
-    (count-is m (m (head b 10)) (t .limit) 64 (k - length (t .free)) (m (head b 9)) (t .size) 0 (t .detached) (i .detached) (o .size) (omega (arith, o .limit, pages-max)))
+-- a detached page is one of the table's
+detached-in : (t : Table) → Sound till t (t .free) → (p : ℕ) → 0 < occurs p (t .detached) → p < maxPages till
+detached-in t o p h = bool (ltb p (t .size))
+    (λ e. omega (arith, ltb-true p (t .size) e, o .size, o .limit))
+    (λ e. let z : occurs p (t .detached) ≡ 0 = rw e at (o .detached p) in absurd (omega arith))
 
-pub needed-some : (m : Mem) (b : ℕ) (t : Table) → TableIs m b t → Sound till t (t .free) → (k : ℕ) (ps : List ℕ) → pagesFor till t k ≡ some ps → pagesNeeded m b k ≡ length ps
-needed-some m b t i o k ps e = needed-is m b t i o k ∙ ap (counted 0) e ∙ omega arith
+-- THE COUNT, of a batch of at most 64
+module _ (m : Mem) (b : ℕ) (t : Table) (i : TableIs m b t) (o : Sound till t (t .free)) (k : ℕ) (few : k ≤ 64) where
+  needed-is : pagesNeeded m b k ≡ counted 0 (pagesFor till t k)
+  unfolding pagesNeeded pagesFor maxBatch
+  needed-is = rw (i .freeCount, i .size, i .limit)
+      (count-is m (m (head b 10)) (t .limit) 64 (k - length (t .free)) (m (head b 9)) (t .size) 0 (t .detached) (i .detached) (o .size) (o .limit) (detached-in t o) (omega arith))
 
-pub needed-none : (m : Mem) (b : ℕ) (t : Table) → TableIs m b t → Sound till t (t .free) → (k : ℕ) → pagesFor till t k ≡ none → pagesNeeded m b k ≡ 65
-needed-none m b t i o k e = needed-is m b t i o k ∙ ap (counted 0) e
+  pub needed-some : (ps : List ℕ) → pagesFor till t k ≡ some ps → pagesNeeded m b k ≡ length ps
+  needed-some ps e = needed-is ∙ ap (counted 0) e ∙ omega arith
+
+  pub needed-none : pagesFor till t k ≡ none → pagesNeeded m b k ≡ 65
+  needed-none e = needed-is ∙ ap (counted 0) e
 
 -- no plan has more than 64 pages
 also-short : (n p : ℕ) (x : Option (List ℕ)) → ((ps : List ℕ) → x ≡ some ps → length ps ≤ n) → (ps : List ℕ) → also p x ≡ some ps → length ps ≤ suc n
@@ -62,7 +76,8 @@ also-short n p none h ps e = apart (cc)
 also-short n p (some qs) h ps e = let y : ps ≡ p ∷ qs = cc in rw y (omega (arith, h qs refl))
 
 from-short : (fuel k : ℕ) (ds : List ℕ) (n l : ℕ) (ps : List ℕ) → pagesFrom till fuel k ds n l ≡ some ps → length ps ≤ fuel
-from-short zero k ds n l ps e = let y : ps ≡ [] = cc in rw y (omega arith)
+from-short zero zero ds n l ps e = let y : ps ≡ [] = cc in rw y (omega arith)
+from-short zero (suc k) ds n l ps e = apart (cc)
 from-short (suc fuel) zero ds n l ps e = let y : ps ≡ [] = cc in rw y (omega arith)
 from-short (suc fuel) (suc k) [] n l ps e = bool (eqb n l)
     (λ t. let x : none ≡ some ps = rw t at e in apart (cc))
@@ -72,11 +87,3 @@ from-short (suc fuel) (suc k) (p ∷ ds) n l ps e = also-short fuel p (pagesFrom
 pub plan-short : (t : Table) (k : ℕ) (ps : List ℕ) → pagesFor till t k ≡ some ps → length ps ≤ 64
 unfolding pagesFor maxBatch
 plan-short t k ps e = from-short 64 (k - length (t .free)) (t .detached) (t .size) (t .limit) ps e
-
--- so the count tells a plan from none
-pub needed-few : (m : Mem) (b : ℕ) (t : Table) → TableIs m b t → Sound till t (t .free) → (k : ℕ) → pagesNeeded m b k < 65 → (ps : List ℕ) × (pagesFor till t k ≡ some ps) × (length ps ≡ pagesNeeded m b k)
-needed-few m b t i o k h = go (pagesFor till t k) refl
-  where
-    go : (x : Option (List ℕ)) → pagesFor till t k ≡ x → (ps : List ℕ) × (pagesFor till t k ≡ some ps) × (length ps ≡ pagesNeeded m b k)
-    go none e = absurd (omega (arith, needed-none m b t i o k e))
-    go (some ps) e = (ps, e, sym (needed-some m b t i o k ps e))

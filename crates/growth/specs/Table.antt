@@ -169,9 +169,6 @@ module _ (m : Mem) (v w : Spot → ℕ) (t : Table) (z : Seen m v t) (o : Sound 
   count-is : w (hd 7) ≡ length (pushAll (pageRange till p) (t .free))
   count-is = omega (arith, j .count, z .freeCount, length-push (pageRange till p) (t .free), length-range (p * 64) (slotsOf till p))
 
-  empty-off : (q : ℕ) → 0 < occurs q (t .empty) → q ≡ p → ⊥
-  empty-off q h e = let i : occurs p (t .empty) ≡ 0 = o .empty p ∙ rw (r .out) in omega (arith, ap (λ (x : ℕ). occurs x (t .empty)) e)
-
   empty-is : Chain (λ q. w (pg q 3)) (λ q. w (pg q 4)) (w (hd 8)) 0 (p ∷ t .empty)
   empty-is = rw (j .empty) (chain-push (λ q. v (pg q 3)) (λ q. v (pg q 4)) (λ q. w (pg q 3)) (λ q. w (pg q 4)) (v (hd 8)) p (t .empty) (record {
     next-at = j .next;

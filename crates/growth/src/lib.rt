@@ -1,38 +1,13 @@
 // Growth of a table: pages are attached in free frames, as many as a batch of slots needs.
 ghost use mathlib.Core.Path.{_≡_};
-ghost use Prim.Native.Nat.{ℕ, _+_, _-_, _*_, _%_, _^_, min};
-ghost use lib.Dec.{eqb};
-ghost use Rattle.words.specs.Pick.{pick};
-ghost use Rattle.model.specs.State.{till};
-ghost use Rattle.model.specs.Storage.{slotsOf};
+ghost use Prim.Native.Nat.{_+_, _-_, _*_};
 ghost use Rattle.layout.specs.Layout.{load as loadAt, writes, head};
-ghost use Rattle.storage.specs.Sight.{slotP};
 ghost use Rattle.storage.specs.Ops.{up};
 ghost use Rattle.head.specs.Head.{attachedBy, drawnBy, emptyBy};
 ghost use Rattle.growth.specs.Late.{freshFrom, detachedFrom, ownP};
 ghost use Rattle.growth.specs.Words.{nextWord, prevWord, cellsP, builtW, joinedW, attachW, pageAt, linkAfter, sizeAfter, isFull, pagesNeeded, attachNextW, attachAllW, advanceW, growW};
 use head::TableHead;
 use layout::Shape;
-
-// How many slots page p has.
-fn slots_of(p: u64) -> u8
-    ensures { λ r. ⌜ r ≡ slotsOf till p ⌝ }
-{
-    if p < 262143 {
-        return 64;
-    }
-    if p > 262143 {
-        return 0;
-    }
-    63
-}
-
-// What is left of x after y.
-fn left(x: u64, y: u64) -> u64
-    ensures { λ r. ⌜ r ≡ x - y ⌝ }
-{
-    if y < x { x - y } else { 0 }
-}
 
 // The links of slot j of page p, which has n slots, in the free order; h is the link of the order that there was.
 fn next_word(p: u32, h: u64, j: u8) -> u64
@@ -68,7 +43,7 @@ fn build_slot(s: &mut [u64], sh: Shape, f: u64, j: u64, g: u64, x: u64, y: u64)
 fn build_frame(s: &mut [u64], sh: Shape, f: u64, p: u32, g: u64, h: u64)
     ensures { λ _. ⌜ now (s .exit) ≡ builtW (now (s .entry)) sh f p g h ⌝ }
 {
-    let n = slots_of(p as u64);
+    let n = head::slots_of(p as u64);
     let mut j: u8 = 0;
     while j < n {
         let x = next_word(p, h, j);
@@ -76,19 +51,6 @@ fn build_frame(s: &mut [u64], sh: Shape, f: u64, p: u32, g: u64, h: u64)
         build_slot(s, sh, f, j as u64, g, x, y);
         j += 1;
     }
-}
-
-// The link before the slot of the link h, which stands in the frame fr.
-fn put_before(s: &mut [u64], sh: Shape, fr: u64, h: u64, v: u64)
-    ensures { λ _. ⌜ now (s .exit) ≡ writes (now (s .entry)) sh (slotP fr h 3 v) ⌝ }
-{
-    if h == 0 {
-        return;
-    }
-    if fr == 0 {
-        return;
-    }
-    layout::put_cell(s, sh, fr - 1, (h - 1) % 64, 3, v);
 }
 
 // The generation of a page that is attached: after its last; a new page has had none.
@@ -146,7 +108,7 @@ fn join_page(s: &mut [u64], sh: Shape, b: u64, p: u32, f: u64)
     let fr = storage::link_frame(s, sh, h, x);
     let t = attached_head(h, q, detached_with(s, sh, h, q));
     build_frame(s, sh, f, p, g, x);
-    put_before(s, sh, fr, x, q * 64 + 1);
+    storage::put_slot_link(s, sh, fr, x, 3, q * 64 + 1);
     put_entry(s, sh, e, q, f, g);
     storage::link_page(s, sh, e, q, h.first_empty);
     head::store_pages(s, sh, b, t);
@@ -207,7 +169,7 @@ pub fn pages_needed(s: &[u64], sh: Shape, b: u64, k: u64) -> u64
 {
     let e = layout::head_word(s, sh, b, 10);
     let limit = layout::head_word(s, sh, b, 0);
-    let mut need = left(k, layout::head_word(s, sh, b, 7));
+    let mut need = words::left(k, layout::head_word(s, sh, b, 7));
     let mut d = layout::head_word(s, sh, b, 9);
     let mut n = layout::head_word(s, sh, b, 5);
     let mut c: u64 = 0;
@@ -219,7 +181,7 @@ pub fn pages_needed(s: &[u64], sh: Shape, b: u64, k: u64) -> u64
             return 65;
         }
         let p = page_at(d, n);
-        need = left(need, slots_of(p) as u64);
+        need = words::left(need, head::slots_of(p) as u64);
         n = size_after(d, n);
         d = link_after(s, sh, e, d);
         c += 1;

@@ -1,9 +1,9 @@
 -- Stores at other addresses: they commute, and a load keeps its word, whatever the lengths. Assumes nothing.
 use mathlib.Core.Path.{_≡_, refl, sym, ap, _∙_}
-use mathlib.Core.Bool.{Bool, true, false}
+use mathlib.Core.Bool.{false}
 use mathlib.Core.List.{List, [], _∷_}
 use Prim.Native.Nat.{ℕ}
-use lib.ListN.{length, set, length-set}
+use lib.ListN.{length, length-set}
 use lib.Seq.{getD-set-other, set-comm}
 use borrow.Author.Tests.{eq-eqb}
 use Rattle.words.specs.Pick.{bool, clash}

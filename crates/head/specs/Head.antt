@@ -1,11 +1,12 @@
 -- A table's head: its words, the steps on it by value, and the words that each step changes. Assumes nothing.
-use mathlib.Core.Path.{_≡_, refl, sym, ap, _∙_}
+use mathlib.Core.Path.{_≡_, refl}
 use mathlib.Core.List.{List, [], _∷_}
-use Prim.Native.Nat.{ℕ, _+_, _-_, _*_, _%_, _^_, _<_, _≤_, min}
-use native.Mathlib.Omega.{arith}
+use Prim.Native.Nat.{ℕ, _+_, _-_, _*_, _%_, _^_, min}
 use lib.Dec.{eqb}
 use borrow.Author.Tests.{eq-eqb, ne-eqb}
 use Rattle.words.specs.Pick.{pick, yes-is, no-is}
+use Rattle.model.specs.State.{till}
+use Rattle.model.specs.Storage.{slotsOf}
 use Rattle.layout.specs.declared.Shape.{Shape}
 use Rattle.layout.specs.Layout.{Mem, head, save, Write, Write.at, writes}
 use Rattle.head.specs.declared.TableHead.{TableHead}
@@ -62,10 +63,6 @@ emptyBy h x = record {
   entry = h .entry;
 }
 
--- how many slots page p has: 64, the last page 63
-abbrev pub slotsIn : ℕ → ℕ
-slotsIn p = min 64 (16777215 - p * 64)
-
 -- how many pages there are with page p, of n
 abbrev pub pagesWith : ℕ → ℕ → ℕ
 pagesWith n p = pick (eqb p n) (min (p + 1) 0xffff_ffff_ffff_ffff) n
@@ -77,8 +74,8 @@ attachedBy h p = record {
   cursor = h .cursor;
   epoch = h .epoch;
   pages = pagesWith (h .pages) p;
-  «first_free» = min p 4294967295 * 64 + slotsIn p;
-  free = min (h .free) 16777215 + slotsIn p;
+  «first_free» = min p 4294967295 * 64 + slotsOf till p;
+  free = min (h .free) 16777215 + slotsOf till p;
   «first_empty» = h .«first_empty»;
   «first_detached» = h .«first_detached»;
   entry = h .entry;
@@ -188,7 +185,7 @@ pub pages-old : (n p : ℕ) → (p ≡ n → ⊥) → n ≡ pagesWith n p
 pages-old n p e = no-is (eqb p n) n (min (p + 1) 0xffff_ffff_ffff_ffff) n (ne-eqb p n e) refl
 
 -- ---- the words of `attached`
-pub attached-is : (h : TableHead) (p n k c f w : ℕ) → n ≡ slotsIn p → k ≡ min p 4294967295 → c ≡ min (h .free) 16777215 → w ≡ pagesWith (h .pages) p → f ≡ k * 64 + n
+pub attached-is : (h : TableHead) (p n k c f w : ℕ) → n ≡ slotsOf till p → k ≡ min p 4294967295 → c ≡ min (h .free) 16777215 → w ≡ pagesWith (h .pages) p → f ≡ k * 64 + n
     → _≡_ {A = TableHead} (record { life = h .life; cursor = h .cursor; epoch = h .epoch; pages = w; «first_free» = f; free = c + n; «first_empty» = h .«first_empty»; «first_detached» = h .«first_detached»; entry = h .entry })
     (attachedBy h p)
 attached-is h p n k c f w e₁ e₂ e₃ e₄ e₅ = rw (e₅, e₄, e₃, e₂, e₁)

@@ -1,7 +1,9 @@
 // A table's head: its words as one struct, the steps on it by value, thin functions that it is lent to, and its loads and stores over the state's words.
 ghost use mathlib.Core.Path.{_≡_};
+ghost use Rattle.model.specs.State.{till};
+ghost use Rattle.model.specs.Storage.{slotsOf};
 ghost use Rattle.layout.specs.Layout.{load as loadAt, writes};
-ghost use Rattle.head.specs.Head.{headAt, withFree, withLife, freedBy, takenBy, emptyBy, attachedBy, drawnBy, detachedBy, agedBy, tearingBy, retiredBy, slotsIn, pagesWith, nextEpoch, freeP, ordersP, pagesP, detachedP, epochP, lifeP};
+ghost use Rattle.head.specs.Head.{headAt, withFree, withLife, freedBy, takenBy, emptyBy, attachedBy, drawnBy, detachedBy, agedBy, tearingBy, retiredBy, pagesWith, nextEpoch, freeP, ordersP, pagesP, detachedP, epochP, lifeP};
 use layout::Shape;
 
 // The words of a head that change, and the number of the table's first page entry. Orders begin with a link, which is a number plus 1.
@@ -91,9 +93,9 @@ pub fn emptied(h: TableHead, first: u64) -> TableHead
     }
 }
 
-// How many slots page p has.
-fn slots_in(p: u64) -> u64
-    ensures { λ r. ⌜ r ≡ slotsIn p ⌝ }
+// How many slots page p has. "Page 262,143 has 63 slots".
+pub fn slots_of(p: u64) -> u8
+    ensures { λ r. ⌜ r ≡ slotsOf till p ⌝ }
 {
     if p < 262143 {
         return 64;
@@ -118,7 +120,7 @@ fn pages_with(n: u64, p: u64) -> u64
 pub fn attached(h: TableHead, p: u64) -> TableHead
     ensures { λ r. ⌜ r ≡ attachedBy h p ⌝ }
 {
-    let n = slots_in(p);
+    let n = slots_of(p) as u64;
     let first = words::smaller(p, 4294967295) * 64 + n;
     let free = words::smaller(h.free, 16777215) + n;
     let pages = pages_with(h.pages, p);

@@ -1,7 +1,7 @@
 -- Where each field of a state stands, loads and stores by address, and plans of stores. Assumes nothing.
 use mathlib.Core.Path.{_≡_, refl, sym, ap, _∙_, fun-ext}
 use mathlib.Core.Bool.{Bool, true, false, _&&_, and-false}
-use mathlib.Core.List.{List, [], _∷_, _++_}
+use mathlib.Core.List.{List, [], _∷_}
 use Prim.Native.Nat.{ℕ, zero, suc, _+_, _*_, _/_, _^_, _<_, _≤_}
 use native.Mathlib.Omega.{arith}
 use lib.ListN.{length, getD, set, length-set}
@@ -149,9 +149,6 @@ pub same-all : (k x y f k′ x′ y′ f′ : ℕ) → same (reg k x y f) (reg k
 same-all k x y f k′ x′ y′ f′ =
     ap (λ (b : Bool). eqb k′ k && b)
     (pick-same (eqb k 10) (blocks y′ y (eqb f′ f) (eqb x′ x)) (eqb f′ f && (eqb y′ y && eqb x′ x)) (blocks-is y′ y (eqb f′ f) (eqb x′ x)))
-
-pub same-refl : (a : Addr) → same a a ≡ true
-same-refl (reg k x y f) = same-all k x y f k x y f ∙ rw (eq-eqb k k refl, eq-eqb f f refl, eq-eqb y y refl, eq-eqb x x refl)
 
 pub same-is : (a b : Addr) → same a b ≡ true → b ≡ a
 same-is (reg k x y f) (reg k′ x′ y′ f′) e =
@@ -342,23 +339,6 @@ abbrev pub InAll : Shape → List Write → Type 0
 InAll sh [] = Unit {0}
 InAll sh (x ∷ xs) = InW sh x × InAll sh xs
 
--- none goes to the place i of n words
-abbrev pub Misses : ℕ → Shape → ℕ → List Write → Type 0
-Misses n sh i [] = Unit {0}
-Misses n sh i (at a v ∷ xs) = (place n sh a ≡ i → ⊥) × Misses n sh i xs
-
-pub in-append : (sh : Shape) (xs ys : List Write) → InAll sh xs → InAll sh ys → InAll sh (xs ++ ys)
-in-append sh [] ys p q = q
-in-append sh (x ∷ xs) ys p q = (p .0, in-append sh xs ys (p .1) q)
-
-pub writes-append : (ws : List ℕ) (sh : Shape) (xs ys : List Write) → writes ws sh (xs ++ ys) ≡ writes (writes ws sh xs) sh ys
-writes-append ws sh [] ys = refl
-writes-append ws sh (x ∷ xs) ys = writes-append (write ws sh x) sh xs ys
-
-pub upds-append : (m : Mem) (xs ys : List Write) → upds m (xs ++ ys) ≡ upds (upds m xs) ys
-upds-append m [] ys = refl
-upds-append m (x ∷ xs) ys = upds-append (upd m x) xs ys
-
 pub length-writes : (ws : List ℕ) (sh : Shape) (xs : List Write) → length (writes ws sh xs) ≡ length ws
 length-writes ws sh [] = refl
 length-writes ws sh (at a v ∷ xs) = length-writes (save ws sh a v) sh xs ∙ length-save ws sh a v
@@ -370,24 +350,10 @@ load-writes ws sh h (at a v ∷ xs) c =
     load-writes (save ws sh a v) sh (omega (arith, length-save ws sh a v)) xs (c .1)
     ∙ ap (λ (m : Mem). upds m xs) (fun-ext (load-save ws sh h a v (c .0)))
 
--- words at no place of the plan keep their values
-pub writes-keep : (ws : List ℕ) (sh : Shape) (xs : List Write) (i : ℕ) → Misses (length ws) sh i xs → getD (writes ws sh xs) i 0 ≡ getD ws i 0
-writes-keep ws sh [] i c = refl
-writes-keep ws sh (at a v ∷ xs) i c =
-    writes-keep (save ws sh a v) sh xs i (rw (length-save ws sh a v) (c .1)) ∙ save-keep ws sh a v i (c .0)
-
--- so do all words past the state
+-- words past the state keep their values
 pub writes-past : (ws : List ℕ) (sh : Shape) (xs : List Write) (i : ℕ) → total sh ≤ i → getD (writes ws sh xs) i 0 ≡ getD ws i 0
 writes-past ws sh [] i h = refl
 writes-past ws sh (at a v ∷ xs) i h = writes-past (save ws sh a v) sh xs i h ∙ save-past ws sh a v i h
-
--- plans that show the same make the same words
-pub writes-same : (ws : List ℕ) (sh : Shape) → total sh ≤ length ws → (xs ys : List Write) → InAll sh xs → InAll sh ys → upds (load ws sh) xs ≡ upds (load ws sh) ys
-    → writes ws sh xs ≡ writes ws sh ys
-writes-same ws sh h xs ys c d e =
-    loads-same (writes ws sh xs) (writes ws sh ys) sh (length-writes ws sh xs ∙ sym (length-writes ws sh ys))
-    (load-writes ws sh h xs c ∙ e ∙ sym (load-writes ws sh h ys d))
-    (λ i p. writes-past ws sh xs i p ∙ sym (writes-past ws sh ys i p))
 
 -- ---- what the code's sums say
 

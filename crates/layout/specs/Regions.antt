@@ -6,9 +6,9 @@ use Prim.Native.Nat.{ℕ, zero, suc, _+_, _*_, _-_, _/_, _%_, _<_, _≤_}
 use native.Mathlib.Nat.{mul-le-mul-right, mul-le-mul-left, div-add-mod', div-lt-iff-lt-mul, mod-lt}
 use native.Mathlib.Omega.{arith}
 use lib.ListN.{length}
-use lib.Dec.{eqb, ltb}
+use lib.Dec.{ltb}
 use borrow.Author.Tests.{lt-ltb, le-ltb, ltb-true, ltb-false}
-use Rattle.words.specs.Pick.{pick, bool, clash, both}
+use Rattle.words.specs.Pick.{pick, bool, both}
 use Rattle.layout.specs.declared.Extent.{Extent}
 
 -- a region: its low end, x times y things, w words each

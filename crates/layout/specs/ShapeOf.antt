@@ -1,14 +1,14 @@
 -- The shape that a state's header gives, or none. Assumes nothing.
 use mathlib.Core.Path.{_≡_, refl, sym, _∙_}
-use mathlib.Core.Bool.{Bool, true, false, _&&_}
+use mathlib.Core.Bool.{Bool, true, _&&_}
 use mathlib.Core.List.{List, [], _∷_}
-use Prim.Native.Nat.{ℕ, _+_, _*_, _≤_, _<_}
+use Prim.Native.Nat.{ℕ, _*_, _≤_, _<_}
 use native.Mathlib.Omega.{arith}
 use lib.ListN.{length, getD}
 use lib.Dec.{eqb, leb}
 use borrow.Author.Tests.{eq-eqb, eqb-true, le-leb, leb-true}
 use Rattle.words.specs.Pick.{pick, bool, both, both-is}
-use Rattle.layout.specs.Layout.{total, root, Mem, load, load-root, Write, writes, upds, InAll, length-writes, load-writes}
+use Rattle.layout.specs.Layout.{total, root, Mem, load, load-root}
 use Rattle.layout.specs.declared.Shape.{Shape}
 use Rattle.layout.specs.declared.ShapeRead.{ShapeRead}
 use Rattle.layout.specs.declared.ShapeRead.the-variants.{Shape as found, Bad}
@@ -152,15 +152,15 @@ pub record Roots (sh : Shape) (m : Mem) : Type 0 where
   pub rows : m (root 4) ≡ sh .rows
   pub pages : m (root 8) ≡ sh .pages
 
--- so has one that shows the same header
-pub roots-kept : (sh : Shape) (m m′ : Mem) → ((f : ℕ) → m′ (root f) ≡ m (root f)) → Roots sh m → Roots sh m′
+-- so has one that shows the same header, but for the next id and the counts of rows and of free frames
+pub roots-kept : (sh : Shape) (m m′ : Mem) → ((f : ℕ) → (5 ≤ f → f ≤ 7 → ⊥) → m′ (root f) ≡ m (root f)) → Roots sh m → Roots sh m′
 roots-kept sh m m′ e r = record {
-  version = e 0 ∙ r .version;
-  tables = e 1 ∙ r .tables;
-  frames = e 2 ∙ r .frames;
-  objects = e 3 ∙ r .objects;
-  rows = e 4 ∙ r .rows;
-  pages = e 8 ∙ r .pages;
+  version = e 0 (λ a b. omega arith) ∙ r .version;
+  tables = e 1 (λ a b. omega arith) ∙ r .tables;
+  frames = e 2 (λ a b. omega arith) ∙ r .frames;
+  objects = e 3 (λ a b. omega arith) ∙ r .objects;
+  rows = e 4 (λ a b. omega arith) ∙ r .rows;
+  pages = e 8 (λ a b. omega arith) ∙ r .pages;
 }
 
 pub record Shaped (ws : List ℕ) (sh : Shape) : Type 0 where
@@ -201,9 +201,3 @@ shape-is ws sh h =
       limits = h .limits;
       room = h .room;
     }))
-
--- a plan that keeps the header's counts keeps the shape
-pub shape-writes : (ws : List ℕ) (sh : Shape) (xs : List Write) → shapeOf ws ≡ found sh → InAll sh xs → Roots sh (upds (load ws sh) xs) → shapeOf (writes ws sh xs) ≡ found sh
-shape-writes ws sh xs q c r =
-    let s = shape-found ws sh q in
-    shape-is (writes ws sh xs) sh (record { limits = s .limits; room = omega (arith, length-writes ws sh xs, s .room); roots = rw (load-writes ws sh (s .room) xs c) r })

@@ -1,6 +1,6 @@
 // The words of a state: where each field stands, loads and stores, and the shape that the header gives.
 ghost use mathlib.Core.Path.{_≡_};
-ghost use Prim.Native.Nat.{ℕ, _+_, _<_, _^_};
+ghost use Prim.Native.Nat.{_+_, _<_, _^_};
 ghost use Rattle.layout.specs.Regions.{region, size, placeIn};
 ghost use Rattle.layout.specs.Layout.{Addr.reg, layout, total, load as loadAt, save as saveAt};
 ghost use Rattle.layout.specs.Layout.{root, head, entry, owner, cell, object, index, rank, row, item};

@@ -3,10 +3,10 @@ use mathlib.Core.Path.{_≡_}
 use mathlib.Core.Bool.{Bool, true, false}
 use mathlib.Core.List.{List, [], _∷_}
 use mathlib.Core.Option.{Option, none, some}
-use Prim.Native.Nat.{ℕ, zero, suc, _+_, _-_, _*_, _/_, _%_, _≤_, _<_}
+use Prim.Native.Nat.{ℕ, zero, suc, _+_, _-_, _*_, _/_, _%_, _<_}
 use lib.ListN.{length}
-use lib.Dec.{eqb, ltb}
-use Rattle.model.specs.Base.{pick, bit, nth, occurs, sum}
+use lib.Dec.{ltb}
+use Rattle.model.specs.Base.{pick, bit, occurs, sum}
 use Rattle.model.specs.State.{till, Handle, Slot, Slot.absent, Slot.vacant, Slot.reserved, Slot.transferReserved, Slot.occupied, Lifecycle, Lifecycle.active, Lifecycle.tearingDown, Lifecycle.retired, Table, Class, Class.leaf, Class.rendezvousOnly, Class.never, Stage, Stage.stillNew, Stage.nowActive, Stage.nowRetired, Object, Entry, Entry.moved, Entry.copied, Body, Body.reservation, Body.claim, Body.parcel, Row, State, maxSlots}
 use Rattle.model.specs.Storage.{busyOf}
 use Rattle.model.specs.WellFormed.{isAttached, WellFormed}

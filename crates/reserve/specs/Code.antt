@@ -1,5 +1,5 @@
 -- What the code's loops and branches say, in the terms of the definitions. Assumes nothing.
-use mathlib.Core.Path.{_≡_, refl, sym, ap, _∙_}
+use mathlib.Core.Path.{_≡_, sym, ap, _∙_}
 use mathlib.Core.Bool.{Bool, true, false}
 use mathlib.Core.List.{List, [], _∷_}
 use Prim.Native.Nat.{ℕ, _-_, min}
@@ -7,23 +7,10 @@ use native.Mathlib.Omega.{arith}
 use lib.Dec.{eqb, ltb}
 use Rattle.words.specs.Pick.{yes-is, no-is}
 use Rattle.layout.specs.declared.Shape.{Shape}
-use Rattle.layout.specs.Layout.{Mem, row, load}
-use Rattle.book.specs.Ops.{rowLink, closeW, shrinkW, vacateItemsW}
-use Rattle.answer.specs.Does.{both, answered}
-use Rattle.reserve.specs.Ops.{reservationLink, abortedW, trimmedW, abortR, trimR}
-
--- `reservation_of`
-module _ (m : Mem) (sh : Shape) (i l x w : ℕ) (t : Bool) (e₁ : l ≡ rowLink m sh i) (e₂ : x ≡ l - 1) (e₃ : w ≡ m (row x 1)) (e₄ : t ≡ eqb w 1) where
-  tested : eqb (m (row (rowLink m sh i - 1) 1)) 1 ≡ t
-  tested = rw (e₄, e₃, e₂, e₁)
-
-  pub reservation-yes : t ≡ true → l ≡ reservationLink m sh i
-  unfolding reservationLink
-  reservation-yes y = yes-is _ _ _ _ (tested ∙ y) e₁
-
-  pub reservation-no : t ≡ false → 0 ≡ reservationLink m sh i
-  unfolding reservationLink
-  reservation-no y = no-is _ _ _ _ (tested ∙ y) refl
+use Rattle.layout.specs.Layout.{row, load}
+use Rattle.book.specs.Ops.{closeW, shrinkW, vacateItemsW}
+use Rattle.answer.specs.Does.{both, answered, onRowR}
+use Rattle.reserve.specs.Ops.{reservationLink, abortedW, trimmedW, trimR}
 
 -- `abort_row`
 pub aborted-is : (ws w₁ w₂ : List ℕ) (sh : Shape) (x b n : ℕ) → b ≡ load ws sh (row x 2) → n ≡ load ws sh (row x 3) → w₁ ≡ vacateItemsW ws sh b x 0 (min n 64 - 0) → w₂ ≡ closeW w₁ sh x → w₂ ≡ abortedW ws sh x
@@ -36,20 +23,24 @@ pub trimmed-is : (ws w₁ w₂ : List ℕ) (sh : Shape) (x n b c : ℕ) → b �
 unfolding trimmedW
 trimmed-is ws w₁ w₂ sh x n b c e₁ e₂ a₁ a₂ = rw (a₂, a₁, e₁, e₂)
 
--- `abort`
+-- an operation on the row of a link
+module _ (f : ℕ → List ℕ) (ws os os′ : List ℕ) (base k l : ℕ) (t : Bool) (e : l ≡ k) (q : t ≡ eqb l 0) where
+  none-at : eqb k 0 ≡ t
+  none-at = rw (q, e)
+
+  pub on-row-none : t ≡ true → os′ ≡ answered os base (18 ∷ []) → both ws os′ ≡ onRowR f ws os base k
+  unfolding onRowR
+  on-row-none y a = yes-is _ _ _ _ (none-at ∙ y) (ap (both ws) a)
+
+  pub on-row-done : (ws′ : List ℕ) (x : ℕ) → t ≡ false → x ≡ l - 1 → ws′ ≡ f x → os′ ≡ answered os base (0 ∷ []) → both ws′ os′ ≡ onRowR f ws os base k
+  unfolding onRowR
+  on-row-done ws′ x y d a c = no-is _ _ _ _ (none-at ∙ y) (rw (a, c, d, e))
+
+-- `trim`
 module _ (ws os os′ : List ℕ) (sh : Shape) (base i l : ℕ) (t : Bool) (e : l ≡ reservationLink (load ws sh) sh i) (q : t ≡ eqb l 0) where
   none-there : eqb (reservationLink (load ws sh) sh i) 0 ≡ t
   none-there = rw (q, e)
 
-  pub abort-none : t ≡ true → os′ ≡ answered os base (18 ∷ []) → both ws os′ ≡ abortR ws os sh base i
-  unfolding abortR
-  abort-none y a = yes-is _ _ _ _ (none-there ∙ y) (ap (both ws) a)
-
-  pub abort-done : (ws′ : List ℕ) (x : ℕ) → t ≡ false → x ≡ l - 1 → ws′ ≡ abortedW ws sh x → os′ ≡ answered os base (0 ∷ []) → both ws′ os′ ≡ abortR ws os sh base i
-  unfolding abortR
-  abort-done ws′ x y d a c = no-is _ _ _ _ (none-there ∙ y) (rw (a, c, d, e))
-
-  -- `trim`
   pub trim-none : (n : ℕ) → t ≡ true → os′ ≡ answered os base (18 ∷ []) → both ws os′ ≡ trimR ws os sh base i n
   unfolding trimR
   trim-none n y a = yes-is _ _ _ _ (none-there ∙ y) (ap (both ws) a)

@@ -21,7 +21,7 @@ use Rattle.layout.specs.Layout.{row, load}
 use Rattle.representation.specs.Represents.{Rep}
 use Rattle.storage.specs.Reps.{Held, held-of}
 use Rattle.book.specs.Reservations.{abort-held, trim-held}
-use Rattle.answer.specs.Does.{Does, does-refused, does-accepted}
+use Rattle.answer.specs.Does.{Does, does-refused, does-accepted, does-on-row}
 use Rattle.reserve.specs.Ops.{reservationLink, abortedW, trimmedW, abortR, trimR}
 use Rattle.reserve.specs.Found.{Open, reservation-none, reservation-some}
 
@@ -42,16 +42,10 @@ module _ (ws : List ℕ) (sh : Shape) (s : State) (r : Rep ws sh s) (x i b : ℕ
 module _ (ws : List ℕ) (sh : Shape) (s : State) (r : Rep ws sh s) (os : List ℕ) (base i : ℕ) where
   -- ABORT is the model's step
   pub abort-does : Does ws os sh base s (abort i) (abortR ws os sh base i)
-  unfolding abortR decide abortOf usedWords
-  abort-does = go (reservationLink (load ws sh) sh i) refl
-    where
-      go : (l : ℕ) → reservationLink (load ws sh) sh i ≡ l → Does ws os sh base s (abort i) (abortR ws os sh base i)
-      go zero e = rw e (does-refused os sh base s (abort i) ws 18 (r .reps) (reservation-none ws sh s r i e _))
-      go (suc x) e =
-          let p = reservation-some ws sh s r i x e in let b : ℕ = p .0 in let ks : List ℕ = p .1 in let o = p .2 in
-          let z : suc x - 1 ≡ x = omega arith in
-          rw (e, z, ne-eqb (suc x) 0 (λ q. omega arith)) (does-accepted os sh base s (abort i) (abortedW ws sh x) (dropRow i (withTable s b (vacateAll till ks (s .tables b)))) done
-          (aborted-held ws sh s r x i b ks o .reps) (rw (o .found)))
+  unfolding decide abortOf
+  abort-does = does-on-row os sh base s (abort i) ws (abortedW ws sh) (reservationLink (load ws sh) sh i) (r .reps) (λ e. reservation-none ws sh s r i e _)
+      (λ x e. let p = reservation-some ws sh s r i x e in
+      (dropRow i (withTable s (p .0) (vacateAll till (p .1) (s .tables (p .0)))), aborted-held ws sh s r x i (p .0) (p .1) (p .2) .reps, rw (p .2 .found)))
 
   -- TRIM is the model's step
   pub trim-does : (n : ℕ) → Does ws os sh base s (trim i n) (trimR ws os sh base i n)

@@ -10,16 +10,16 @@ use Rattle.layout.specs.Layout.{Mem, root, head, row, item, load, save}
 use Rattle.representation.specs.Represents.{slotWord}
 use Rattle.storage.specs.Sight.{Spot.hd}
 use Rattle.storage.specs.Ops.{seen, takeW}
-use Rattle.book.specs.Ops.{rowLink, spare, openW, closeW, shrinkW, vacateItemsW}
+use Rattle.book.specs.Ops.{kindLink, spare, openW, closeW, shrinkW, vacateItemsW}
 use Rattle.growth.specs.Words.{pagesNeeded, growW}
 use Rattle.lookup.specs.View.{tableRefusal}
-use Rattle.answer.specs.Does.{Both, both, answered, refuseR}
+use Rattle.answer.specs.Does.{Both, both, answered, refuseR, onRowR}
 
 -- ---- trim and abort
 
 -- the open reservation with an id: its place plus 1, 0 if there is none
-unfoldable pub reservationLink : Mem → Shape → ℕ → ℕ
-reservationLink m sh i = pick (eqb (m (row (rowLink m sh i - 1) 1)) 1) (rowLink m sh i) 0
+abbrev pub reservationLink : Mem → Shape → ℕ → ℕ
+reservationLink = kindLink 1
 
 -- the reservation in place x ends: its slots, at most 64, fall vacant in order, and its row leaves
 unfoldable pub abortedW : List ℕ → Shape → ℕ → List ℕ
@@ -29,12 +29,8 @@ abortedW ws sh x = closeW (vacateItemsW ws sh (load ws sh (row x 2)) x 0 (min (l
 unfoldable pub trimmedW : List ℕ → Shape → ℕ → ℕ → List ℕ
 trimmedW ws sh x n = shrinkW (vacateItemsW ws sh (load ws sh (row x 2)) x n (min (load ws sh (row x 3)) 64 - n)) sh x n
 
--- "unknown .. open row of the kind named": 18
-unfoldable pub abortR : List ℕ → List ℕ → Shape → ℕ → ℕ → Both
-abortR ws os sh base i =
-    let l : ℕ = reservationLink (load ws sh) sh i in
-    pick (eqb l 0) (refuseR ws os base 18)
-    (both (abortedW ws sh (l - 1)) (answered os base (0 ∷ [])))
+abbrev pub abortR : List ℕ → List ℕ → Shape → ℕ → ℕ → Both
+abortR ws os sh base i = onRowR (abortedW ws sh) ws os base (reservationLink (load ws sh) sh i)
 
 -- "trim to 0 or above the batch": 18
 unfoldable pub trimR : List ℕ → List ℕ → Shape → ℕ → ℕ → ℕ → Both

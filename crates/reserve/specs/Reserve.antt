@@ -3,7 +3,7 @@ use mathlib.Core.Path.{_≡_, refl, sym, _∙_}
 use mathlib.Core.Bool.{false}
 use mathlib.Core.List.{List, map}
 use mathlib.Core.Option.{Option, none, some}
-use Prim.Native.Nat.{ℕ, _+_, _-_, _^_, _≤_, _<_}
+use Prim.Native.Nat.{ℕ, _+_, _^_, _≤_, _<_}
 use native.Mathlib.Omega.{arith}
 use lib.ListN.{length, take, drop}
 use lib.Dec.{eqb, ltb}
@@ -16,7 +16,7 @@ use Rattle.model.specs.Change.{withTable, withFrames}
 use Rattle.model.specs.Book.{addRow, freeRow, idLeft}
 use Rattle.model.specs.Lookup.{valueAt}
 use Rattle.model.specs.Request.{Request.reserve, Answer.batch}
-use Rattle.model.specs.Decision.{Decision, Decision.refusal, Decision.accept, unless_refuse_then_, onSome}
+use Rattle.model.specs.Decision.{Decision, Decision.refusal, Decision.accept, unless_refuse_then_, given_refuse_then_}
 use Rattle.model.specs.Step.{reserveOf, decide}
 use Rattle.model.specs.Words.{usedWords}
 use Rattle.model.specs.Bounds.{batch-max}
@@ -38,7 +38,7 @@ use Rattle.reserve.specs.Batch.{batch-words, batch-held}
 -- the checks of the model, after the table's: the batch's size, then the pages that it needs
 abbrev planned : State → ℕ → ℕ → Table → Decision
 planned s b n t =
-    onSome (pagesFor till t n) 15 λ ps.
+    given pagesFor till t n refuse 15 then λ ps.
     unless atMost (length ps) (length (s .frames)) refuse 1 then
     unless freeRow s refuse 1 then
     unless idLeft s refuse 12 then
@@ -127,11 +127,11 @@ module _ (ws : List ℕ) (sh : Shape) (s : State) (r : Rep ws sh s) (b n : ℕ) 
       unfolding roomRefusal openR
       planned-does none e =
           let t = r .reps .memory .tables b (a .known) in
-          let z : pagesNeeded (load ws sh) b n ≡ 65 = needed-none (load ws sh) b (s .tables b) t (held-of ws sh s r .placed .sound b (a .known)) n e in
+          let z : pagesNeeded (load ws sh) b n ≡ 65 = needed-none (load ws sh) b (s .tables b) t (held-of ws sh s r .placed .sound b (a .known)) n few e in
           rw z (no-room 65 15 refl (λ y. omega arith) (rw e))
       planned-does (some ps) e =
           let t = r .reps .memory .tables b (a .known) in
-          let z : pagesNeeded (load ws sh) b n ≡ length ps = needed-some (load ws sh) b (s .tables b) t (held-of ws sh s r .placed .sound b (a .known)) n ps e in
+          let z : pagesNeeded (load ws sh) b n ≡ length ps = needed-some (load ws sh) b (s .tables b) t (held-of ws sh s r .placed .sound b (a .known)) n few ps e in
           let k : eqb (length ps) 65 ≡ false = ne-eqb (length ps) 65 (λ y. omega (arith, plan-short (s .tables b) n ps e)) in
           let frames : load ws sh (root 7) ≡ length (s .frames) = r .reps .memory .frames .count in
           let used : load ws sh (root 6) ≡ length (s .book .rows) = r .reps .memory .book .used in

@@ -1,21 +1,20 @@
 -- What the code's branches say, in the terms of the definitions. Assumes nothing.
 use mathlib.Core.Path.{_≡_, refl, sym, ap, _∙_}
 use mathlib.Core.Bool.{Bool, true, false}
-use mathlib.Core.List.{List, [], _∷_}
-use Prim.Native.Nat.{ℕ, zero, suc, _+_, _-_, _*_, _/_, _%_, _≤_, _<_}
+use mathlib.Core.List.{List}
+use Prim.Native.Nat.{ℕ, zero, suc, _+_, _-_, _/_, _%_, _≤_, _<_}
 use native.Mathlib.Omega.{arith}
-use lib.Dec.{eqb, ltb}
+use lib.Dec.{eqb}
 use borrow.Author.Tests.{eq-eqb, ne-eqb, lt-ltb, le-ltb}
 use Rattle.model.specs.State.{maxSlots}
 use Rattle.layout.specs.declared.Shape.{Shape}
-use Rattle.layout.specs.Layout.{Mem, Addr, head, entry, cell, isIn, in-no, load, save, load-out, save-out, writes}
+use Rattle.layout.specs.Layout.{Mem, entry, cell, isIn, in-no, load, save, load-out, save-out, writes}
 use Rattle.representation.specs.Represents.{wordIn, frameOf}
 use Rattle.head.specs.declared.TableHead.{TableHead}
 use Rattle.head.specs.Head.{headAt, emptyBy}
 use Rattle.words.specs.Pick.{pick, yes-is, no-is}
-use Rattle.codec.specs.Codec.{nextGeneration}
 use Rattle.model.specs.Bounds.{slots-max}
-use Rattle.storage.specs.Sight.{cellP, slotP, pageP, linkFrame}
+use Rattle.storage.specs.Sight.{cellP, slotP, pageP}
 use Rattle.storage.specs.Ops.{up, moveP, occupyP, moveW, occupyW}
 use Rattle.storage.specs.Late.{frameFrom, linkFrom, frame-of, vacantW, heldW, markedW, linkedW, unlinkedW, firstWithout, fewerW, fewerBy, moreW, moreBy}
 
@@ -30,33 +29,17 @@ pub entry-save : (ws : List ℕ) (sh : Shape) (e f v : ℕ) → sh .pages ≤ e 
 entry-save ws sh e f v h = sym (save-out ws sh (entry e f) v (entry-out sh e f h))
 
 -- by a link
-pub page-none : (ws : List ℕ) (sh : Shape) (e l f v : ℕ) → l ≡ 0 → ws ≡ writes ws sh (pageP e l f v)
-page-none ws sh e zero f v h = refl
-page-none ws sh e (suc l) f v h = absurd (omega arith)
-
 pub page-some : (ws vs : List ℕ) (sh : Shape) (e l f v : ℕ) → (l ≡ 0 → ⊥) → vs ≡ save ws sh (entry (e + (l - 1)) f) v → vs ≡ writes ws sh (pageP e l f v)
 page-some ws vs sh e zero f v h q = absurd (h refl)
 page-some ws vs sh e (suc l) f v h q = let y : suc l - 1 ≡ l = omega arith in rw y at q
-
-pub cell-none : (ws : List ℕ) (sh : Shape) (fr j f v : ℕ) → fr ≡ 0 → ws ≡ writes ws sh (cellP fr j f v)
-cell-none ws sh zero j f v h = refl
-cell-none ws sh (suc fr) j f v h = absurd (omega arith)
 
 pub cell-some : (ws vs : List ℕ) (sh : Shape) (fr j f v : ℕ) → (fr ≡ 0 → ⊥) → vs ≡ save ws sh (cell (fr - 1) j f) v → vs ≡ writes ws sh (cellP fr j f v)
 cell-some ws vs sh zero j f v h q = absurd (h refl)
 cell-some ws vs sh (suc fr) j f v h q = let y : suc fr - 1 ≡ fr = omega arith in rw y at q
 
-pub slot-none : (ws : List ℕ) (sh : Shape) (fr l f v : ℕ) → l ≡ 0 → ws ≡ writes ws sh (slotP fr l f v)
-slot-none ws sh fr zero f v h = refl
-slot-none ws sh fr (suc l) f v h = absurd (omega arith)
-
 pub slot-some : (ws vs : List ℕ) (sh : Shape) (fr l f v : ℕ) → (l ≡ 0 → ⊥) → vs ≡ writes ws sh (cellP fr ((l - 1) % 64) f v) → vs ≡ writes ws sh (slotP fr l f v)
 slot-some ws vs sh fr zero f v h q = absurd (h refl)
 slot-some ws vs sh fr (suc l) f v h q = let y : suc l - 1 ≡ l = omega arith in rw y at q
-
-pub word-none : (m : Mem) (fr j f : ℕ) → fr ≡ 0 → 0 ≡ wordIn m fr j f
-word-none m zero j f h = refl
-word-none m (suc fr) j f h = absurd (omega arith)
 
 pub word-some : (m : Mem) (r fr j f : ℕ) → (fr ≡ 0 → ⊥) → r ≡ m (cell (fr - 1) j f) → r ≡ wordIn m fr j f
 word-some m r zero j f h q = absurd (h refl)

@@ -1,26 +1,23 @@
 -- A table whose busy slot gets other busy contents of the same generation, as it is seen, is the model's. Assumes nothing.
-use mathlib.Core.Path.{_≡_, refl, sym, ap, _∙_, fun-ext}
-use mathlib.Core.Bool.{Bool, true, false, not, _&&_}
-use mathlib.Core.List.{List, [], _∷_}
-use Prim.Native.Nat.{ℕ, zero, suc, _+_, _-_, _*_, _/_, _%_, _≤_, _<_, min, max}
+use mathlib.Core.Path.{_≡_, refl, sym, ap, _∙_}
+use mathlib.Core.Bool.{true, false}
+use Prim.Native.Nat.{ℕ, suc, _/_, _<_}
 use native.Mathlib.Omega.{arith}
-use lib.ListN.{length}
-use lib.Dec.{eqb, ltb}
+use lib.Dec.{eqb}
 use borrow.Author.Tests.{eqb-true, eqb-false, eq-eqb, ne-eqb}
 use Rattle.words.specs.Pick.{bool, clash}
 use Rattle.model.specs.Base.{put, occurs, isSome}
 use Rattle.model.specs.State.{till, Handle, Slot, Slot.transferReserved, Slot.occupied, Table, generation, isBusy, isVacant, isAbsent}
-use Rattle.model.specs.Storage.{busyOf, pageOf, place, keep}
-use Rattle.model.specs.WellFormed.{isAttached}
+use Rattle.model.specs.Storage.{busyOf, place, keep}
 use Rattle.model.specs.Tests.{and-false}
-use Rattle.invariant.specs.Pointwise.{place-alike, place-slots}
+use Rattle.invariant.specs.Pointwise.{place-alike}
 use Rattle.invariant.specs.Pages.{till-sane, busy-there, busy-vacant, busy-other}
 use Rattle.invariant.specs.Orders.{Sound}
 use Rattle.layout.specs.Layout.{Mem, row}
-use Rattle.representation.specs.Represents.{linkOf, tagged}
+use Rattle.representation.specs.Represents.{linkOf}
 use Rattle.storage.specs.Order.{chain-frame, linked-frame}
 use Rattle.storage.specs.Sight.{Spot, Spot.hd, Spot.pg, Spot.sl, puts}
-use Rattle.storage.specs.Slots.{frameV, framed, slotV, Seen, framed-is, slot-there, slot-gen, free-vacant}
+use Rattle.storage.specs.Slots.{frameV, slotV, Seen, framed-is, slot-there, slot-gen, free-vacant}
 use Rattle.storage.specs.Ops.{moveP, occupyP}
 
 abbrev pub moveV : (Spot → ℕ) → ℕ → ℕ → ℕ → Spot → ℕ

@@ -2,9 +2,9 @@
 use mathlib.Core.Path.{_≡_, refl, sym, ap, _∙_}
 use mathlib.Core.Bool.{Bool, true, false}
 use mathlib.Core.List.{List, [], _∷_}
-use Prim.Native.Nat.{ℕ, zero, suc, _+_, _-_, _*_, _/_, _%_, max}
+use Prim.Native.Nat.{ℕ, zero, suc, _+_, _-_, _/_, _%_, max}
 use lib.Dec.{eqb, ltb}
-use Rattle.words.specs.Pick.{pick, bool, yes-is, no-is}
+use Rattle.words.specs.Pick.{pick}
 use Rattle.codec.specs.Codec.{nextGeneration}
 use Rattle.model.specs.State.{maxSlots}
 use Rattle.layout.specs.declared.Shape.{Shape}
@@ -13,7 +13,7 @@ use Rattle.representation.specs.Represents.{wordIn, frameOf, slotWord}
 use Rattle.head.specs.declared.TableHead.{TableHead}
 use Rattle.head.specs.Head.{headAt, freedBy, takenBy, emptyBy, freeP, ordersP}
 use Rattle.head.specs.Apart.{Off, save-off, load-off}
-use Rattle.storage.specs.Sight.{look, Spot.hd, Spot.pg, Spot.sl, cellP, slotP, pageP, linkFrame, writesAll}
+use Rattle.storage.specs.Sight.{look, Spot.hd, Spot.pg, cellP, slotP, pageP, linkFrame, writesAll}
 use Rattle.storage.specs.Ops.{up, publishP, markP, joinP, leaveP, reserveP, publishW, markW, joinW, leaveW, reserveW, lowerW, raiseW, vacateW, takeW}
 
 -- ---- frames by the head

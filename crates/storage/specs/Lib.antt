@@ -1,6 +1,7 @@
 pub mod Order
 pub mod Sight
 pub mod Slots
+pub mod Kept
 pub mod Ops
 pub mod Vacate
 pub mod Take

@@ -1,13 +1,12 @@
 -- The operations on one table: what stores each makes, by what the table shows, and the words that it leaves. Assumes nothing.
-use mathlib.Core.Path.{_≡_}
 use mathlib.Core.List.{List, [], _∷_}
-use Prim.Native.Nat.{ℕ, zero, suc, _+_, _-_, _*_, _/_, _%_, min, max}
+use Prim.Native.Nat.{ℕ, suc, _+_, _-_, _/_, min, max}
 use lib.Dec.{eqb}
 use Rattle.words.specs.Pick.{pick}
 use Rattle.codec.specs.Codec.{nextGeneration}
 use Rattle.layout.specs.declared.Shape.{Shape}
 use Rattle.layout.specs.Layout.{load}
-use Rattle.storage.specs.Sight.{Spot, Spot.hd, Spot.pg, Spot.sl, look, Put, Put.toHead, Put.toPage, Put.toSlot, puts, real, reals, writesAll}
+use Rattle.storage.specs.Sight.{Spot, Spot.hd, Spot.pg, Spot.sl, look, Put, Put.toHead, Put.toPage, Put.toSlot, reals, writesAll}
 
 -- one more; the largest word stays
 abbrev pub up : ℕ → ℕ

@@ -9,9 +9,9 @@ use native.Mathlib.Nat.{suc-inj}
 use lib.ListN.{length}
 use lib.Dec.{eqb}
 use borrow.Author.Tests.{eq-eqb, ne-eqb, eqb-true, eqb-false}
-use Rattle.model.specs.Base.{bit, pick, occurs, without, sum}
+use Rattle.model.specs.Base.{bit, occurs, without, sum}
 use Rattle.representation.specs.Represents.{Chain, Linked}
-use Rattle.model.specs.Sums.{without-none, sum-equal, sum-add}
+use Rattle.model.specs.Sums.{without-none, sum-add}
 use Rattle.model.specs.Tests.{bit-small}
 use Rattle.model.specs.Counting.{occurs-append, bit-same, bit-other}
 
@@ -44,17 +44,6 @@ chain-length next prev h p q (x ∷ l) (y ∷ m) c d =
 abbrev pub listFrom : (ℕ → ℕ) → ℕ → ℕ → List ℕ
 listFrom next zero h = []
 listFrom next (suc k) h = (h - 1) ∷ listFrom next k (next (h - 1))
-
--- so the list of a chain is read off the links
-pub chain-list : (next prev : ℕ → ℕ) (h p : ℕ) (l : List ℕ) → Chain next prev h p l → l ≡ listFrom next (length l) h
-chain-list next prev h p [] c = refl
-chain-list next prev h p (x ∷ l) c =
-    let e : x ≡ h - 1 = omega arith in
-    rw (← e) (ap (λ (m : List ℕ). x ∷ m) (chain-list next prev (next x) (suc x) l (c .2)))
-
-pub chain-unique : (next prev : ℕ → ℕ) (h p : ℕ) (l m : List ℕ) → Chain next prev h p l → Chain next prev h p m → l ≡ m
-chain-unique next prev h p l m c d =
-    chain-list next prev h p l c ∙ ap (λ (k : ℕ). listFrom next k h) (chain-length next prev h p p l m c d) ∙ sym (chain-list next prev h p m d)
 
 -- from each slot of a chain a shorter chain goes on
 pub chain-from : (next prev : ℕ → ℕ) (h p : ℕ) (l : List ℕ) (x : ℕ) → Chain next prev h p l → 0 < occurs x l

@@ -1,16 +1,13 @@
 -- The operations on a table in the state: words that represent a state come to represent the model's state after the operation. Assumes nothing.
 use mathlib.Core.Path.{_≡_, refl, sym, ap, _∙_}
-use mathlib.Core.Bool.{Bool, true, false}
-use mathlib.Core.Logic.{_⊎_, ⊎-elim}
-use mathlib.Core.List.{List, [], _∷_}
-use Prim.Native.Nat.{ℕ, suc, _+_, _-_, _/_, _≤_, _<_}
+use mathlib.Core.Bool.{true, false}
+use mathlib.Core.Logic.{⊎-elim}
+use mathlib.Core.List.{List, _∷_}
+use Prim.Native.Nat.{ℕ, _-_, _≤_, _<_}
 use native.Mathlib.Omega.{arith}
 use lib.ListN.{length}
-use lib.Dec.{eqb}
-use borrow.Author.Tests.{eqb-true, eqb-false}
-use Rattle.words.specs.Pick.{bool, clash}
+use Rattle.words.specs.Pick.{clash}
 use Rattle.codec.specs.Codec.{nextGeneration, generationLimit}
-use Rattle.model.specs.Base.{pick}
 use Rattle.model.specs.State.{till, Handle, Slot, Slot.vacant, Slot.reserved, Slot.transferReserved, Slot.occupied, Table, State, generation, isBusy, isAbsent}
 use Rattle.model.specs.Storage.{withFree, place, keep, vacate}
 use Rattle.model.specs.Change.{withTable}
@@ -19,18 +16,19 @@ use Rattle.invariant.specs.Pointwise.{Alike, place-alike, place-slots, vacate-a
 use Rattle.invariant.specs.Pages.{till-sane, vacant-there}
 use Rattle.invariant.specs.Orders.{Sound, order-is, good-of, with-order, place-taken, keep-sound, vacate-good}
 use Rattle.layout.specs.declared.Shape.{Shape}
-use Rattle.layout.specs.Layout.{Addr.reg, Mem, total, root, head, rank, row, item, load}
-use Rattle.layout.specs.ShapeOf.{Shaped, Roots, roots-kept}
-use Rattle.representation.specs.Represents.{slotWord, isMarked, TableIs, Represents, Reps, Rep}
+use Rattle.layout.specs.Layout.{Mem, rank, row, item, load}
+use Rattle.layout.specs.ShapeOf.{roots-kept}
+use Rattle.representation.specs.Represents.{slotWord, isMarked, Reps, Rep}
 use Rattle.representation.specs.Told.{marked-full}
 use Rattle.storage.specs.Order.{same?, occurs-head}
-use Rattle.storage.specs.Sight.{Spot, Spot.hd, Spot.pg, Spot.sl, look, OnlyTable}
-use Rattle.storage.specs.Slots.{see, free-vacant}
+use Rattle.storage.specs.Sight.{look}
+use Rattle.storage.specs.Slots.{free-vacant}
 use Rattle.storage.specs.Ops.{vacateW, takeW, moveW, occupyW}
 use Rattle.storage.specs.Take.{taken, reserved-mark}
 use Rattle.storage.specs.Keep.{moving-mark}
 use Rattle.storage.specs.Turns.{Turns, Ready, vacate-turns, take-turns, move-turns, occupy-turns}
-use Rattle.storage.specs.Whole.{Placed, placed-of, placed-with, fit-of, off-table, MarkIs, mark-kept, with-table}
+use Rattle.storage.specs.Kept.{RowsStay, MarkIs, mark-kept}
+use Rattle.storage.specs.Whole.{Placed, placed-of, placed-with, fit-of, off-table, table-rows, with-table}
 
 -- words that represent a state whose tables are in place: what each operation keeps
 pub record Held (ws : List ℕ) (sh : Shape) (s : State) : Type 0 where
@@ -59,17 +57,8 @@ pub record Names (m : Mem) (s : State) (b k x j f : ℕ) : Type 0 where
 
 module _ (ws ws′ : List ℕ) (sh : Shape) (s : State) (h : Held ws sh s) (b : ℕ) (l : b < s .tableCount) (k : ℕ) (c : ℕ → ℕ) (u : Table)
     (turn : Turns ws ws′ sh b (s .tables b) k c u) where
-  off : (r y f x : ℕ) → (r ≡ 1 → ⊥) → (r ≡ 2 → ⊥) → (r ≡ 7 → ⊥) → load ws′ sh (reg r x y f) ≡ load ws sh (reg r x y f)
-  off r y f x = off-table b (load ws sh) (load ws′ sh) (turn .only) r x y f
-
-  off-rank : (i : ℕ) → load ws′ sh (rank i) ≡ load ws sh (rank i)
-  off-rank i = off 9 0 1 i (λ e. omega arith) (λ e. omega arith) (λ e. omega arith)
-
-  off-row : (x f : ℕ) → load ws′ sh (row x f) ≡ load ws sh (row x f)
-  off-row x f = off 10 0 f x (λ e. omega arith) (λ e. omega arith) (λ e. omega arith)
-
-  off-item : (x j f : ℕ) → load ws′ sh (item x j f) ≡ load ws sh (item x j f)
-  off-item x j f = off 10 (suc j) f x (λ e. omega arith) (λ e. omega arith) (λ e. omega arith)
+  stay : RowsStay (load ws sh) (load ws′ sh)
+  stay = table-rows b (load ws sh) (load ws′ sh) (turn .only)
 
   -- a mark that the slot's words name
   pub mark-is : (x j f tag : ℕ) → c 0 ≡ tag → c 2 ≡ x → c 3 ≡ j → f ≡ tag - 1 → Names (load ws sh) s b k x j f → MarkIs (load ws′ sh) s b k
@@ -81,11 +70,11 @@ module _ (ws ws′ : List ℕ) (sh : Shape) (s : State) (h : Held ws sh s) (b : 
           × (a₀ ≡ 2 → load ws′ sh (item a₂ a₃ 0) ≡ 0)
       go a₀ a₂ a₃ q₀ q₂ q₃ = rw (q₀, q₂, q₃) (
         p .place,
-        rw (off-rank x) (p .used),
-        rw (off-row x 3) (p .within),
-        off-row x 2 ∙ p .table,
-        rw (off-item x j (tag - 1), ← d) (p .slot),
-        λ e. off-item x j 0 ∙ p .moved (omega arith),
+        rw (stay .ranks x) (p .used),
+        rw (stay .rows x 3) (p .within),
+        stay .rows x 2 ∙ p .table,
+        rw (stay .items x j (tag - 1), ← d) (p .slot),
+        λ e. stay .items x j 0 ∙ p .moved (omega arith),
       )
 
   -- a turn of one table, in the state
@@ -96,14 +85,14 @@ module _ (ws ws′ : List ℕ) (sh : Shape) (s : State) (h : Held ws sh s) (b : 
       shaped = let q = h .reps .shaped in record {
         limits = q .limits;
         room = omega (arith, turn .long, q .room);
-        roots = roots-kept sh (load ws sh) (load ws′ sh) (λ f. off 0 0 f 0 (λ e. omega arith) (λ e. omega arith) (λ e. omega arith)) (q .roots);
+        roots = roots-kept sh (load ws sh) (load ws′ sh) (λ f a. off-table b (load ws sh) (load ws′ sh) (turn .only) 0 0 0 f (λ e. omega arith) (λ e. omega arith) (λ e. omega arith)) (q .roots);
       };
       memory = with-table sh (load ws sh) s (h .reps .memory) (h .placed) b l (load ws′ sh) (turn .only) u (turn .table) al
           (λ j e. ⊎-elim
           (λ (d : j ≡ k). let e′ : isMarked (u .slots k) ≡ true = rw d at e in rw d (mark e′))
           (λ (d : j ≡ k → ⊥). let i : isMarked (s .tables b .slots j) ≡ true = rw (others j d) at e in
           let w : (f : ℕ) → slotWord (load ws′ sh) b j f ≡ slotWord (load ws sh) b j f = λ f. turn .others j f d (marked-full (s .tables b .slots j) i) in
-          mark-kept (load ws sh) (load ws′ sh) s b j off-rank off-row off-item (w 0) (w 2) (w 3) (h .reps .memory .book .marks b j l i))
+          mark-kept (load ws sh) (load ws′ sh) stay s b j (w 0) (w 2) (w 3) (h .reps .memory .book .marks b j l i))
           (same? j k));
     };
     placed = placed-with s b u (h .placed) sound al;

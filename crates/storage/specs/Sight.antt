@@ -2,17 +2,17 @@
 use mathlib.Core.Path.{_≡_, refl, sym, ap, _∙_, fun-ext}
 use mathlib.Core.Bool.{Bool, true, false, _&&_, and-false, and-true}
 use mathlib.Core.Logic.{_⊎_, inl, inr, ⊎-elim}
-use mathlib.Core.List.{List, [], _∷_, _++_}
-use Prim.Native.Nat.{ℕ, zero, suc, _+_, _-_, _*_, _/_, _%_, _≤_, _<_}
+use mathlib.Core.List.{List, [], _∷_}
+use Prim.Native.Nat.{ℕ, zero, suc, _+_, _/_, _%_, _≤_, _<_}
 use native.Mathlib.Omega.{arith}
-use native.Mathlib.Nat.{div-add-mod', mod-lt}
+use native.Mathlib.Nat.{mod-lt}
 use lib.ListN.{length}
 use lib.Dec.{eqb, ltb}
-use borrow.Author.Tests.{eq-eqb, ne-eqb, eqb-true, eqb-false, ltb-true, ltb-false, lt-ltb, le-ltb}
+use borrow.Author.Tests.{eq-eqb, ne-eqb, eqb-true, ltb-true}
 use Rattle.words.specs.Pick.{pick, bool, clash, both}
 use Rattle.model.specs.State.{maxSlots}
 use Rattle.layout.specs.declared.Shape.{Shape}
-use Rattle.layout.specs.Layout.{Addr, Addr.reg, Mem, total, root, head, entry, owner, group, cell, object, index, rank, row, item, load, save, same, same-is, same-all, In, in-head, in-entry, in-cell, Write, Write.at, writes, upd, upds, InW, InAll, load-writes, length-writes}
+use Rattle.layout.specs.Layout.{Addr, Addr.reg, Mem, total, head, entry, cell, load, same, same-is, in-head, in-entry, in-cell, Write, Write.at, writes, upd, upds, InAll, load-writes, length-writes}
 use Rattle.representation.specs.Represents.{entryAt, wordIn, frameOf, slotWord}
 
 -- a word of a table: field f of its head, of its page p, of its slot k

@@ -1,22 +1,20 @@
 -- A table as it is seen: the representation of one table over its own words, and what its slots tell. Assumes nothing.
-use mathlib.Core.Path.{_≡_, refl, sym, ap, _∙_, fun-ext}
-use mathlib.Core.Bool.{Bool, true, false, not, _&&_}
-use mathlib.Core.Logic.{_⊎_, inl, inr, ⊎-elim}
-use mathlib.Core.List.{List, [], _∷_}
-use Prim.Native.Nat.{ℕ, zero, suc, _+_, _-_, _*_, _/_, _%_, _≤_, _<_}
+use mathlib.Core.Path.{_≡_, refl, sym, ap, _∙_}
+use mathlib.Core.Bool.{true, false, not, _&&_}
+use Prim.Native.Nat.{ℕ, zero, suc, _/_, _%_, _<_}
 use native.Mathlib.Omega.{arith}
 use lib.ListN.{length}
 use lib.Dec.{eqb, ltb}
-use borrow.Author.Tests.{ltb-true, eqb-true, eqb-false, lt-ltb}
-use Rattle.words.specs.Pick.{bool, clash}
-use Rattle.model.specs.Base.{pick, bit, occurs}
-use Rattle.model.specs.State.{till, Slot, Slot.absent, Slot.vacant, Slot.reserved, Slot.transferReserved, Slot.occupied, Table, generation, isVacant, isAbsent, maxSlots}
-use Rattle.model.specs.Storage.{busyOf, busyIn, pageOf}
+use borrow.Author.Tests.{ltb-true}
+use Rattle.words.specs.Pick.{clash}
+use Rattle.model.specs.Base.{pick, occurs}
+use Rattle.model.specs.State.{till, Slot, Slot.absent, Slot.reserved, Slot.transferReserved, Table, generation, isVacant, isAbsent, maxSlots}
+use Rattle.model.specs.Storage.{busyOf}
 use Rattle.model.specs.WellFormed.{isAttached}
-use Rattle.model.specs.Tests.{and-left, bit-true, bit-false}
-use Rattle.invariant.specs.Orders.{Sound, attached-below, attached-of, below-of}
-use Rattle.layout.specs.Layout.{Mem, head, entry, row}
-use Rattle.representation.specs.Represents.{linkOf, wordIn, frameOf, slotWord, tagged, slotFrom, slotIn, Chain, Linked, LifeIs, TableIs}
+use Rattle.model.specs.Tests.{and-left, bit-true}
+use Rattle.invariant.specs.Orders.{Sound, attached-below}
+use Rattle.layout.specs.Layout.{Mem, row}
+use Rattle.representation.specs.Represents.{linkOf, wordIn, frameOf, slotWord, tagged, slotFrom, Chain, Linked, LifeIs, TableIs}
 use Rattle.storage.specs.Sight.{Spot, Spot.hd, Spot.pg, Spot.sl, look}
 
 -- the frame of slot k, as a link

@@ -1,28 +1,28 @@
 -- A table whose first free slot is taken, as it is seen, is the model's. Assumes nothing.
-use mathlib.Core.Path.{_≡_, refl, sym, ap, _∙_, fun-ext}
-use mathlib.Core.Bool.{Bool, true, false, not, _&&_}
-use mathlib.Core.Logic.{_⊎_, inl, inr, ⊎-elim}
+use mathlib.Core.Path.{_≡_, refl, sym, ap, _∙_}
+use mathlib.Core.Bool.{true, false}
+use mathlib.Core.Logic.{⊎-elim}
 use mathlib.Core.List.{List, [], _∷_}
-use Prim.Native.Nat.{ℕ, zero, suc, _+_, _-_, _*_, _/_, _%_, _≤_, _<_, min, max}
+use Prim.Native.Nat.{ℕ, zero, suc, _+_, _*_, _/_, _≤_, _<_}
 use native.Mathlib.Omega.{arith}
-use lib.ListN.{length, take, drop}
+use lib.ListN.{length}
 use lib.Dec.{eqb, ltb}
-use borrow.Author.Tests.{ltb-true, eqb-true, eqb-false, eq-eqb, ne-eqb}
-use Rattle.words.specs.Pick.{pick, bool, clash}
-use Rattle.model.specs.Base.{put, bit, occurs, without, isSome}
-use Rattle.model.specs.State.{till, Slot, Slot.reserved, Table, generation, isBusy, isVacant, isAbsent, maxSlots}
-use Rattle.model.specs.Storage.{withFree, busyIn, busyOf, slotsOf, pageOf, place, keep, keepAll, takeFree}
+use borrow.Author.Tests.{eqb-true, eqb-false, eq-eqb, ne-eqb}
+use Rattle.words.specs.Pick.{bool, clash}
+use Rattle.model.specs.Base.{put, bit, occurs, isSome}
+use Rattle.model.specs.State.{till, Slot, Slot.reserved, Table, generation, isBusy, isVacant, isAbsent}
+use Rattle.model.specs.Storage.{withFree, busyIn, busyOf, slotsOf, place, keep, takeFree}
 use Rattle.model.specs.WellFormed.{isAttached}
-use Rattle.model.specs.Tests.{and-false, bit-true, bit-small}
+use Rattle.model.specs.Tests.{and-false}
 use Rattle.model.specs.Sums.{without-none}
 use Rattle.invariant.specs.Pointwise.{place-alike, place-slots}
-use Rattle.invariant.specs.Pages.{till-sane, busy-there, busy-vacant, vacant-there, busy-own, busy-other, vacant-idle}
+use Rattle.invariant.specs.Pages.{till-sane, vacant-there, busy-own, busy-other, vacant-idle}
 use Rattle.invariant.specs.Orders.{Sound, attached-below, attached-of, below-of}
 use Rattle.layout.specs.Layout.{Mem, row}
-use Rattle.representation.specs.Represents.{linkOf, tagged, Chain, Linked}
+use Rattle.representation.specs.Represents.{linkOf, tagged, Chain}
 use Rattle.storage.specs.Order.{occurs-head, chain-unlink, chain-without, next-in, prev-in, linked-frame}
 use Rattle.storage.specs.Sight.{Spot, Spot.hd, Spot.pg, Spot.sl, puts}
-use Rattle.storage.specs.Slots.{frameV, framed, slotV, Seen, framed-is, slot-there, slot-gen, vacant-tag, free-vacant, empty-attached, empty-below}
+use Rattle.storage.specs.Slots.{frameV, framed, slotV, Seen, framed-is, slot-there, slot-gen, vacant-tag, free-vacant, empty-attached}
 use Rattle.storage.specs.Ops.{up, reserveP, markP, leaveP}
 use Rattle.storage.specs.Vacate.{markV}
 

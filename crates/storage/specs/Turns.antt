@@ -1,30 +1,29 @@
 -- The operations on words turn the words of a table into those of the model's table after them, and change nothing else. Assumes nothing.
 use mathlib.Core.Path.{_≡_, refl, sym, ap, _∙_}
-use mathlib.Core.Bool.{Bool, true, false}
-use mathlib.Core.Logic.{_⊎_, inl, inr, ⊎-elim}
-use mathlib.Core.List.{List, [], _∷_}
-use Prim.Native.Nat.{ℕ, zero, suc, _+_, _-_, _*_, _/_, _%_, _≤_, _<_}
+use mathlib.Core.Bool.{true, false}
+use mathlib.Core.Logic.{⊎-elim}
+use mathlib.Core.List.{List, _∷_}
+use Prim.Native.Nat.{ℕ, suc, _-_, _/_, _≤_, _<_}
 use native.Mathlib.Omega.{arith}
 use lib.ListN.{length}
 use lib.Dec.{eqb}
-use Rattle.words.specs.Pick.{pick, pick-has}
+use Rattle.words.specs.Pick.{pick-has}
 use Rattle.codec.specs.Codec.{nextGeneration}
 use Rattle.model.specs.Base.{occurs}
-use Rattle.model.specs.State.{till, Handle, Slot, Slot.transferReserved, Slot.occupied, Table, isBusy, isVacant, isAbsent}
+use Rattle.model.specs.State.{till, Slot.transferReserved, Slot.occupied, Table, isBusy, isVacant, isAbsent}
 use Rattle.model.specs.Storage.{vacate, keep}
-use Rattle.model.specs.WellFormed.{isAttached}
 use Rattle.invariant.specs.Pages.{busy-there, vacant-there}
 use Rattle.invariant.specs.Orders.{Sound, attached-below, attached-of}
 use Rattle.layout.specs.declared.Shape.{Shape}
 use Rattle.layout.specs.Layout.{Mem, total, head, row, load}
-use Rattle.representation.specs.Represents.{frameOf, slotWord, Chain, TableIs}
+use Rattle.representation.specs.Represents.{frameOf, slotWord, TableIs}
 use Rattle.storage.specs.Order.{occurs-head, head-in}
-use Rattle.storage.specs.Sight.{Spot, Spot.hd, Spot.pg, Spot.sl, look, puts, Fit, OnlyTable, still-only, still-fit, CanAll, Moves, moves, moves-then, moves-fit, moves-size}
+use Rattle.storage.specs.Sight.{Spot, Spot.hd, Spot.pg, Spot.sl, look, Fit, OnlyTable, Moves, moves, moves-then, moves-fit, moves-size}
 use Rattle.storage.specs.Slots.{Seen, see, unsee, slot-there, free-vacant, empty-below}
 use Rattle.storage.specs.Ops.{up, publishP, markP, joinP, leaveP, reserveP, publishW, markW, joinW, leaveW, reserveW, lowerW, raiseW, vacateW, takeW, moveP, moveW, occupyP, occupyW}
 use Rattle.storage.specs.Vacate.{publishV, markV, joinV, first-empty, vacatedWords, vacate-own, vacate-others, vacate-some, vacate-none}
 use Rattle.storage.specs.Take.{reserveV, leaveV, taken, reservedWords, take-own, page-links, next-vacant, before-in, after-in, take-others, take-some, take-none}
-use Rattle.storage.specs.Keep.{Within, moveV, occupyV, move-within, occupy-within, move-seen, occupy-seen}
+use Rattle.storage.specs.Keep.{moveV, occupyV, move-within, occupy-within, move-seen, occupy-seen}
 
 -- what an operation on slot k of table b gives: the table was t and is u, only its words have changed, and of its slots only k, which has the words c, and vacant ones
 pub record Turns (ws ws′ : List ℕ) (sh : Shape) (b : ℕ) (t : Table) (k : ℕ) (c : ℕ → ℕ) (u : Table) : Type 0 where
@@ -57,12 +56,6 @@ pub record Ready (ws : List ℕ) (sh : Shape) (b : ℕ) (t : Table) : Type 0 whe
   pub sound : Sound till t (t .free)
 
 module _ (ws : List ℕ) (sh : Shape) (b : ℕ) (t : Table) (r : Ready ws sh b t) where
-  abbrev m₀ : Mem
-  m₀ = load ws sh
-
-  abbrev v₀ : Spot → ℕ
-  v₀ = look (load ws sh) b
-
   seen₀ : Seen (load ws sh) (look (load ws sh) b) t
   seen₀ = see (load ws sh) b t (r .table)
 
@@ -88,20 +81,6 @@ module _ (ws : List ℕ) (sh : Shape) (b : ℕ) (t : Table) (r : Ready ws sh b t
       let own : (j : ℕ) → suc k ≡ suc j → 0 < frameOf (load ws sh) b j = λ j e. let q : k ≡ j = omega arith in rw q at (there₀ k here) in
       moves ws sh b (look (load ws sh) b) (λ v. publishP v k g) (r .room) (r .fit) refl
       ((omega arith, free₀), ((omega arith, own), ((omega arith, own), ((omega arith, own), ((omega arith, own), ((omega arith, omega arith), ((omega arith, omega arith), tt)))))))
-
-  -- the slot that `take_free` gives
-  pub first-free : (k : ℕ) (l : List ℕ) → t .free ≡ k ∷ l → look (load ws sh) b (hd 6) - 1 ≡ k
-  first-free k l e = let c : Chain (λ i. look (load ws sh) b (sl i 2)) (λ i. look (load ws sh) b (sl i 3)) (look (load ws sh) b (hd 6)) 0 (k ∷ l) = rw e at (seen₀ .free) in
-      omega (arith, c .0)
-
-  -- after a turn the table is ready for the next
-  pub ready-then : (ws′ : List ℕ) (k : ℕ) (c : ℕ → ℕ) (u : Table) → Turns ws ws′ sh b t k c u → Sound till u (u .free) → Ready ws′ sh b u
-  ready-then ws′ k c u q o = record {
-    room = omega (arith, q .long, r .room);
-    fit = still-fit sh b (load ws sh) (load ws′ sh) (still-only b (load ws sh) (load ws′ sh) (q .only)) (r .fit);
-    table = q .table;
-    sound = o;
-  }
 
 -- a page below the size may be marked, and may join the empty order
 mark-moves : (ws : List ℕ) (sh : Shape) (b : ℕ) (v : Spot → ℕ) (p g : ℕ) (count : (Spot → ℕ) → ℕ) → total sh ≤ length ws → Fit sh (load ws sh) b → look (load ws sh) b ≡ v

@@ -1,30 +1,29 @@
 -- A table whose busy slot falls vacant, as it is seen, is the model's. Assumes nothing.
-use mathlib.Core.Path.{_≡_, refl, sym, ap, _∙_, fun-ext}
-use mathlib.Core.Bool.{Bool, true, false, not, _&&_}
-use mathlib.Core.Logic.{_⊎_, inl, inr, ⊎-elim}
-use mathlib.Core.List.{List, [], _∷_}
-use Prim.Native.Nat.{ℕ, zero, suc, _+_, _-_, _*_, _/_, _%_, _≤_, _<_, min, max}
+use mathlib.Core.Path.{_≡_, refl, sym, ap, _∙_}
+use mathlib.Core.Bool.{true, false}
+use mathlib.Core.List.{_∷_}
+use Prim.Native.Nat.{ℕ, suc, _+_, _-_, _/_, _≤_, _<_, min}
 use native.Mathlib.Omega.{arith}
 use lib.ListN.{length}
 use lib.Dec.{eqb, ltb}
-use borrow.Author.Tests.{ltb-true, eqb-true, eqb-false, eq-eqb, ne-eqb}
+use borrow.Author.Tests.{eqb-true, eqb-false, eq-eqb, ne-eqb}
 use Rattle.words.specs.Pick.{bool, clash}
 use Rattle.codec.specs.Codec.{nextGeneration}
-use Rattle.model.specs.Base.{pick, put, bit, occurs, isSome}
+use Rattle.model.specs.Base.{put, bit, occurs, isSome}
 use Rattle.model.specs.State.{till, Slot, Slot.vacant, Table, generation, isBusy, isVacant, isAbsent, maxSlots}
-use Rattle.model.specs.Storage.{busyOf, pageOf, place, vacate}
+use Rattle.model.specs.Storage.{busyOf, place, vacate}
 use Rattle.model.specs.WellFormed.{isAttached}
-use Rattle.model.specs.Tests.{and-false, bit-false, bit-small}
+use Rattle.model.specs.Tests.{and-false, bit-small}
 use Rattle.model.specs.Bounds.{slots-max}
 use Rattle.invariant.specs.Pointwise.{place-alike, vacate-slots}
 use Rattle.invariant.specs.Pages.{till-sane, busy-there, busy-vacant, vacant-there, busy-own, busy-other}
 use Rattle.invariant.specs.Orders.{Sound, attached-below, attached-of, below-of}
 use Rattle.layout.specs.Layout.{Mem}
-use Rattle.representation.specs.Represents.{linkOf, tagged, Chain, Linked}
-use Rattle.storage.specs.Order.{occurs-head, chain-push, chain-frame, chain-once, head-in, linked-frame, length-below}
+use Rattle.representation.specs.Represents.{linkOf, tagged, Chain}
+use Rattle.storage.specs.Order.{chain-push, head-in, linked-frame, length-below}
 use Rattle.storage.specs.Sight.{Spot, Spot.hd, Spot.pg, Spot.sl, puts}
-use Rattle.storage.specs.Slots.{frameV, framed, slotV, Seen, framed-is, slot-there, slot-gen, vacant-tag, free-vacant, empty-attached, empty-below}
-use Rattle.storage.specs.Ops.{up, publishP, markP, joinP}
+use Rattle.storage.specs.Slots.{frameV, framed, slotV, Seen, framed-is, slot-there, slot-gen, vacant-tag, free-vacant}
+use Rattle.storage.specs.Ops.{publishP, markP, joinP}
 
 -- what the table shows after each part
 abbrev pub publishV : (Spot → ℕ) → ℕ → ℕ → Spot → ℕ

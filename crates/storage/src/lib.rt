@@ -1,6 +1,6 @@
 // One table's slots, its free order and its empty pages' order, over the state's words.
 ghost use mathlib.Core.Path.{_≡_};
-ghost use Prim.Native.Nat.{ℕ, _+_, _-_, _*_, _/_, _%_, min, max};
+ghost use Prim.Native.Nat.{_+_, _-_, _/_, _%_};
 ghost use lib.Dec.{eqb};
 ghost use Rattle.words.specs.Pick.{pick};
 ghost use Rattle.layout.specs.Layout.{load as loadAt, save as saveAt, writes, head, entry};
@@ -100,7 +100,7 @@ fn put_frame(s: &mut [u64], sh: Shape, fr: u64, j: u64, f: u64, v: u64)
 }
 
 // Into the slot of a link, which stands in the frame fr; through 0 nothing.
-fn put_slot_link(s: &mut [u64], sh: Shape, fr: u64, l: u64, f: u64, v: u64)
+pub fn put_slot_link(s: &mut [u64], sh: Shape, fr: u64, l: u64, f: u64, v: u64)
     ensures { λ _. ⌜ now (s .exit) ≡ writes (now (s .entry)) sh (slotP fr l f v) ⌝ }
 {
     if l == 0 {
@@ -187,8 +187,8 @@ pub fn vacate(s: &mut [u64], sh: Shape, b: u64, k: u64)
     head::store_orders(s, sh, b, u);
 }
 
-// The head of an order after a page left it: its next, if it was the first.
-fn head_after(before: u64, next: u64, first: u64) -> u64
+// The head of an order after a slot or a page left it: its next, if it was the first.
+pub fn head_after(before: u64, next: u64, first: u64) -> u64
     ensures { λ r. ⌜ r ≡ pick (eqb before 0) next first ⌝ }
 {
     if before == 0 { next } else { first }

@@ -1,10 +1,10 @@
 -- The lifecycle of one table, in the state: only words 2 and 3 of its head change. Assumes nothing.
 use mathlib.Core.Path.{_≡_, refl, sym, _∙_}
 use mathlib.Core.List.{List, [], _∷_}
-use Prim.Native.Nat.{ℕ, zero, suc, _%_, _<_}
+use Prim.Native.Nat.{ℕ, zero, suc, _+_, _%_, _<_}
 use native.Mathlib.Omega.{arith}
 use lib.Dec.{eqb}
-use borrow.Author.Tests.{eqb-true, eq-eqb}
+use borrow.Author.Tests.{eqb-true, eq-eqb, ne-eqb}
 use Rattle.words.specs.Pick.{bool}
 use Rattle.model.specs.Base.{put}
 use Rattle.model.specs.State.{till, Lifecycle, Table, State}
@@ -17,7 +17,8 @@ use Rattle.layout.specs.ShapeOf.{roots-kept}
 use Rattle.representation.specs.Represents.{wordIn, frameOf, slotWord, slotFrom, slotIn, LifeIs, TableIs, Represents}
 use Rattle.storage.specs.Order.{chain-frame}
 use Rattle.storage.specs.Slots.{tagged-rows}
-use Rattle.storage.specs.Whole.{Placed, put-like, rows-kept, mark-kept}
+use Rattle.storage.specs.Kept.{frames-kept, object-kept, RowsStay, mark-kept, book-kept}
+use Rattle.storage.specs.Whole.{Placed, put-like}
 use Rattle.storage.specs.Reps.{Held}
 use Rattle.teardown.specs.Ops.{lifeW}
 
@@ -25,6 +26,9 @@ module _ (m : Mem) (b w c : ℕ) where
   -- the memory then: every other address computes to its word in m
   abbrev lived : Mem
   lived = upds m (at (head b 2) w ∷ at (head b 3) c ∷ [])
+
+  stay : RowsStay m lived
+  stay = record { places = λ i. refl; ranks = λ i. refl; rows = λ i f. refl; items = λ i j f. refl }
 
   word-kept : (a k f : ℕ) → slotWord lived a k f ≡ slotWord m a k f
   word-kept a k f = go (frameOf m a k)
@@ -74,32 +78,12 @@ module _ (sh : Shape) (m : Mem) (s : State) (r : Represents sh m s) (b w c : ℕ
     tables = λ a l. bool (eqb a b)
         (λ e. let q : a ≡ b = eqb-true a b e in rw (e, q) (table-lived m b w c b (s .tables b) x (rw q at (r .tables a l)) (rw (eq-eqb b b refl) is)))
         (λ e. rw e (table-lived m b w c a (s .tables a) (s .tables a .life) (r .tables a l) (rw e (r .tables a l .life))));
-    frames = let q = r .frames in record {
-      held = λ a p f l h e. q .held a p f l (rw (put-like (λ t. t .size) (s .tables) b u refl a) at h) (sym (put-like (λ t. t .pages p .frame) (s .tables) b u refl a) ∙ e);
-      free = q .free;
-      sixteens = q .sixteens;
-      hundreds = q .hundreds;
-      thousands = q .thousands;
-      count = q .count;
-    };
-    objects = λ o l. let q = r .objects o l in record {
-      koid = q .koid;
-      kind = q .kind;
-      class = q .class;
-      supported = q .supported;
-      exportable = q .exportable;
-      stage = q .stage;
-      count = q .count;
-      limit = q .limit;
-    };
-    book = let q = r .book in record {
-      next = q .next;
-      used = q .used;
-      rows = rows-kept m (lived m b w c) (λ i. refl) (λ i f. refl) (λ i j f. refl) 0 (s .book .rows) (q .rows);
-      places = q .places;
-      marks = λ a k l h. mark-kept m (lived m b w c) s a k (λ i. refl) (λ i f. refl) (λ i j f. refl) (word-kept m b w c a k 0) (word-kept m b w c a k 2) (word-kept m b w c a k 3)
-          (q .marks a k l (rw (put-like (λ t. t .slots k) (s .tables) b u refl a) at h));
-    };
+    frames = frames-kept m (lived m b w c) s (withTable s b u) (record { owners = λ g. refl; groups = λ i l g. rw (ne-eqb (4 + i) 1 (λ e. omega arith)); count = refl }) (λ a. refl) refl refl
+        (λ a p f l h e. (l, rw (put-like (λ t. t .size) (s .tables) b u refl a) at h, sym (put-like (λ t. t .pages p .frame) (s .tables) b u refl a) ∙ e)) (r .frames);
+    objects = λ o l. object-kept m (lived m b w c) o (s .objects o) (λ f. refl) (r .objects o l);
+    book = book-kept m (lived m b w c) (stay m b w c) s (withTable s b u) refl refl refl
+        (λ a k l h. mark-kept m (lived m b w c) (stay m b w c) s a k (word-kept m b w c a k 0) (word-kept m b w c a k 2) (word-kept m b w c a k 3)
+        (r .book .marks a k l (rw (put-like (λ t. t .slots k) (s .tables) b u refl a) at h))) (r .book);
   }
 
 module _ (ws : List ℕ) (sh : Shape) (s : State) (h : Held ws sh s) (b : ℕ) (lb : b < s .tableCount) (w c : ℕ) (x : Lifecycle) (is : LifeIs w c x) where
@@ -124,7 +108,7 @@ module _ (ws : List ℕ) (sh : Shape) (s : State) (h : Held ws sh s) (b : ℕ) (
           shaped = record {
             limits = q .limits;
             room = omega (arith, length-writes ws sh xs, q .room);
-            roots = rw e (roots-kept sh (load ws sh) (lived (load ws sh) b w c) (λ f. refl) (q .roots));
+            roots = rw e (roots-kept sh (load ws sh) (lived (load ws sh) b w c) (λ f i. refl) (q .roots));
           };
           memory = rw e (with-life sh (load ws sh) s (h .reps .memory) b w c x is);
         };

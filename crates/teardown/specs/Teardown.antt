@@ -16,8 +16,8 @@ use Rattle.model.specs.Objects.{infoFor, release}
 use Rattle.model.specs.Book.{anyOpen}
 use Rattle.model.specs.Lookup.{handleOr, snapshotAt}
 use Rattle.model.specs.Request.{Request.removeStoppingOwner, Request.teardownStart, Request.teardownStep, Request.teardownFinish, Answer.done, Answer.removed, Answer.closed}
-use Rattle.model.specs.Decision.{Decision, Decision.refusal, Decision.accept, unless_refuse_then_, onTable}
-use Rattle.model.specs.Step.{nextOccupied, removeAt, removeStoppingOwnerOf, teardownStartOf, onTearing, tearAt, teardownStepOf, teardownFinishOf, decide}
+use Rattle.model.specs.Decision.{Decision, Decision.refusal, Decision.accept, unless_refuse_then_, table_of_refuse_then_, teardownCursor_refuse_then_}
+use Rattle.model.specs.Step.{nextOccupied, removeAt, removeStoppingOwnerOf, teardownStartOf, tearAt, teardownStepOf, teardownFinishOf, decide}
 use Rattle.model.specs.Words.{infoWords, usedWords}
 use Rattle.invariant.specs.StorageViews.{next-occupied}
 use Rattle.layout.specs.declared.Shape.{Shape}
@@ -46,7 +46,7 @@ life-tearing w c active e q = absurd (omega (arith, eqb-true w 1 q))
 life-tearing w c (tearingDown n) e q = ap tearingDown (sym (e .1))
 life-tearing w c retired e q = absurd (omega (arith, eqb-true w 1 q))
 
-life-out : (w c : ℕ) (x : Lifecycle) → LifeIs w c x → eqb w 1 ≡ false → (f : ℕ → Decision) → onTearing till x f ≡ refusal 18
+life-out : (w c : ℕ) (x : Lifecycle) → LifeIs w c x → eqb w 1 ≡ false → (f : ℕ → Decision) → (teardownCursor x refuse 18 then f) ≡ refusal 18
 life-out w c active e q f = refl
 life-out w c (tearingDown n) e q f = clash (eq-eqb w 1 (e .0)) q
 life-out w c retired e q f = refl
@@ -64,13 +64,13 @@ life-after s b u x hs =
 
 module _ (ws : List ℕ) (sh : Shape) (s : State) (i : Rep ws sh s) where
   module _ (b : ℕ) (l : b < s .tableCount) where
-    table : TableIs (load ws sh) b (s .tables b)
-    table = i .reps .memory .tables b l
+    its-table : TableIs (load ws sh) b (s .tables b)
+    its-table = i .reps .memory .tables b l
 
     module _ (k : ℕ) (q : isOccupied (s .tables b .slots k) ≡ true) where
       -- by the words
       slot-is : s .tables b .slots k ≡ occupied (slotWord (load ws sh) b k 1) (handleOf (handleAt (load ws sh) b k))
-      slot-is = sym (table .slots k) ∙ slot-occupied (load ws sh) b k (eqb-true (slotWord (load ws sh) b k 0) 3 (slot-tells (load ws sh) b k ∙ ap isOccupied (table .slots k) ∙ q))
+      slot-is = sym (its-table .slots k) ∙ slot-occupied (load ws sh) b k (eqb-true (slotWord (load ws sh) b k 0) 3 (slot-tells (load ws sh) b k ∙ ap isOccupied (its-table .slots k) ∙ q))
 
       known : slotWord (load ws sh) b k 2 < s .objectCount
       known = object-known s (i .wellFormed) b l k (slotWord (load ws sh) b k 1) (handleOf (handleAt (load ws sh) b k)) slot-is
@@ -91,28 +91,28 @@ module _ (ws : List ℕ) (sh : Shape) (s : State) (i : Rep ws sh s) where
 
     -- the walk's end, and the slot that it finds
     next-none : (c : ℕ) → nextOccupied till (s .tables b) c ≡ none → nextLink (load ws sh) b c ≡ 0
-    next-none c e = next-is (load ws sh) b (s .tables b) table c ∙ ap linkOf e
+    next-none c e = next-is (load ws sh) b (s .tables b) its-table c ∙ ap linkOf e
 
     next-some : (c k : ℕ) → nextOccupied till (s .tables b) c ≡ some k → (nextLink (load ws sh) b c ≡ k + 1) × (isOccupied (s .tables b .slots k) ≡ true)
     next-some c k e = let z : suc k ≡ k + 1 = omega arith in
-        (next-is (load ws sh) b (s .tables b) table c ∙ ap linkOf e ∙ z, ap isOccupied (next-occupied till (s .tables b) c k e .1))
+        (next-is (load ws sh) b (s .tables b) its-table c ∙ ap linkOf e ∙ z, ap isOccupied (next-occupied till (s .tables b) c k e .1))
 
   -- a table that is tearing down, and any other
   tears : (b : ℕ) → tearing (load ws sh) sh b ≡ true → (b < s .tableCount) × (s .tables b .life ≡ tearingDown (load ws sh (head b 3)))
   unfolding tearing
   tears b e = bool (ltb b (sh .tables))
       (λ p. let l : b < s .tableCount = omega (arith, ltb-true b (sh .tables) p, i .reps .memory .tableCount) in
-      (l, life-tearing (load ws sh (head b 2)) (load ws sh (head b 3)) (s .tables b .life) (table b l .life) (rw p at e)))
+      (l, life-tearing (load ws sh (head b 2)) (load ws sh (head b 3)) (s .tables b .life) (its-table b l .life) (rw p at e)))
       (λ p. clash {b = false} (rw p at e) refl)
 
-  tears-on : (b : ℕ) → tearing (load ws sh) sh b ≡ true → (f : Table → ℕ → Decision) → onTable s b (λ t. onTearing till (t .life) (f t)) ≡ f (s .tables b) (load ws sh (head b 3))
+  tears-on : (b : ℕ) → tearing (load ws sh) sh b ≡ true → (f : Table → ℕ → Decision) → (table b of s refuse 18 then λ t. teardownCursor t .life refuse 18 then f t) ≡ f (s .tables b) (load ws sh (head b 3))
   tears-on b e f = let q = tears b e in rw (lt-ltb b (s .tableCount) (q .0), q .1)
 
-  tears-not : (b : ℕ) → tearing (load ws sh) sh b ≡ false → (f : Table → ℕ → Decision) → onTable s b (λ t. onTearing till (t .life) (f t)) ≡ refusal 18
+  tears-not : (b : ℕ) → tearing (load ws sh) sh b ≡ false → (f : Table → ℕ → Decision) → (table b of s refuse 18 then λ t. teardownCursor t .life refuse 18 then f t) ≡ refusal 18
   unfolding tearing
   tears-not b e f = bool (ltb b (sh .tables))
       (λ p. let l : b < s .tableCount = omega (arith, ltb-true b (sh .tables) p, i .reps .memory .tableCount) in
-      rw (lt-ltb b (s .tableCount) l) (life-out (load ws sh (head b 2)) (load ws sh (head b 3)) (s .tables b .life) (table b l .life) (rw p at e) (f (s .tables b))))
+      rw (lt-ltb b (s .tableCount) l) (life-out (load ws sh (head b 2)) (load ws sh (head b 3)) (s .tables b .life) (its-table b l .life) (rw p at e) (f (s .tables b))))
       (λ p. rw (le-ltb b (s .tableCount) (omega (arith, ltb-false b (sh .tables) p, i .reps .memory .tableCount))))
 
 -- ---- the requests
@@ -147,7 +147,7 @@ module _ (ws : List ℕ) (sh : Shape) (s : State) (i : Rep ws sh s) (os : List �
   unfolding stoppingR decide removeStoppingOwnerOf usedWords
   removeStoppingOwner-does c = bool (ltb b (sh .tables))
       (λ e. let l : b < s .tableCount = omega (arith, ltb-true b (sh .tables) e, i .reps .memory .tableCount) in
-      let d : eqb (m (head b 2)) 0 ≡ isActive (t .life) = life-tells (m (head b 2)) (m (head b 3)) (t .life) (table ws sh s i b l .life) in
+      let d : eqb (m (head b 2)) 0 ≡ isActive (t .life) = life-tells (m (head b 2)) (m (head b 3)) (t .life) (its-table ws sh s i b l .life) in
       bool (isActive (t .life))
       (λ a. rw (e, d, a) (stopped-does c (record { known = l; active = a })))
       (λ a. rw (e, d, a) (does-accepted os sh base s (removeStoppingOwner b c) ws s (removed none c) (i .reps) (rw (lt-ltb b (s .tableCount) l, a)))))

@@ -1,22 +1,18 @@
 -- Reads after stores in a list of words, for every index. Assumes nothing.
-use mathlib.Core.Bool.{Bool, true, false, _&&_}
+use mathlib.Core.Bool.{_&&_}
 use mathlib.Core.List.{List}
-use mathlib.Core.Path.{_≡_, refl}
+use mathlib.Core.Path.{_≡_}
 use Prim.Native.Nat.{ℕ, _^_, _<_, _≤_}
 use native.Mathlib.Omega.{arith}
-use lib.ListN.{length, getD, set, length-set, List·getD-eq-default}
+use lib.ListN.{length, getD, set, List·getD-eq-default}
 use lib.Seq.{getD-set-same, getD-set-other, set-out, ext-getD}
 use lib.Dec.{eqb, ltb}
-use borrow.Author.Tests.{eq-eqb, ne-eqb, eqb-true, eqb-false, lt-ltb, le-ltb, ltb-true, ltb-false}
+use borrow.Author.Tests.{eqb-true, eqb-false, ltb-true, ltb-false}
 use Rattle.words.specs.Pick.{pick, bool}
 
 -- past the end there is 0
 pub get-past : (ws : List ℕ) (i : ℕ) → length ws ≤ i → getD ws i 0 ≡ 0
 get-past ws i h = List·getD-eq-default ws 0 h
-
--- a word that is not 0 stands in the list
-pub get-in : (ws : List ℕ) (i : ℕ) → 0 < getD ws i 0 → i < length ws
-get-in ws i h = bool (ltb i (length ws)) (λ e. ltb-true i (length ws) e) (λ e. absurd (omega (arith, get-past ws i (ltb-false i (length ws) e))))
 
 -- what a store shows at each index
 pub get-put : (ws : List ℕ) (i v j : ℕ) → getD (set ws i v) j 0 ≡ pick (eqb j i && ltb i (length ws)) v (getD ws j 0)

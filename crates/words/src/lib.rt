@@ -59,6 +59,13 @@ pub fn dec(x: u64) -> u64
     if 0 < x { x - 1 } else { 0 }
 }
 
+// What is left of x after y.
+pub fn left(x: u64, y: u64) -> u64
+    ensures { λ r. ⌜ r ≡ x - y ⌝ }
+{
+    if y < x { x - y } else { 0 }
+}
+
 pub fn larger(x: u64, y: u64) -> u64
     ensures { λ r. ⌜ r ≡ max x y ⌝ }
 {

@@ -2,9 +2,6 @@ use Rattle.request.specs.Answers.{puts}
 use borrow.Author.Needs.{needs}
 use Rattle.answer.proofs.refuse.Statement.{statement}
 use Rattle.answer.proofs.refuse.Tie as tie
-use Rattle.answer.proofs.refuse.Reads as reads
-use Rattle.answer.proofs.refuse.Lts as lts
-use Rattle.request.proofs.answer_put.Reads as answer-put-reads
 
 -- src/lib.rt:10:5
 answer-put-requires : tie.Need-answer-put-requires

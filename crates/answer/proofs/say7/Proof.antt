@@ -2,10 +2,6 @@ use Rattle.request.specs.Answers.{puts}
 use borrow.Author.Needs.{needs}
 use Rattle.answer.proofs.say7.Statement.{statement}
 use Rattle.answer.proofs.say7.Tie as tie
-use Rattle.answer.proofs.say7.Reads as reads
-use Rattle.answer.proofs.say7.Lts as lts
-use Rattle.answer.proofs.say5.Reads as say5-reads
-use Rattle.request.proofs.answer_put.Reads as answer-put-reads
 
 -- src/lib.rt:69:5
 say5-requires : tie.Need-say5-requires

@@ -2,16 +2,6 @@ use Rattle.book.specs.Code.{close-is}
 use borrow.Author.Needs.{needs}
 use Rattle.book.proofs.close_row.Statement.{statement}
 use Rattle.book.proofs.close_row.Tie as tie
-use Rattle.book.proofs.close_row.Reads as reads
-use Rattle.book.proofs.close_row.Lts as lts
-use Rattle.book.proofs.shift_down.Reads as shift-down-reads
-use Rattle.layout.proofs.put_index.Reads as put-index-reads
-use Rattle.layout.proofs.put_rank.Reads as put-rank-reads
-use Rattle.layout.proofs.put_root.Reads as put-root-reads
-use Rattle.layout.proofs.rank_word.Reads as rank-word-reads
-use Rattle.layout.proofs.root_word.Reads as root-word-reads
-use Rattle.words.proofs.dec.Reads as dec-reads
-use Rattle.words.proofs.smaller.Reads as smaller-reads
 
 -- src/lib.rt:77:16
 cast-rows : tie.Need-cast-rows

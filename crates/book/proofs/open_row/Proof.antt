@@ -2,13 +2,6 @@ use Rattle.book.specs.Code.{open-is}
 use borrow.Author.Needs.{needs}
 use Rattle.book.proofs.open_row.Statement.{statement}
 use Rattle.book.proofs.open_row.Tie as tie
-use Rattle.book.proofs.open_row.Reads as reads
-use Rattle.book.proofs.open_row.Lts as lts
-use Rattle.book.proofs.spare_place.Reads as spare-place-reads
-use Rattle.layout.proofs.put_root.Reads as put-root-reads
-use Rattle.layout.proofs.put_row.Reads as put-row-reads
-use Rattle.layout.proofs.root_word.Reads as root-word-reads
-use Rattle.words.proofs.inc.Reads as inc-reads
 
 -- src/lib.rt:38:9
 spare-place-requires : tie.Need-spare-place-requires

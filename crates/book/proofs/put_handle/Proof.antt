@@ -2,9 +2,6 @@ use Rattle.book.specs.Ops.{handleW}
 use borrow.Author.Needs.{needs}
 use Rattle.book.proofs.put_handle.Statement.{statement}
 use Rattle.book.proofs.put_handle.Tie as tie
-use Rattle.book.proofs.put_handle.Reads as reads
-use Rattle.book.proofs.put_handle.Lts as lts
-use Rattle.layout.proofs.put_item.Reads as put-item-reads
 
 -- src/lib.rt:55:5
 put-item-requires : tie.Need-put-item-requires

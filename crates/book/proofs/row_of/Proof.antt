@@ -7,15 +7,6 @@ use Rattle.book.specs.Code.{link-start, link-yes, link-above, link-below
 use Rattle.book.specs.Ops.{rowLink, linkFrom}
 use Rattle.book.proofs.row_of.Statement.{statement}
 use Rattle.book.proofs.row_of.Tie as tie
-use Rattle.book.proofs.row_of.Reads as reads
-use Rattle.book.proofs.row_of.Lts as lts
-use Rattle.layout.proofs.index_word.Reads as index-word-reads
-use Rattle.layout.proofs.root_word.Reads as root-word-reads
-use Rattle.layout.proofs.row_word.Reads as row-word-reads
-use Rattle.words.proofs.eq.Reads as eq-reads
-use Rattle.words.proofs.inc.Reads as inc-reads
-use Rattle.words.proofs.lt.Reads as lt-reads
-use Rattle.words.proofs.smaller.Reads as smaller-reads
 
 abbrev Inv-loop : tie.InvT-loop
 Inv-loop s sh id rows n₀ i₀ n i = (i + n ≤ 65535) × (rowLink (load s sh) sh id ≡ linkFrom (load s sh) id n i n)

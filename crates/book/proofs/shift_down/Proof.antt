@@ -7,11 +7,6 @@ use Rattle.book.specs.Code.{shift-none, shift-more, shift-end}
 use Rattle.book.specs.Ops.{shiftW}
 use Rattle.book.proofs.shift_down.Statement.{statement}
 use Rattle.book.proofs.shift_down.Tie as tie
-use Rattle.book.proofs.shift_down.Reads as reads
-use Rattle.book.proofs.shift_down.Lts as lts
-use Rattle.layout.proofs.index_word.Reads as index-word-reads
-use Rattle.layout.proofs.put_index.Reads as put-index-reads
-use Rattle.layout.proofs.put_rank.Reads as put-rank-reads
 
 abbrev Inv-loop : tie.InvT-loop
 Inv-loop s₀ sh r last i₀ s i = (r ≤ i) × (i - r ≤ last - r) × (length s ≡ length s₀) × (s ≡ shiftW s₀ sh r (i - r))

@@ -2,9 +2,6 @@ use Rattle.book.specs.Ops.{shrinkW}
 use borrow.Author.Needs.{needs}
 use Rattle.book.proofs.shrink_row.Statement.{statement}
 use Rattle.book.proofs.shrink_row.Tie as tie
-use Rattle.book.proofs.shrink_row.Reads as reads
-use Rattle.book.proofs.shrink_row.Lts as lts
-use Rattle.layout.proofs.put_row.Reads as put-row-reads
 
 -- src/lib.rt:91:5
 put-row-requires : tie.Need-put-row-requires

@@ -1,10 +1,5 @@
-use borrow.Author.Needs.{needs}
 use Rattle.book.proofs.spare_place.Statement.{statement}
 use Rattle.book.proofs.spare_place.Tie as tie
-use Rattle.book.proofs.spare_place.Reads as reads
-use Rattle.book.proofs.spare_place.Lts as lts
-use Rattle.layout.proofs.index_word.Reads as index-word-reads
-use Rattle.layout.proofs.root_word.Reads as root-word-reads
 
 -- src/lib.rt:30:9
 root-word-requires : tie.Need-root-word-requires

@@ -2,11 +2,6 @@ use Rattle.book.specs.Ops.{spendW}
 use borrow.Author.Needs.{needs}
 use Rattle.book.proofs.spend_id.Statement.{statement}
 use Rattle.book.proofs.spend_id.Tie as tie
-use Rattle.book.proofs.spend_id.Reads as reads
-use Rattle.book.proofs.spend_id.Lts as lts
-use Rattle.layout.proofs.put_root.Reads as put-root-reads
-use Rattle.layout.proofs.root_word.Reads as root-word-reads
-use Rattle.words.proofs.inc.Reads as inc-reads
 
 -- src/lib.rt:98:27
 root-word-requires : tie.Need-root-word-requires

@@ -7,11 +7,6 @@ use Rattle.book.specs.Code.{vacate-none, vacate-more, vacate-end}
 use Rattle.book.specs.Ops.{vacateItemsW}
 use Rattle.book.proofs.vacate_items.Statement.{statement}
 use Rattle.book.proofs.vacate_items.Tie as tie
-use Rattle.book.proofs.vacate_items.Reads as reads
-use Rattle.book.proofs.vacate_items.Lts as lts
-use Rattle.layout.proofs.item_word.Reads as item-word-reads
-use Rattle.storage.proofs.vacate.Reads as vacate-reads
-use Rattle.words.proofs.smaller.Reads as smaller-reads
 
 abbrev Inv-loop : tie.InvT-loop
 Inv-loop s₀ sh b x from to end j₀ s j = (from ≤ j) × (j - from ≤ end - from) × (length s ≡ length s₀) × (s ≡ vacateItemsW s₀ sh b x from (j - from))

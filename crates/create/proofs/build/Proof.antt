@@ -2,15 +2,6 @@ use Rattle.create.specs.Creation.{built-by}
 use borrow.Author.Needs.{needs}
 use Rattle.create.proofs.build.Statement.{statement}
 use Rattle.create.proofs.build.Tie as tie
-use Rattle.create.proofs.build.Reads as reads
-use Rattle.create.proofs.build.Lts as lts
-use Rattle.create.proofs.clear.Reads as clear-reads
-use Rattle.create.proofs.make_header.Reads as make-header-reads
-use Rattle.create.proofs.make_heads.Reads as make-heads-reads
-use Rattle.create.proofs.make_levels.Reads as make-levels-reads
-use Rattle.create.proofs.make_objects.Reads as make-objects-reads
-use Rattle.create.proofs.make_places.Reads as make-places-reads
-use Rattle.layout.proofs.total_of.Reads as total-of-reads
 
 -- src/lib.rt:271:14
 total-of-requires : tie.Need-total-of-requires

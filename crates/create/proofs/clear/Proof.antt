@@ -6,9 +6,6 @@ use Prim.Native.Nat.{_-_, _≤_}
 use mathlib.Core.Path.{_≡_, refl}
 use Rattle.create.proofs.clear.Statement.{statement}
 use Rattle.create.proofs.clear.Tie as tie
-use Rattle.create.proofs.clear.Reads as reads
-use Rattle.create.proofs.clear.Lts as lts
-use Rattle.words.proofs.put.Reads as put-reads
 
 abbrev Inv-loop : tie.InvT-loop
 Inv-loop s₀ n k₀ s k = (k ≤ n) × (length s ≡ length s₀) × (s ≡ clearedW s₀ k)

@@ -3,10 +3,6 @@ use Rattle.create.specs.Creation.{create-bad, create-placed}
 use borrow.Author.Needs.{needs}
 use Rattle.create.proofs.gurtxozal_create.Statement.{statement}
 use Rattle.create.proofs.gurtxozal_create.Tie as tie
-use Rattle.create.proofs.gurtxozal_create.Reads as reads
-use Rattle.create.proofs.gurtxozal_create.Lts as lts
-use Rattle.create.proofs.place.Reads as place-reads
-use Rattle.create.proofs.plan.Reads as plan-reads
 
 -- src/lib.rt:296:9
 plan-requires : tie.Need-plan-requires

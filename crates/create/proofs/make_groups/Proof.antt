@@ -6,11 +6,6 @@ use Prim.Native.Nat.{_-_, _≤_}
 use mathlib.Core.Path.{_≡_, refl}
 use Rattle.create.proofs.make_groups.Statement.{statement}
 use Rattle.create.proofs.make_groups.Tie as tie
-use Rattle.create.proofs.make_groups.Reads as reads
-use Rattle.create.proofs.make_groups.Lts as lts
-use Rattle.create.proofs.left.Reads as left-reads
-use Rattle.layout.proofs.save.Reads as save-reads
-use Rattle.words.proofs.smaller.Reads as smaller-reads
 use Rattle.model.specs.Bounds.{group-small}
 use Rattle.layout.specs.Turns.{turns, turns-at, turns-more}
 

@@ -2,12 +2,6 @@ use Rattle.create.specs.Creation.{head-by}
 use borrow.Author.Needs.{needs}
 use Rattle.create.proofs.make_head.Statement.{statement}
 use Rattle.create.proofs.make_head.Tie as tie
-use Rattle.create.proofs.make_head.Reads as reads
-use Rattle.create.proofs.make_head.Lts as lts
-use Rattle.codec.proofs.HandleCodec.new.Reads as new-reads
-use Rattle.create.proofs.pages_of.Reads as pages-of-reads
-use Rattle.layout.proofs.put_head.Reads as put-head-reads
-use Rattle.words.proofs.word.Reads as word-reads
 
 -- src/lib.rt:178:18
 mul-at : tie.Need-mul-at

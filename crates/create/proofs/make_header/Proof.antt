@@ -2,9 +2,6 @@ use Rattle.create.specs.Creation.{header-by, header-length}
 use borrow.Author.Needs.{needs}
 use Rattle.create.proofs.make_header.Statement.{statement}
 use Rattle.create.proofs.make_header.Tie as tie
-use Rattle.create.proofs.make_header.Reads as reads
-use Rattle.create.proofs.make_header.Lts as lts
-use Rattle.layout.proofs.put_root.Reads as put-root-reads
 
 -- src/lib.rt:164:5
 put-root-requires : tie.Need-put-root-requires

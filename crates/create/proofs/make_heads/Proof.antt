@@ -7,9 +7,6 @@ use mathlib.Core.Path.{_≡_, refl}
 use Rattle.layout.specs.Turns.{turns, turns-at, turns-more}
 use Rattle.create.proofs.make_heads.Statement.{statement}
 use Rattle.create.proofs.make_heads.Tie as tie
-use Rattle.create.proofs.make_heads.Reads as reads
-use Rattle.create.proofs.make_heads.Lts as lts
-use Rattle.create.proofs.make_head.Reads as make-head-reads
 
 abbrev Inv-loop : tie.InvT-loop
 Inv-loop s₀ sh p n k₀ s k = (k ≤ n) × (length s ≡ length s₀) × (s ≡ headsW s₀ sh p k)

@@ -2,9 +2,6 @@ use Rattle.create.specs.Creation.{levels-by}
 use borrow.Author.Needs.{needs}
 use Rattle.create.proofs.make_levels.Statement.{statement}
 use Rattle.create.proofs.make_levels.Tie as tie
-use Rattle.create.proofs.make_levels.Reads as reads
-use Rattle.create.proofs.make_levels.Lts as lts
-use Rattle.create.proofs.make_groups.Reads as make-groups-reads
 
 -- src/lib.rt:249:13
 cast-f : tie.Need-cast-f

@@ -5,10 +5,6 @@ use mathlib.Core.Path.{refl}
 use borrow.Author.Needs.{needs}
 use Rattle.create.proofs.make_object.Statement.{statement}
 use Rattle.create.proofs.make_object.Tie as tie
-use Rattle.create.proofs.make_object.Reads as reads
-use Rattle.create.proofs.make_object.Lts as lts
-use Rattle.layout.proofs.put_object.Reads as put-object-reads
-use Rattle.words.proofs.word.Reads as word-reads
 
 -- src/lib.rt:203:19
 cast-at : tie.Need-cast-at

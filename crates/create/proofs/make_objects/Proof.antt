@@ -7,9 +7,6 @@ use mathlib.Core.Path.{_≡_, refl}
 use Rattle.layout.specs.Turns.{turns, turns-at, turns-more}
 use Rattle.create.proofs.make_objects.Statement.{statement}
 use Rattle.create.proofs.make_objects.Tie as tie
-use Rattle.create.proofs.make_objects.Reads as reads
-use Rattle.create.proofs.make_objects.Lts as lts
-use Rattle.create.proofs.make_object.Reads as make-object-reads
 
 abbrev Inv-loop : tie.InvT-loop
 Inv-loop s₀ sh p n k₀ s k = (k ≤ n) × (length s ≡ length s₀) × (s ≡ objectsW s₀ sh p k)

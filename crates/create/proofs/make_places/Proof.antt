@@ -6,10 +6,6 @@ use Prim.Native.Nat.{_-_, _≤_}
 use mathlib.Core.Path.{_≡_, refl}
 use Rattle.create.proofs.make_places.Statement.{statement}
 use Rattle.create.proofs.make_places.Tie as tie
-use Rattle.create.proofs.make_places.Reads as reads
-use Rattle.create.proofs.make_places.Lts as lts
-use Rattle.layout.proofs.put_index.Reads as put-index-reads
-use Rattle.layout.proofs.put_rank.Reads as put-rank-reads
 use Rattle.layout.specs.Turns.{turns, turns-at, turns-more}
 
 abbrev Inv-loop : tie.InvT-loop

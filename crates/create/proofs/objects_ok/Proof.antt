@@ -8,9 +8,6 @@ use Prim.Native.Nat.{_-_, _≤_}
 use mathlib.Core.Path.{_≡_, sym, _∙_}
 use Rattle.create.proofs.objects_ok.Statement.{statement}
 use Rattle.create.proofs.objects_ok.Tie as tie
-use Rattle.create.proofs.objects_ok.Reads as reads
-use Rattle.create.proofs.objects_ok.Lts as lts
-use Rattle.create.proofs.object_ok.Reads as object-ok-reads
 
 abbrev Inv-loop : tie.InvT-loop
 Inv-loop p t n base k₀ k = (k ≤ n) × (every objectPermitted (objectsIn p t n) ≡ every objectPermitted (from (objectOf p t) k (n - k)))

@@ -6,10 +6,6 @@ use Prim.Native.Nat.{_-_, _≤_}
 use mathlib.Core.Path.{_≡_, refl, ap, _∙_}
 use Rattle.create.proofs.pages_of.Statement.{statement}
 use Rattle.create.proofs.pages_of.Tie as tie
-use Rattle.create.proofs.pages_of.Reads as reads
-use Rattle.create.proofs.pages_of.Lts as lts
-use Rattle.words.proofs.smaller.Reads as smaller-reads
-use Rattle.words.proofs.word.Reads as word-reads
 
 abbrev Inv-loop : tie.InvT-loop
 Inv-loop p n sum₀ k₀ sum k = (k ≤ n) × (sum ≡ pageSum p k)

@@ -3,11 +3,6 @@ use mathlib.Core.Path.{refl}
 use borrow.Author.Needs.{needs}
 use Rattle.create.proofs.place.Statement.{statement}
 use Rattle.create.proofs.place.Tie as tie
-use Rattle.create.proofs.place.Reads as reads
-use Rattle.create.proofs.place.Lts as lts
-use Rattle.create.proofs.build.Reads as build-reads
-use Rattle.layout.proofs.total_of.Reads as total-of-reads
-use Rattle.words.proofs.le.Reads as le-reads
 
 -- src/lib.rt:284:18
 total-of-requires : tie.Need-total-of-requires

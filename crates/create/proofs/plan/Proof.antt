@@ -5,12 +5,6 @@ use mathlib.Core.Path.{refl}
 use borrow.Author.Needs.{needs}
 use Rattle.create.proofs.plan.Statement.{statement}
 use Rattle.create.proofs.plan.Tie as tie
-use Rattle.create.proofs.plan.Reads as reads
-use Rattle.create.proofs.plan.Lts as lts
-use Rattle.create.proofs.objects_ok.Reads as objects-ok-reads
-use Rattle.create.proofs.pages_of.Reads as pages-of-reads
-use Rattle.create.proofs.tables_ok.Reads as tables-ok-reads
-use Rattle.words.proofs.word.Reads as word-reads
 
 -- src/lib.rt:103:9
 word-requires : tie.Need-word-requires

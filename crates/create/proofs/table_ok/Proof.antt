@@ -5,9 +5,6 @@ use mathlib.Core.Path.{sym}
 use borrow.Author.Needs.{needs}
 use Rattle.create.proofs.table_ok.Statement.{statement}
 use Rattle.create.proofs.table_ok.Tie as tie
-use Rattle.create.proofs.table_ok.Reads as reads
-use Rattle.create.proofs.table_ok.Lts as lts
-use Rattle.words.proofs.word.Reads as word-reads
 
 -- src/lib.rt:18:36
 mul-word : tie.Need-mul-word

@@ -9,9 +9,6 @@ use Prim.Native.Nat.{_-_, _≤_}
 use mathlib.Core.Path.{_≡_, sym, _∙_}
 use Rattle.create.proofs.tables_ok.Statement.{statement}
 use Rattle.create.proofs.tables_ok.Tie as tie
-use Rattle.create.proofs.tables_ok.Reads as reads
-use Rattle.create.proofs.tables_ok.Lts as lts
-use Rattle.create.proofs.table_ok.Reads as table-ok-reads
 
 abbrev Inv-loop : tie.InvT-loop
 Inv-loop p n k₀ k = (k ≤ n) × (every (tablePermitted till) (tablesIn p n) ≡ every (tablePermitted till) (from (tableFrom p) k (n - k)))

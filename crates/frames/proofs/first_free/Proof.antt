@@ -5,9 +5,6 @@ use Rattle.layout.specs.Layout.{load}
 use Rattle.frames.specs.Ops.{firstOf, hasFree, first-start, first-yes, first-no, first-end}
 use Rattle.frames.proofs.first_free.Statement.{statement}
 use Rattle.frames.proofs.first_free.Tie as tie
-use Rattle.frames.proofs.first_free.Reads as reads
-use Rattle.frames.proofs.first_free.Lts as lts
-use Rattle.frames.proofs.has_free.Reads as has-free-reads
 
 abbrev Inv-loop : tie.InvT-loop
 Inv-loop s sh k from end x₀ x = (x ≤ end) × (firstOf (hasFree (load s sh) k) from 16 ≡ firstOf (hasFree (load s sh) k) x (end - x))

@@ -2,12 +2,6 @@ use Rattle.frames.specs.Ops.{give-is}
 use borrow.Author.Needs.{needs}
 use Rattle.frames.proofs.give_frame.Statement.{statement}
 use Rattle.frames.proofs.give_frame.Tie as tie
-use Rattle.frames.proofs.give_frame.Reads as reads
-use Rattle.frames.proofs.give_frame.Lts as lts
-use Rattle.frames.proofs.put_pool.Reads as put-pool-reads
-use Rattle.layout.proofs.load.Reads as load-reads
-use Rattle.layout.proofs.root_word.Reads as root-word-reads
-use Rattle.words.proofs.inc.Reads as inc-reads
 
 -- src/lib.rt:73:24
 load-requires : tie.Need-load-requires

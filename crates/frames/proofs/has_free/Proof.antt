@@ -5,11 +5,6 @@ use mathlib.Core.Path.{sym, _∙_, ap}
 use Rattle.words.specs.Pick.{yes-is, no-is}
 use Rattle.frames.proofs.has_free.Statement.{statement}
 use Rattle.frames.proofs.has_free.Tie as tie
-use Rattle.frames.proofs.has_free.Reads as reads
-use Rattle.frames.proofs.has_free.Lts as lts
-use Rattle.layout.proofs.load.Reads as load-reads
-use Rattle.words.proofs.eq.Reads as eq-reads
-use Rattle.words.proofs.ne.Reads as ne-reads
 
 -- src/lib.rt:12:9
 load-requires : tie.Need-load-requires

@@ -2,9 +2,6 @@ use Rattle.frames.specs.Ops.{lowestAt}
 use borrow.Author.Needs.{needs}
 use Rattle.frames.proofs.lowest_free.Statement.{statement}
 use Rattle.frames.proofs.lowest_free.Tie as tie
-use Rattle.frames.proofs.lowest_free.Reads as reads
-use Rattle.frames.proofs.lowest_free.Lts as lts
-use Rattle.frames.proofs.first_free.Reads as first-free-reads
 
 -- src/lib.rt:40:9
 first-free-requires : tie.Need-first-free-requires

@@ -1,11 +1,6 @@
 use borrow.Author.Needs.{needs}
 use Rattle.frames.proofs.put_pool.Statement.{statement}
 use Rattle.frames.proofs.put_pool.Tie as tie
-use Rattle.frames.proofs.put_pool.Reads as reads
-use Rattle.frames.proofs.put_pool.Lts as lts
-use Rattle.layout.proofs.put_owner.Reads as put-owner-reads
-use Rattle.layout.proofs.put_root.Reads as put-root-reads
-use Rattle.layout.proofs.save.Reads as save-reads
 
 -- src/lib.rt:50:5
 put-owner-requires : tie.Need-put-owner-requires

@@ -2,13 +2,6 @@ use Rattle.frames.specs.Ops.{take-is}
 use borrow.Author.Needs.{needs}
 use Rattle.frames.proofs.take_frame.Statement.{statement}
 use Rattle.frames.proofs.take_frame.Tie as tie
-use Rattle.frames.proofs.take_frame.Reads as reads
-use Rattle.frames.proofs.take_frame.Lts as lts
-use Rattle.frames.proofs.put_pool.Reads as put-pool-reads
-use Rattle.layout.proofs.load.Reads as load-reads
-use Rattle.layout.proofs.root_word.Reads as root-word-reads
-use Rattle.words.proofs.dec.Reads as dec-reads
-use Rattle.words.proofs.inc.Reads as inc-reads
 
 -- src/lib.rt:61:9
 inc-requires : tie.Need-inc-requires

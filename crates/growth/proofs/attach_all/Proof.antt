@@ -6,9 +6,6 @@ use mathlib.Core.Path.{_≡_, refl}
 use Rattle.growth.specs.Code.{all-none, all-more, all-end}
 use Rattle.growth.proofs.attach_all.Statement.{statement}
 use Rattle.growth.proofs.attach_all.Tie as tie
-use Rattle.growth.proofs.attach_all.Reads as reads
-use Rattle.growth.proofs.attach_all.Lts as lts
-use Rattle.growth.proofs.attach_next.Reads as attach-next-reads
 
 abbrev Inv-loop : tie.InvT-loop
 Inv-loop s₀ sh b n k₀ s k = (k ≤ n) × (length s ≡ length s₀) × (s ≡ attachAllW s₀ sh b k)

@@ -2,13 +2,6 @@ use Rattle.growth.specs.Code.{next-is}
 use borrow.Author.Needs.{needs}
 use Rattle.growth.proofs.attach_next.Statement.{statement}
 use Rattle.growth.proofs.attach_next.Tie as tie
-use Rattle.growth.proofs.attach_next.Reads as reads
-use Rattle.growth.proofs.attach_next.Lts as lts
-use Rattle.frames.proofs.lowest_free.Reads as lowest-free-reads
-use Rattle.growth.proofs.attach_page.Reads as attach-page-reads
-use Rattle.growth.proofs.page_at.Reads as page-at-reads
-use Rattle.layout.proofs.head_word.Reads as head-word-reads
-use Rattle.words.proofs.smaller.Reads as smaller-reads
 
 -- src/lib.rt:256:9
 head-word-requires : tie.Need-head-word-requires

@@ -2,12 +2,6 @@ use Rattle.growth.specs.Code.{attach-is}
 use borrow.Author.Needs.{needs}
 use Rattle.growth.proofs.attach_page.Statement.{statement}
 use Rattle.growth.proofs.attach_page.Tie as tie
-use Rattle.growth.proofs.attach_page.Reads as reads
-use Rattle.growth.proofs.attach_page.Lts as lts
-use Rattle.frames.proofs.take_frame.Reads as take-frame-reads
-use Rattle.growth.proofs.join_page.Reads as join-page-reads
-use Rattle.layout.proofs.head_word.Reads as head-word-reads
-use Rattle.words.proofs.smaller.Reads as smaller-reads
 
 -- src/lib.rt:181:28
 head-word-requires : tie.Need-head-word-requires

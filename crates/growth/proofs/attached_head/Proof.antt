@@ -1,5 +1,4 @@
 use Rattle.growth.specs.Late.{head-attached}
-use borrow.Author.Needs.{needs}
 use Rattle.growth.proofs.attached_head.Statement.{statement}
 use Rattle.growth.proofs.attached_head.Tie as tie
 

@@ -7,12 +7,6 @@ use Rattle.layout.specs.Turns.{turns, turns-none}
 use Rattle.growth.specs.Code.{built-more, built-end}
 use Rattle.growth.proofs.build_frame.Statement.{statement}
 use Rattle.growth.proofs.build_frame.Tie as tie
-use Rattle.growth.proofs.build_frame.Reads as reads
-use Rattle.growth.proofs.build_frame.Lts as lts
-use Rattle.growth.proofs.build_slot.Reads as build-slot-reads
-use Rattle.growth.proofs.next_word.Reads as next-word-reads
-use Rattle.growth.proofs.prev_word.Reads as prev-word-reads
-use Rattle.growth.proofs.slots_of.Reads as slots-of-reads
 
 abbrev Inv-loop : tie.InvT-loop
 Inv-loop s₀ sh f p g h n j₀ s j = (j ≤ n) × (length s ≡ length s₀) × (s ≡ turns s₀ sh (slotsP f p g h) j)

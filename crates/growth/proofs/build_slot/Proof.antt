@@ -1,9 +1,6 @@
 use borrow.Author.Needs.{needs}
 use Rattle.growth.proofs.build_slot.Statement.{statement}
 use Rattle.growth.proofs.build_slot.Tie as tie
-use Rattle.growth.proofs.build_slot.Reads as reads
-use Rattle.growth.proofs.build_slot.Lts as lts
-use Rattle.layout.proofs.put_cell.Reads as put-cell-reads
 
 -- src/lib.rt:58:5
 put-cell-requires : tie.Need-put-cell-requires

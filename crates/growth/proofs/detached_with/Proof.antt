@@ -1,6 +1,5 @@
 use Rattle.growth.specs.Late.{detached-yes, detached-no}
 use Rattle.layout.specs.Layout.{load}
-use borrow.Author.Needs.{needs}
 use Rattle.growth.proofs.detached_with.Statement.{statement}
 use Rattle.growth.proofs.detached_with.Tie as tie
 

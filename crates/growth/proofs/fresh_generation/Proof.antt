@@ -1,6 +1,5 @@
 use Rattle.growth.specs.Late.{fresh-yes, fresh-no}
 use Rattle.layout.specs.Layout.{load}
-use borrow.Author.Needs.{needs}
 use Rattle.growth.proofs.fresh_generation.Statement.{statement}
 use Rattle.growth.proofs.fresh_generation.Tie as tie
 

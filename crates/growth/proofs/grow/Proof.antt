@@ -4,11 +4,6 @@ use Rattle.growth.specs.Code.{grow-some, grow-none}
 use borrow.Author.Needs.{needs}
 use Rattle.growth.proofs.grow.Statement.{statement}
 use Rattle.growth.proofs.grow.Tie as tie
-use Rattle.growth.proofs.grow.Reads as reads
-use Rattle.growth.proofs.grow.Lts as lts
-use Rattle.growth.proofs.advance_epoch.Reads as advance-epoch-reads
-use Rattle.growth.proofs.attach_all.Reads as attach-all-reads
-use Rattle.words.proofs.ne.Reads as ne-reads
 
 -- src/lib.rt:296:5
 attach-all-requires : tie.Need-attach-all-requires

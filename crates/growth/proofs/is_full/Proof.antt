@@ -2,9 +2,6 @@ use native.Mathlib.Omega.{arith}
 use Rattle.growth.specs.Code.{full-new, full-old}
 use Rattle.growth.proofs.is_full.Statement.{statement}
 use Rattle.growth.proofs.is_full.Tie as tie
-use Rattle.growth.proofs.is_full.Reads as reads
-use Rattle.growth.proofs.is_full.Lts as lts
-use Rattle.words.proofs.eq.Reads as eq-reads
 
 -- src/lib.rt:221:9
 eq-requires : tie.Need-eq-requires

@@ -4,9 +4,6 @@ use Rattle.growth.specs.Code.{equal-is, other-is}
 use borrow.Author.Needs.{needs}
 use Rattle.growth.proofs.link_after.Statement.{statement}
 use Rattle.growth.proofs.link_after.Tie as tie
-use Rattle.growth.proofs.link_after.Reads as reads
-use Rattle.growth.proofs.link_after.Lts as lts
-use Rattle.storage.proofs.page_word.Reads as page-word-reads
 
 -- src/lib.rt:201:9
 returns : tie.Need-returns

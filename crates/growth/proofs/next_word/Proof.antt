@@ -5,8 +5,6 @@ use Rattle.growth.specs.Code.{equal-is, other-is}
 use borrow.Author.Needs.{needs}
 use Rattle.growth.proofs.next_word.Statement.{statement}
 use Rattle.growth.proofs.next_word.Tie as tie
-use Rattle.growth.proofs.next_word.Reads as reads
-use Rattle.growth.proofs.next_word.Lts as lts
 
 -- src/lib.rt:39:9
 returns : tie.Need-returns

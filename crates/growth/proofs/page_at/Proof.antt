@@ -5,8 +5,6 @@ use Rattle.growth.specs.Code.{equal-is, other-is}
 use borrow.Author.Needs.{needs}
 use Rattle.growth.proofs.page_at.Statement.{statement}
 use Rattle.growth.proofs.page_at.Tie as tie
-use Rattle.growth.proofs.page_at.Reads as reads
-use Rattle.growth.proofs.page_at.Lts as lts
 
 -- src/lib.rt:191:9
 returns : tie.Need-returns

@@ -6,16 +6,6 @@ use mathlib.Core.Path.{_≡_}
 use Rattle.growth.specs.Code.{count-start, count-done, count-full, count-more, count-end}
 use Rattle.growth.proofs.pages_needed.Statement.{statement}
 use Rattle.growth.proofs.pages_needed.Tie as tie
-use Rattle.growth.proofs.pages_needed.Reads as reads
-use Rattle.growth.proofs.pages_needed.Lts as lts
-use Rattle.growth.proofs.is_full.Reads as is-full-reads
-use Rattle.growth.proofs.left.Reads as left-reads
-use Rattle.growth.proofs.link_after.Reads as link-after-reads
-use Rattle.growth.proofs.page_at.Reads as page-at-reads
-use Rattle.growth.proofs.size_after.Reads as size-after-reads
-use Rattle.growth.proofs.slots_of.Reads as slots-of-reads
-use Rattle.layout.proofs.head_word.Reads as head-word-reads
-use Rattle.words.proofs.eq.Reads as eq-reads
 
 abbrev Inv-loop : tie.InvT-loop
 Inv-loop s sh b k e limit need₀ d₀ n₀ c₀ need d n c = (c ≤ 64) × (pagesNeeded (load s sh) b k ≡ countFrom (load s sh) e limit (64 - c) need d n c)

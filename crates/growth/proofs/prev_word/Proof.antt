@@ -5,8 +5,6 @@ use Rattle.growth.specs.Code.{equal-is, other-is}
 use borrow.Author.Needs.{needs}
 use Rattle.growth.proofs.prev_word.Statement.{statement}
 use Rattle.growth.proofs.prev_word.Tie as tie
-use Rattle.growth.proofs.prev_word.Reads as reads
-use Rattle.growth.proofs.prev_word.Lts as lts
 
 -- src/lib.rt:47:13
 add-i : tie.Need-add-i

@@ -3,9 +3,6 @@ use native.Mathlib.Omega.{arith}
 use Rattle.growth.specs.Code.{equal-is, other-is}
 use Rattle.growth.proofs.size_after.Statement.{statement}
 use Rattle.growth.proofs.size_after.Tie as tie
-use Rattle.growth.proofs.size_after.Reads as reads
-use Rattle.growth.proofs.size_after.Lts as lts
-use Rattle.words.proofs.inc.Reads as inc-reads
 
 -- src/lib.rt:211:9
 inc-requires : tie.Need-inc-requires

@@ -1,9 +1,5 @@
-use borrow.Author.Needs.{needs}
 use Rattle.head.proofs.detached.Statement.{statement}
 use Rattle.head.proofs.detached.Tie as tie
-use Rattle.head.proofs.detached.Reads as reads
-use Rattle.head.proofs.detached.Lts as lts
-use Rattle.head.proofs.next_epoch.Reads as next-epoch-reads
 
 -- src/lib.rt:105:9
 next-epoch-requires : tie.Need-next-epoch-requires

@@ -1,10 +1,5 @@
-use borrow.Author.Needs.{needs}
 use Rattle.head.proofs.freed.Statement.{statement}
 use Rattle.head.proofs.freed.Tie as tie
-use Rattle.head.proofs.freed.Reads as reads
-use Rattle.head.proofs.freed.Lts as lts
-use Rattle.head.proofs.with_free.Reads as with-free-reads
-use Rattle.words.proofs.inc.Reads as inc-reads
 
 -- src/lib.rt:66:25
 inc-requires : tie.Need-inc-requires

@@ -1,10 +1,6 @@
 use Rattle.head.specs.Head.{head-is}
-use borrow.Author.Needs.{needs}
 use Rattle.head.proofs.load.Statement.{statement}
 use Rattle.head.proofs.load.Tie as tie
-use Rattle.head.proofs.load.Reads as reads
-use Rattle.head.proofs.load.Lts as lts
-use Rattle.layout.proofs.head_word.Reads as head-word-reads
 
 -- src/lib.rt:258:9
 head-word-requires : tie.Need-head-word-requires

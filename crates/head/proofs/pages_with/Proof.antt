@@ -1,5 +1,4 @@
 use Rattle.head.specs.Head.{pages-new, pages-old}
-use borrow.Author.Needs.{needs}
 use Rattle.head.proofs.pages_with.Statement.{statement}
 use Rattle.head.proofs.pages_with.Tie as tie
 

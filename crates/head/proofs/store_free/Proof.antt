@@ -1,9 +1,6 @@
 use borrow.Author.Needs.{needs}
 use Rattle.head.proofs.store_free.Statement.{statement}
 use Rattle.head.proofs.store_free.Tie as tie
-use Rattle.head.proofs.store_free.Reads as reads
-use Rattle.head.proofs.store_free.Lts as lts
-use Rattle.layout.proofs.put_head.Reads as put-head-reads
 
 -- src/lib.rt:284:5
 put-head-requires : tie.Need-put-head-requires

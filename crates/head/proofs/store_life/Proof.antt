@@ -1,9 +1,6 @@
 use borrow.Author.Needs.{needs}
 use Rattle.head.proofs.store_life.Statement.{statement}
 use Rattle.head.proofs.store_life.Tie as tie
-use Rattle.head.proofs.store_life.Reads as reads
-use Rattle.head.proofs.store_life.Lts as lts
-use Rattle.layout.proofs.put_head.Reads as put-head-reads
 
 -- src/lib.rt:314:5
 put-head-requires : tie.Need-put-head-requires

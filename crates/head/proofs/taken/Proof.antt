@@ -1,10 +1,5 @@
-use borrow.Author.Needs.{needs}
 use Rattle.head.proofs.taken.Statement.{statement}
 use Rattle.head.proofs.taken.Tie as tie
-use Rattle.head.proofs.taken.Reads as reads
-use Rattle.head.proofs.taken.Lts as lts
-use Rattle.head.proofs.with_free.Reads as with-free-reads
-use Rattle.words.proofs.dec.Reads as dec-reads
 
 -- src/lib.rt:74:25
 dec-requires : tie.Need-dec-requires

@@ -4,11 +4,6 @@ use Rattle.layout.specs.Cells.{cell-read}
 use borrow.Author.Needs.{needs}
 use Rattle.layout.proofs.cell_at.Statement.{statement}
 use Rattle.layout.proofs.cell_at.Tie as tie
-use Rattle.layout.proofs.cell_at.Reads as reads
-use Rattle.layout.proofs.cell_at.Lts as lts
-use Rattle.layout.proofs.cell_each.Reads as cell-each-reads
-use Rattle.layout.proofs.place_in.Reads as place-in-reads
-use Rattle.layout.proofs.region_of.Reads as region-of-reads
 
 -- src/lib.rt:310:9
 region-of-requires : tie.Need-region-of-requires

@@ -2,9 +2,6 @@ use Rattle.layout.specs.Layout.{load}
 use Rattle.layout.specs.Cells.{cell-each}
 use Rattle.layout.proofs.cell_each.Statement.{statement}
 use Rattle.layout.proofs.cell_each.Tie as tie
-use Rattle.layout.proofs.cell_each.Reads as reads
-use Rattle.layout.proofs.cell_each.Lts as lts
-use Rattle.layout.proofs.cell_word.Reads as cell-word-reads
 
 -- src/lib.rt:296:14
 cell-word-requires : tie.Need-cell-word-requires

@@ -3,9 +3,6 @@ use Rattle.layout.specs.Layout.{item-load}
 use borrow.Author.Needs.{needs}
 use Rattle.layout.proofs.item_word.Statement.{statement}
 use Rattle.layout.proofs.item_word.Tie as tie
-use Rattle.layout.proofs.item_word.Reads as reads
-use Rattle.layout.proofs.item_word.Lts as lts
-use Rattle.layout.proofs.load.Reads as load-reads
 
 -- src/lib.rt:271:29
 add-load : tie.Need-add-load

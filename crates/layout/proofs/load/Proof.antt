@@ -1,13 +1,7 @@
 use native.Mathlib.Omega.{arith}
 use Rattle.layout.specs.Layout.{load-by, region-small}
-use borrow.Author.Needs.{needs}
 use Rattle.layout.proofs.load.Statement.{statement}
 use Rattle.layout.proofs.load.Tie as tie
-use Rattle.layout.proofs.load.Reads as reads
-use Rattle.layout.proofs.load.Lts as lts
-use Rattle.layout.proofs.place_in.Reads as place-in-reads
-use Rattle.layout.proofs.region_of.Reads as region-of-reads
-use Rattle.words.proofs.word.Reads as word-reads
 
 -- src/lib.rt:208:9
 region-of-requires : tie.Need-region-of-requires

@@ -3,8 +3,6 @@ use native.Mathlib.Omega.{arith}
 use Rattle.layout.specs.Regions.{in-place, out-f, out-y, out-x, in-small}
 use Rattle.layout.proofs.place_in.Statement.{statement}
 use Rattle.layout.proofs.place_in.Tie as tie
-use Rattle.layout.proofs.place_in.Reads as reads
-use Rattle.layout.proofs.place_in.Lts as lts
 
 -- src/lib.rt:193:9
 returns : tie.Need-returns

@@ -3,9 +3,6 @@ use Rattle.layout.specs.Layout.{item-save}
 use borrow.Author.Needs.{needs}
 use Rattle.layout.proofs.put_item.Statement.{statement}
 use Rattle.layout.proofs.put_item.Tie as tie
-use Rattle.layout.proofs.put_item.Reads as reads
-use Rattle.layout.proofs.put_item.Lts as lts
-use Rattle.layout.proofs.save.Reads as save-reads
 
 -- src/lib.rt:281:29
 add-save : tie.Need-add-save

@@ -2,8 +2,6 @@ use Rattle.layout.specs.Layout.{region-none}
 use borrow.Author.Needs.{needs}
 use Rattle.layout.proofs.region_of.Statement.{statement}
 use Rattle.layout.proofs.region_of.Tie as tie
-use Rattle.layout.proofs.region_of.Reads as reads
-use Rattle.layout.proofs.region_of.Lts as lts
 
 -- src/lib.rt:59:13
 cast-t : tie.Need-cast-t

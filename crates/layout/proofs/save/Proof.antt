@@ -3,11 +3,6 @@ use Rattle.layout.specs.Layout.{save-by, region-small}
 use borrow.Author.Needs.{needs}
 use Rattle.layout.proofs.save.Statement.{statement}
 use Rattle.layout.proofs.save.Tie as tie
-use Rattle.layout.proofs.save.Reads as reads
-use Rattle.layout.proofs.save.Lts as lts
-use Rattle.layout.proofs.place_in.Reads as place-in-reads
-use Rattle.layout.proofs.region_of.Reads as region-of-reads
-use Rattle.words.proofs.put.Reads as put-reads
 
 -- src/lib.rt:216:9
 region-of-requires : tie.Need-region-of-requires

@@ -4,10 +4,6 @@ use Rattle.layout.specs.ShapeOf.{shapeAt, shape-bad, shape-short, shape-
 use borrow.Author.Needs.{needs}
 use Rattle.layout.proofs.shape_of.Statement.{statement}
 use Rattle.layout.proofs.shape_of.Tie as tie
-use Rattle.layout.proofs.shape_of.Reads as reads
-use Rattle.layout.proofs.shape_of.Lts as lts
-use Rattle.layout.proofs.total_of.Reads as total-of-reads
-use Rattle.words.proofs.word.Reads as word-reads
 
 -- src/lib.rt:289:9
 word-requires : tie.Need-word-requires

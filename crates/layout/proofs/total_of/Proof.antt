@@ -1,10 +1,7 @@
 use native.Mathlib.Omega.{arith}
-use mathlib.Core.Path.{refl}
 use borrow.Author.Needs.{needs}
 use Rattle.layout.proofs.total_of.Statement.{statement}
 use Rattle.layout.proofs.total_of.Tie as tie
-use Rattle.layout.proofs.total_of.Reads as reads
-use Rattle.layout.proofs.total_of.Lts as lts
 
 -- src/lib.rt:173:13
 cast-t : tie.Need-cast-t

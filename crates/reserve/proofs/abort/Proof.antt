@@ -1,15 +1,7 @@
-use Rattle.reserve.specs.Code.{abort-none, abort-done}
+use Rattle.reserve.specs.Code.{on-row-none, on-row-done}
 use borrow.Author.Needs.{needs}
 use Rattle.reserve.proofs.abort.Statement.{statement}
 use Rattle.reserve.proofs.abort.Tie as tie
-use Rattle.reserve.proofs.abort.Reads as reads
-use Rattle.reserve.proofs.abort.Lts as lts
-use Rattle.answer.proofs.refuse.Reads as refuse-reads
-use Rattle.answer.proofs.say.Reads as say-reads
-use Rattle.reserve.proofs.abort_row.Reads as abort-row-reads
-use Rattle.reserve.proofs.reservation_of.Reads as reservation-of-reads
-use Rattle.words.proofs.dec.Reads as dec-reads
-use Rattle.words.proofs.eq.Reads as eq-reads
 
 -- src/lib.rt:54:9
 reservation-of-requires : tie.Need-reservation-of-requires
@@ -33,7 +25,7 @@ same-length-2 c = search needs
 
 -- src/lib.rt:57:9
 returns : tie.Need-returns
-returns c = abort-none (c .before .before .before .before .before .before .before .before .before .before .args .s .now) (c .before .before .before .before .before .before .before .before .before .before .args .out .now) _ (c .before .before .before .before .before .before .before .before .before .before .args .sh) (c .before .before .before .before .before .before .before .before .before .before .args .base) (c .before .before .before .before .before .before .before .before .before .before .args .id .0) _ _ (c .before .before .before .before .before .before .reservation-of .ensures) (c .before .before .before .before .before .eq .ensures) (c .before .before .before .before .if1 .taken) (c .before .before .refuse .ensures)
+returns c = on-row-none _ (c .before .before .before .before .before .before .before .before .before .before .args .s .now) (c .before .before .before .before .before .before .before .before .before .before .args .out .now) _ (c .before .before .before .before .before .before .before .before .before .before .args .base) _ _ _ (c .before .before .before .before .before .before .reservation-of .ensures) (c .before .before .before .before .before .eq .ensures) (c .before .before .before .before .if1 .taken) (c .before .before .refuse .ensures)
 
 -- src/lib.rt:59:22
 dec-requires : tie.Need-dec-requires
@@ -57,7 +49,7 @@ same-length-4 c = search needs
 
 -- src/lib.rt:51:1
 returns-2 : tie.Need-returns-2
-returns-2 c = abort-done (c .before .before .before .before .before .before .before .before .before .before .before .before .before .before .before .args .s .now) (c .before .before .before .before .before .before .before .before .before .before .before .before .before .before .before .args .out .now) _ (c .before .before .before .before .before .before .before .before .before .before .before .before .before .before .before .args .sh) (c .before .before .before .before .before .before .before .before .before .before .before .before .before .before .before .args .base) (c .before .before .before .before .before .before .before .before .before .before .before .before .before .before .before .args .id .0) _ _ (c .before .before .before .before .before .before .before .before .before .before .before .reservation-of .ensures) (c .before .before .before .before .before .before .before .before .before .before .eq .ensures) _ _ (c .before .before .before .before .before .before .before .before .before .if1 .left) (c .before .before .before .before .before .before .before .dec .ensures) (c .before .before .before .before .before .before .abort-row .ensures) (c .before .before .say .ensures)
+returns-2 c = on-row-done _ (c .before .before .before .before .before .before .before .before .before .before .before .before .before .before .before .args .s .now) (c .before .before .before .before .before .before .before .before .before .before .before .before .before .before .before .args .out .now) _ (c .before .before .before .before .before .before .before .before .before .before .before .before .before .before .before .args .base) _ _ _ (c .before .before .before .before .before .before .before .before .before .before .before .reservation-of .ensures) (c .before .before .before .before .before .before .before .before .before .before .eq .ensures) _ _ (c .before .before .before .before .before .before .before .before .before .if1 .left) (c .before .before .before .before .before .before .before .dec .ensures) (c .before .before .before .before .before .before .abort-row .ensures) (c .before .before .say .ensures)
 
 pub abort-spec : {M : Type 1} → statement M
 abort-spec =

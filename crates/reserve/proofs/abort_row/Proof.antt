@@ -2,11 +2,6 @@ use Rattle.reserve.specs.Code.{aborted-is}
 use borrow.Author.Needs.{needs}
 use Rattle.reserve.proofs.abort_row.Statement.{statement}
 use Rattle.reserve.proofs.abort_row.Tie as tie
-use Rattle.reserve.proofs.abort_row.Reads as reads
-use Rattle.reserve.proofs.abort_row.Lts as lts
-use Rattle.book.proofs.close_row.Reads as close-row-reads
-use Rattle.layout.proofs.row_word.Reads as row-word-reads
-use Rattle.book.proofs.vacate_items.Reads as vacate-items-reads
 
 -- src/lib.rt:44:9
 row-word-requires : tie.Need-row-word-requires

@@ -3,11 +3,6 @@ use Rattle.layout.specs.Layout.{load}
 use borrow.Author.Needs.{needs}
 use Rattle.reserve.proofs.batch_refusal.Statement.{statement}
 use Rattle.reserve.proofs.batch_refusal.Tie as tie
-use Rattle.reserve.proofs.batch_refusal.Reads as reads
-use Rattle.reserve.proofs.batch_refusal.Lts as lts
-use Rattle.lookup.proofs.table_refusal.Reads as table-refusal-reads
-use Rattle.words.proofs.eq.Reads as eq-reads
-use Rattle.words.proofs.lt.Reads as lt-reads
 
 -- src/lib.rt:110:9
 table-refusal-requires : tie.Need-table-refusal-requires

@@ -2,11 +2,6 @@ use Rattle.reserve.specs.Ops.{listW}
 use borrow.Author.Needs.{needs}
 use Rattle.reserve.proofs.list_free.Statement.{statement}
 use Rattle.reserve.proofs.list_free.Tie as tie
-use Rattle.reserve.proofs.list_free.Reads as reads
-use Rattle.reserve.proofs.list_free.Lts as lts
-use Rattle.book.proofs.spare_place.Reads as spare-place-reads
-use Rattle.layout.proofs.head_word.Reads as head-word-reads
-use Rattle.reserve.proofs.list_slots.Reads as list-slots-reads
 
 -- src/lib.rt:160:9
 spare-place-requires : tie.Need-spare-place-requires

@@ -2,16 +2,10 @@ use borrow.Author.Needs.{needs}
 use Rattle.reserve.specs.ReserveCode.{listed-start, listed-turn, listed-end}
 use Rattle.reserve.specs.Ops.{listedW}
 use lib.ListN.{length}
-use native.Mathlib.Omega.{arith}
-use Prim.Native.Nat.{_-_, _≤_}
+use Prim.Native.Nat.{_-_}
 use mathlib.Core.Path.{_≡_, refl}
 use Rattle.reserve.proofs.list_slots.Statement.{statement}
 use Rattle.reserve.proofs.list_slots.Tie as tie
-use Rattle.reserve.proofs.list_slots.Reads as reads
-use Rattle.reserve.proofs.list_slots.Lts as lts
-use Rattle.layout.proofs.put_item.Reads as put-item-reads
-use Rattle.storage.proofs.slot_word.Reads as slot-word-reads
-use Rattle.words.proofs.dec.Reads as dec-reads
 
 abbrev Inv-loop : tie.InvT-loop
 Inv-loop s₀ sh b x l n link₀ j₀ s link j = (length s ≡ length s₀) × (listedW s₀ sh b x 0 l n ≡ listedW s sh b x j link (n - j))

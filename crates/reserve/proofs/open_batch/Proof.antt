@@ -2,11 +2,6 @@ use Rattle.reserve.specs.Ops.{batchW}
 use borrow.Author.Needs.{needs}
 use Rattle.reserve.proofs.open_batch.Statement.{statement}
 use Rattle.reserve.proofs.open_batch.Tie as tie
-use Rattle.reserve.proofs.open_batch.Reads as reads
-use Rattle.reserve.proofs.open_batch.Lts as lts
-use Rattle.book.proofs.open_row.Reads as open-row-reads
-use Rattle.book.proofs.spare_place.Reads as spare-place-reads
-use Rattle.reserve.proofs.take_slots.Reads as take-slots-reads
 
 -- src/lib.rt:180:9
 spare-place-requires : tie.Need-spare-place-requires

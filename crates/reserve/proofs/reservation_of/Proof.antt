@@ -1,14 +1,8 @@
 use Rattle.layout.specs.Layout.{load}
-use Rattle.reserve.specs.Code.{reservation-yes, reservation-no}
+use Rattle.book.specs.Code.{kind-yes, kind-no}
 use borrow.Author.Needs.{needs}
 use Rattle.reserve.proofs.reservation_of.Statement.{statement}
 use Rattle.reserve.proofs.reservation_of.Tie as tie
-use Rattle.reserve.proofs.reservation_of.Reads as reads
-use Rattle.reserve.proofs.reservation_of.Lts as lts
-use Rattle.book.proofs.row_of.Reads as row-of-reads
-use Rattle.layout.proofs.row_word.Reads as row-word-reads
-use Rattle.words.proofs.dec.Reads as dec-reads
-use Rattle.words.proofs.eq.Reads as eq-reads
 
 -- src/lib.rt:21:9
 row-of-requires : tie.Need-row-of-requires
@@ -28,11 +22,11 @@ eq-requires c κs = search needs
 
 -- src/lib.rt:23:9
 returns : tie.Need-returns
-returns c = reservation-yes (load (c .before .before .before .before .before .before .args .s .now) (c .before .before .before .before .before .before .args .sh)) (c .before .before .before .before .before .before .args .sh) (c .before .before .before .before .before .before .args .id .0) _ _ _ _ (c .before .before .before .before .row-of .ensures) (c .before .before .before .dec .ensures) (c .before .before .row-word .ensures) (c .before .eq .ensures) (c .if1 .taken)
+returns c = kind-yes 1 (load (c .before .before .before .before .before .before .args .s .now) (c .before .before .before .before .before .before .args .sh)) (c .before .before .before .before .before .before .args .sh) (c .before .before .before .before .before .before .args .id .0) _ _ _ _ (c .before .before .before .before .row-of .ensures) (c .before .before .before .dec .ensures) (c .before .before .row-word .ensures) (c .before .eq .ensures) (c .if1 .taken)
 
 -- src/lib.rt:18:1
 returns-2 : tie.Need-returns-2
-returns-2 c = reservation-no (load (c .before .before .before .before .before .before .args .s .now) (c .before .before .before .before .before .before .args .sh)) (c .before .before .before .before .before .before .args .sh) (c .before .before .before .before .before .before .args .id .0) _ _ _ _ (c .before .before .before .before .row-of .ensures) (c .before .before .before .dec .ensures) (c .before .before .row-word .ensures) (c .before .eq .ensures) (c .if1 .left)
+returns-2 c = kind-no 1 (load (c .before .before .before .before .before .before .args .s .now) (c .before .before .before .before .before .before .args .sh)) (c .before .before .before .before .before .before .args .sh) (c .before .before .before .before .before .before .args .id .0) _ _ _ _ (c .before .before .before .before .row-of .ensures) (c .before .before .before .dec .ensures) (c .before .before .row-word .ensures) (c .before .eq .ensures) (c .if1 .left)
 
 pub reservation-of-spec : {M : Type 1} → statement M
 reservation-of-spec =

@@ -2,14 +2,6 @@ use Rattle.reserve.specs.ReserveCode.{reserve-wrong, reserve-full, reser
 use borrow.Author.Needs.{needs}
 use Rattle.reserve.proofs.reserve.Statement.{statement}
 use Rattle.reserve.proofs.reserve.Tie as tie
-use Rattle.reserve.proofs.reserve.Reads as reads
-use Rattle.reserve.proofs.reserve.Lts as lts
-use Rattle.answer.proofs.refuse.Reads as refuse-reads
-use Rattle.growth.proofs.pages_needed.Reads as pages-needed-reads
-use Rattle.reserve.proofs.batch_refusal.Reads as batch-refusal-reads
-use Rattle.reserve.proofs.reserve_slots.Reads as reserve-slots-reads
-use Rattle.reserve.proofs.room_refusal.Reads as room-refusal-reads
-use Rattle.words.proofs.ne.Reads as ne-reads
 
 -- src/lib.rt:226:9
 batch-refusal-requires : tie.Need-batch-refusal-requires

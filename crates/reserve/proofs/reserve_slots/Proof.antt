@@ -2,12 +2,6 @@ use Rattle.reserve.specs.ReserveCode.{open-done}
 use borrow.Author.Needs.{needs}
 use Rattle.reserve.proofs.reserve_slots.Statement.{statement}
 use Rattle.reserve.proofs.reserve_slots.Tie as tie
-use Rattle.reserve.proofs.reserve_slots.Reads as reads
-use Rattle.reserve.proofs.reserve_slots.Lts as lts
-use Rattle.growth.proofs.grow.Reads as grow-reads
-use Rattle.reserve.proofs.list_free.Reads as list-free-reads
-use Rattle.reserve.proofs.open_batch.Reads as open-batch-reads
-use Rattle.reserve.proofs.say_batch.Reads as say-batch-reads
 
 -- src/lib.rt:216:5
 grow-requires : tie.Need-grow-requires

@@ -3,11 +3,6 @@ use Rattle.layout.specs.Layout.{load}
 use borrow.Author.Needs.{needs}
 use Rattle.reserve.proofs.room_refusal.Statement.{statement}
 use Rattle.reserve.proofs.room_refusal.Tie as tie
-use Rattle.reserve.proofs.room_refusal.Reads as reads
-use Rattle.reserve.proofs.room_refusal.Lts as lts
-use Rattle.layout.proofs.root_word.Reads as root-word-reads
-use Rattle.words.proofs.eq.Reads as eq-reads
-use Rattle.words.proofs.lt.Reads as lt-reads
 
 -- src/lib.rt:127:8
 eq-requires : tie.Need-eq-requires

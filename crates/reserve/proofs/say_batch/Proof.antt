@@ -3,12 +3,6 @@ use Rattle.layout.specs.Layout.{load}
 use borrow.Author.Needs.{needs}
 use Rattle.reserve.proofs.say_batch.Statement.{statement}
 use Rattle.reserve.proofs.say_batch.Tie as tie
-use Rattle.reserve.proofs.say_batch.Reads as reads
-use Rattle.reserve.proofs.say_batch.Lts as lts
-use Rattle.answer.proofs.say2.Reads as say2-reads
-use Rattle.book.proofs.spare_place.Reads as spare-place-reads
-use Rattle.layout.proofs.root_word.Reads as root-word-reads
-use Rattle.reserve.proofs.say_values.Reads as say-values-reads
 
 -- src/lib.rt:206:9
 spare-place-requires : tie.Need-spare-place-requires

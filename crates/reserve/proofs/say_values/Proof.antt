@@ -2,19 +2,10 @@ use borrow.Author.Needs.{needs}
 use Rattle.reserve.specs.ReserveCode.{Said, said-start, said-turn, said-end}
 use Rattle.layout.specs.Layout.{load}
 use lib.ListN.{length}
-use native.Mathlib.Omega.{arith}
-use Prim.Native.Nat.{_-_, _≤_}
+use Prim.Native.Nat.{_-_}
 use mathlib.Core.Path.{_≡_, refl}
 use Rattle.reserve.proofs.say_values.Statement.{statement}
 use Rattle.reserve.proofs.say_values.Tie as tie
-use Rattle.reserve.proofs.say_values.Reads as reads
-use Rattle.reserve.proofs.say_values.Lts as lts
-use Rattle.codec.proofs.HandleCodec.encode.Reads as encode-reads
-use Rattle.layout.proofs.head_word.Reads as head-word-reads
-use Rattle.layout.proofs.item_word.Reads as item-word-reads
-use Rattle.request.proofs.answer_put.Reads as answer-put-reads
-use Rattle.storage.proofs.slot_word.Reads as slot-word-reads
-use Rattle.words.proofs.smaller.Reads as smaller-reads
 
 abbrev Inv-loop : tie.InvT-loop
 Inv-loop s sh b x n out₀ base most mask j₀ out j = (length out ≡ length out₀) × Said (load s sh) b x base out₀ out n j

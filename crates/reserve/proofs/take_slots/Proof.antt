@@ -2,14 +2,10 @@ use borrow.Author.Needs.{needs}
 use Rattle.reserve.specs.ReserveCode.{taken-start, taken-turn, taken-end}
 use Rattle.reserve.specs.Ops.{takenW}
 use lib.ListN.{length}
-use native.Mathlib.Omega.{arith}
-use Prim.Native.Nat.{_-_, _≤_}
+use Prim.Native.Nat.{_-_}
 use mathlib.Core.Path.{_≡_, refl}
 use Rattle.reserve.proofs.take_slots.Statement.{statement}
 use Rattle.reserve.proofs.take_slots.Tie as tie
-use Rattle.reserve.proofs.take_slots.Reads as reads
-use Rattle.reserve.proofs.take_slots.Lts as lts
-use Rattle.storage.proofs.take_free.Reads as take-free-reads
 
 abbrev Inv-loop : tie.InvT-loop
 Inv-loop s₀ sh b x n j₀ s j = (length s ≡ length s₀) × (takenW s₀ sh b x 0 n ≡ takenW s sh b x j (n - j))

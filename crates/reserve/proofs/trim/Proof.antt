@@ -2,16 +2,6 @@ use Rattle.reserve.specs.Code.{trim-none, trim-nought, trim-above, trim-
 use borrow.Author.Needs.{needs}
 use Rattle.reserve.proofs.trim.Statement.{statement}
 use Rattle.reserve.proofs.trim.Tie as tie
-use Rattle.reserve.proofs.trim.Reads as reads
-use Rattle.reserve.proofs.trim.Lts as lts
-use Rattle.answer.proofs.refuse.Reads as refuse-reads
-use Rattle.answer.proofs.say.Reads as say-reads
-use Rattle.layout.proofs.row_word.Reads as row-word-reads
-use Rattle.reserve.proofs.reservation_of.Reads as reservation-of-reads
-use Rattle.reserve.proofs.trim_row.Reads as trim-row-reads
-use Rattle.words.proofs.dec.Reads as dec-reads
-use Rattle.words.proofs.eq.Reads as eq-reads
-use Rattle.words.proofs.lt.Reads as lt-reads
 
 -- src/lib.rt:77:9
 reservation-of-requires : tie.Need-reservation-of-requires

@@ -2,11 +2,6 @@ use Rattle.reserve.specs.Code.{trimmed-is}
 use borrow.Author.Needs.{needs}
 use Rattle.reserve.proofs.trim_row.Statement.{statement}
 use Rattle.reserve.proofs.trim_row.Tie as tie
-use Rattle.reserve.proofs.trim_row.Reads as reads
-use Rattle.reserve.proofs.trim_row.Lts as lts
-use Rattle.book.proofs.shrink_row.Reads as shrink-row-reads
-use Rattle.layout.proofs.row_word.Reads as row-word-reads
-use Rattle.book.proofs.vacate_items.Reads as vacate-items-reads
 
 -- src/lib.rt:67:9
 row-word-requires : tie.Need-row-word-requires

@@ -3,9 +3,6 @@ use Rattle.layout.specs.Layout.{load}
 use Rattle.storage.specs.Cells.{cell-none, cell-some}
 use Rattle.storage.proofs.cell_in.Statement.{statement}
 use Rattle.storage.proofs.cell_in.Tie as tie
-use Rattle.storage.proofs.cell_in.Reads as reads
-use Rattle.storage.proofs.cell_in.Lts as lts
-use Rattle.layout.proofs.cell_at.Reads as cell-at-reads
 
 -- src/lib.rt:279:9
 returns : tie.Need-returns

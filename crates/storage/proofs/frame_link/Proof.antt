@@ -1,7 +1,5 @@
 use Rattle.storage.specs.Code.{frame-is}
-use native.Mathlib.Omega.{arith}
 use Rattle.layout.specs.Layout.{load}
-use borrow.Author.Needs.{needs}
 use Rattle.storage.proofs.frame_link.Statement.{statement}
 use Rattle.storage.proofs.frame_link.Tie as tie
 

@@ -1,7 +1,6 @@
 use Rattle.storage.specs.Code.{frame-far, frame-past, frame-read}
 use native.Mathlib.Omega.{arith}
 use Rattle.layout.specs.Layout.{load}
-use borrow.Author.Needs.{needs}
 use Rattle.storage.proofs.frame_of.Statement.{statement}
 use Rattle.storage.proofs.frame_of.Tie as tie
 

@@ -4,9 +4,6 @@ use Rattle.storage.specs.Code.{word-some}
 use borrow.Author.Needs.{needs}
 use Rattle.storage.proofs.frame_word.Statement.{statement}
 use Rattle.storage.proofs.frame_word.Tie as tie
-use Rattle.storage.proofs.frame_word.Reads as reads
-use Rattle.storage.proofs.frame_word.Lts as lts
-use Rattle.layout.proofs.cell_word.Reads as cell-word-reads
 
 -- src/lib.rt:77:9
 returns : tie.Need-returns

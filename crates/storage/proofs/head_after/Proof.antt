@@ -2,8 +2,6 @@ use native.Mathlib.Omega.{arith}
 use Rattle.storage.specs.Code.{head-first, head-later}
 use Rattle.storage.proofs.head_after.Statement.{statement}
 use Rattle.storage.proofs.head_after.Tie as tie
-use Rattle.storage.proofs.head_after.Reads as reads
-use Rattle.storage.proofs.head_after.Lts as lts
 
 -- src/lib.rt:181:1
 returns : tie.Need-returns

@@ -2,10 +2,6 @@ use Rattle.storage.specs.Code.{move-is}
 use borrow.Author.Needs.{needs}
 use Rattle.storage.proofs.mark_moving.Statement.{statement}
 use Rattle.storage.proofs.mark_moving.Tie as tie
-use Rattle.storage.proofs.mark_moving.Reads as reads
-use Rattle.storage.proofs.mark_moving.Lts as lts
-use Rattle.storage.proofs.frame_link.Reads as frame-link-reads
-use Rattle.storage.proofs.put_frame.Reads as put-frame-reads
 
 -- src/lib.rt:253:9
 frame-link-requires : tie.Need-frame-link-requires

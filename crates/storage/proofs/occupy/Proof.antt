@@ -2,10 +2,6 @@ use Rattle.storage.specs.Code.{occupy-is}
 use borrow.Author.Needs.{needs}
 use Rattle.storage.proofs.occupy.Statement.{statement}
 use Rattle.storage.proofs.occupy.Tie as tie
-use Rattle.storage.proofs.occupy.Reads as reads
-use Rattle.storage.proofs.occupy.Lts as lts
-use Rattle.storage.proofs.frame_link.Reads as frame-link-reads
-use Rattle.storage.proofs.put_frame.Reads as put-frame-reads
 
 -- src/lib.rt:263:9
 frame-link-requires : tie.Need-frame-link-requires

@@ -1,12 +1,9 @@
-use Prim.Native.Nat.{_+_, _-_, _/_, _%_}
+use Prim.Native.Nat.{_+_}
 use native.Mathlib.Omega.{arith}
 use Rattle.storage.specs.Code.{entry-load}
 use borrow.Author.Needs.{needs}
 use Rattle.storage.proofs.page_word.Statement.{statement}
 use Rattle.storage.proofs.page_word.Tie as tie
-use Rattle.storage.proofs.page_word.Reads as reads
-use Rattle.storage.proofs.page_word.Lts as lts
-use Rattle.layout.proofs.entry_word.Reads as entry-word-reads
 
 -- src/lib.rt:17:9
 returns : tie.Need-returns

@@ -3,9 +3,6 @@ use Rattle.storage.specs.Code.{cell-some}
 use borrow.Author.Needs.{needs}
 use Rattle.storage.proofs.put_frame.Statement.{statement}
 use Rattle.storage.proofs.put_frame.Tie as tie
-use Rattle.storage.proofs.put_frame.Reads as reads
-use Rattle.storage.proofs.put_frame.Lts as lts
-use Rattle.layout.proofs.put_cell.Reads as put-cell-reads
 
 -- src/lib.rt:86:9
 returns : tie.Need-returns

@@ -1,12 +1,9 @@
-use Prim.Native.Nat.{_+_, _-_, _/_, _%_}
+use Prim.Native.Nat.{_+_}
 use native.Mathlib.Omega.{arith}
 use Rattle.storage.specs.Code.{entry-save}
 use borrow.Author.Needs.{needs}
 use Rattle.storage.proofs.put_page.Statement.{statement}
 use Rattle.storage.proofs.put_page.Tie as tie
-use Rattle.storage.proofs.put_page.Reads as reads
-use Rattle.storage.proofs.put_page.Lts as lts
-use Rattle.layout.proofs.put_entry.Reads as put-entry-reads
 
 -- src/lib.rt:29:9
 returns : tie.Need-returns

@@ -3,9 +3,6 @@ use Rattle.storage.specs.Code.{page-some}
 use borrow.Author.Needs.{needs}
 use Rattle.storage.proofs.put_page_link.Statement.{statement}
 use Rattle.storage.proofs.put_page_link.Tie as tie
-use Rattle.storage.proofs.put_page_link.Reads as reads
-use Rattle.storage.proofs.put_page_link.Lts as lts
-use Rattle.storage.proofs.put_page.Reads as put-page-reads
 
 -- src/lib.rt:42:9
 returns : tie.Need-returns

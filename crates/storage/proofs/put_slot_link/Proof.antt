@@ -3,9 +3,6 @@ use Rattle.storage.specs.Code.{slot-some}
 use borrow.Author.Needs.{needs}
 use Rattle.storage.proofs.put_slot_link.Statement.{statement}
 use Rattle.storage.proofs.put_slot_link.Tie as tie
-use Rattle.storage.proofs.put_slot_link.Reads as reads
-use Rattle.storage.proofs.put_slot_link.Lts as lts
-use Rattle.storage.proofs.put_frame.Reads as put-frame-reads
 
 -- src/lib.rt:96:9
 returns : tie.Need-returns

@@ -1,10 +1,6 @@
 use borrow.Author.Needs.{needs}
 use Rattle.storage.proofs.put_slot_word.Statement.{statement}
 use Rattle.storage.proofs.put_slot_word.Tie as tie
-use Rattle.storage.proofs.put_slot_word.Reads as reads
-use Rattle.storage.proofs.put_slot_word.Lts as lts
-use Rattle.storage.proofs.frame_link.Reads as frame-link-reads
-use Rattle.storage.proofs.put_frame.Reads as put-frame-reads
 
 -- src/lib.rt:112:9
 frame-link-requires : tie.Need-frame-link-requires

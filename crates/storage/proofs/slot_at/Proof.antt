@@ -4,10 +4,6 @@ use Rattle.layout.specs.Layout.{load}
 use Rattle.storage.specs.Cells.{cellIn}
 use Rattle.storage.proofs.slot_at.Statement.{statement}
 use Rattle.storage.proofs.slot_at.Tie as tie
-use Rattle.storage.proofs.slot_at.Reads as reads
-use Rattle.storage.proofs.slot_at.Lts as lts
-use Rattle.storage.proofs.cell_in.Reads as cell-in-reads
-use Rattle.storage.proofs.frame_link.Reads as frame-link-reads
 
 -- src/lib.rt:277:9
 frame-link-requires : tie.Need-frame-link-requires

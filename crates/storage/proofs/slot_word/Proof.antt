@@ -1,10 +1,5 @@
-use borrow.Author.Needs.{needs}
 use Rattle.storage.proofs.slot_word.Statement.{statement}
 use Rattle.storage.proofs.slot_word.Tie as tie
-use Rattle.storage.proofs.slot_word.Reads as reads
-use Rattle.storage.proofs.slot_word.Lts as lts
-use Rattle.storage.proofs.frame_link.Reads as frame-link-reads
-use Rattle.storage.proofs.frame_word.Reads as frame-word-reads
 
 -- src/lib.rt:105:9
 frame-link-requires : tie.Need-frame-link-requires

@@ -1,9 +1,7 @@
 use native.Mathlib.Omega.{arith}
 use Rattle.model.specs.Bounds.{slots-full, slots-none, slots-last}
-use Rattle.growth.proofs.slots_of.Statement.{statement}
-use Rattle.growth.proofs.slots_of.Tie as tie
-use Rattle.growth.proofs.slots_of.Reads as reads
-use Rattle.growth.proofs.slots_of.Lts as lts
+use Rattle.head.proofs.slots_of.Statement.{statement}
+use Rattle.head.proofs.slots_of.Tie as tie
 
 -- src/lib.rt:19:9
 returns : tie.Need-returns

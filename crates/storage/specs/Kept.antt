@@ -1,0 +1,220 @@
+-- What is as it was where the words stay: a table, the frames, an object, a row, the book. Assumes nothing.
+use mathlib.Core.Path.{_≡_, refl, sym, ap, _∙_}
+use mathlib.Core.Bool.{true}
+use mathlib.Core.List.{List, [], _∷_}
+use mathlib.Core.Option.{some}
+use Prim.Native.Nat.{ℕ, zero, suc, _+_, _-_, _/_, _%_, _≤_, _<_}
+use native.Mathlib.Omega.{arith}
+use lib.ListN.{length}
+use lib.Dec.{ltb}
+use borrow.Author.Tests.{ltb-true}
+use Rattle.words.specs.Pick.{bool}
+use Rattle.model.specs.Base.{occurs}
+use Rattle.model.specs.State.{till, Handle, Slot.reserved, Slot.transferReserved, Table, Object, Entry, Entry.moved, Entry.copied, Body, Body.reservation, Body.claim, Body.parcel, Row, State}
+use Rattle.invariant.specs.Orders.{Sound}
+use Rattle.layout.specs.Layout.{Addr.reg, Mem, root, head, entry, owner, group, cell, object, index, rank, row, item}
+use Rattle.representation.specs.Represents.{entryAt, wordIn, frameOf, slotWord, tagged, slotFrom, slotIn, TableIs, FramesAre, ObjectIs, HandleIs, EntryIs, Items, BodyIs, RowsAre, isMarked, BookIs}
+use Rattle.storage.specs.Order.{chain-frame, linked-frame}
+use Rattle.storage.specs.Sight.{frame-is}
+use Rattle.storage.specs.Slots.{empty-below, detached-below}
+
+-- ---- a table
+
+-- the words of table c stay: its head, the entries of its pages and the slots in their frames
+pub record Stays (m n : Mem) (c : ℕ) : Type 0 where
+  pub heads : (f : ℕ) → n (head c f) ≡ m (head c f)
+  pub pages : (p f : ℕ) → p < m (head c 5) → n (entry (entryAt m c p) f) ≡ m (entry (entryAt m c p) f)
+  pub cells : (p fr j f : ℕ) → p < m (head c 5) → m (entry (entryAt m c p) 0) ≡ suc fr → n (cell fr j f) ≡ m (cell fr j f)
+
+-- every table's, where all heads, entries and slots do
+pub all-stay : (m n : Mem) → ((b f : ℕ) → n (head b f) ≡ m (head b f)) → ((e f : ℕ) → n (entry e f) ≡ m (entry e f)) → ((fr j f : ℕ) → n (cell fr j f) ≡ m (cell fr j f)) → (c : ℕ) → Stays m n c
+all-stay m n hs es cs c = record { heads = hs c; pages = λ p f h. es (entryAt m c p) f; cells = λ p fr j f h e. cs fr j f }
+
+-- the rows that the marks of table c name have the ids that they had
+abbrev pub SameIds : Mem → Mem → ℕ → Table → Type 0
+SameIds m n c t = (k : ℕ) → isMarked (t .slots k) ≡ true → n (row (slotWord m c k 2) 0) ≡ m (row (slotWord m c k 2) 0)
+
+tagged-kept : (m n : Mem) (t g x y w : ℕ) → (isMarked (tagged m t g x y w) ≡ true → n (row x 0) ≡ m (row x 0)) → tagged n t g x y w ≡ tagged m t g x y w
+tagged-kept m n zero g x y w e = refl
+tagged-kept m n (suc zero) g x y w e = ap (reserved g) (e refl)
+tagged-kept m n (suc (suc zero)) g x y w e = ap (transferReserved g) (e refl)
+tagged-kept m n (suc (suc (suc zero))) g x y w e = refl
+tagged-kept m n (suc (suc (suc (suc t)))) g x y w e = refl
+
+module _ (m n : Mem) (c : ℕ) (o : Stays m n c) where
+  entry-kept : (p f : ℕ) → n (entry (entryAt m c p) f) ≡ m (entry (entryAt m c p) f) → n (entry (entryAt n c p) f) ≡ m (entry (entryAt m c p) f)
+  entry-kept p f e = ap (λ (x : ℕ). n (entry (x + p) f)) (o .heads 10) ∙ e
+
+  page-kept : (p f : ℕ) → p < m (head c 5) → n (entry (entryAt n c p) f) ≡ m (entry (entryAt m c p) f)
+  page-kept p f h = entry-kept p f (o .pages p f h)
+
+  frame-kept : (k : ℕ) → frameOf n c k ≡ frameOf m c k
+  frame-kept k = bool (ltb (k / 64) (m (head c 5)))
+      (λ l. rw (o .heads 5, l, page-kept (k / 64) 0 (ltb-true (k / 64) (m (head c 5)) l)))
+      (λ l. rw (o .heads 5, l))
+
+  -- the words of its slots
+  pub slot-kept : (k f : ℕ) → slotWord n c k f ≡ slotWord m c k f
+  slot-kept k f = ap (λ (fr : ℕ). wordIn n fr (k % 64) f) (frame-kept k) ∙ go (frameOf m c k) refl
+    where
+      go : (fr : ℕ) → frameOf m c k ≡ fr → wordIn n fr (k % 64) f ≡ wordIn m fr (k % 64) f
+      go zero e = refl
+      go (suc fr) e = let i = frame-is m c k fr e in o .cells (k / 64) fr (k % 64) f (i .1) (i .2)
+
+  -- a slot, if the row that its mark names has the id that it had
+  slotIn-kept : (k : ℕ) → (isMarked (slotIn m c k) ≡ true → n (row (slotWord m c k 2) 0) ≡ m (row (slotWord m c k 2) 0)) → slotIn n c k ≡ slotIn m c k
+  slotIn-kept k e = ap (λ (fr : ℕ). slotFrom n fr (k % 64)) (frame-kept k) ∙ go (frameOf m c k) refl e
+    where
+      go : (fr : ℕ) → frameOf m c k ≡ fr → (isMarked (slotFrom m fr (k % 64)) ≡ true → n (row (wordIn m fr (k % 64) 2) 0) ≡ m (row (wordIn m fr (k % 64) 2) 0))
+          → slotFrom n fr (k % 64) ≡ slotFrom m fr (k % 64)
+      go zero d e = refl
+      go (suc fr) d e = let i = frame-is m c k fr d in let j : ℕ = k % 64 in
+          let w : (f : ℕ) → n (cell fr (k % 64) f) ≡ m (cell fr (k % 64) f) = λ f. o .cells (k / 64) fr (k % 64) f (i .1) (i .2) in
+          rw (w 0, w 1, w 2, w 3, w 4) (tagged-kept m n (m (cell fr j 0)) (m (cell fr j 1)) (m (cell fr j 2)) (m (cell fr j 3)) (m (cell fr j 4)) e)
+
+  -- THE TABLE, if the entries of the pages in its orders stay too
+  pub table-kept : (t : Table) → TableIs m c t → SameIds m n c t → ((p f : ℕ) → 0 < occurs p (t .empty) → n (entry (entryAt m c p) f) ≡ m (entry (entryAt m c p) f))
+      → ((p f : ℕ) → 0 < occurs p (t .detached) → n (entry (entryAt m c p) f) ≡ m (entry (entryAt m c p) f)) → TableIs n c t
+  table-kept t i ids es ds =
+      let inside : (p : ℕ) → p < t .size → p < m (head c 5) = λ p h. omega (arith, i .size) in
+      record {
+        limit = o .heads 0 ∙ i .limit;
+        mask = o .heads 1 ∙ i .mask;
+        life = rw (o .heads 2, o .heads 3) (i .life);
+        epoch = o .heads 4 ∙ i .epoch;
+        size = o .heads 5 ∙ i .size;
+        frame = λ p h. page-kept p 0 (inside p h) ∙ i .frame p h;
+        high = λ p h. page-kept p 1 (inside p h) ∙ i .high p h;
+        busy = λ p h a. page-kept p 2 (inside p h) ∙ i .busy p h a;
+        slots = λ k. slotIn-kept k (λ e. ids k (sym (ap isMarked (i .slots k)) ∙ e)) ∙ i .slots k;
+        free = rw (o .heads 6) (chain-frame (λ k. slotWord m c k 2) (λ k. slotWord m c k 3) _ _ (m (head c 6)) 0 (t .free) (i .free) (λ k h. (slot-kept k 2, slot-kept k 3)));
+        freeCount = o .heads 7 ∙ i .freeCount;
+        empty = rw (o .heads 8) (chain-frame (λ p. m (entry (entryAt m c p) 3)) (λ p. m (entry (entryAt m c p) 4)) _ _ (m (head c 8)) 0 (t .empty) (i .empty)
+            (λ p h. (entry-kept p 3 (es p 3 h), entry-kept p 4 (es p 4 h))));
+        detached = rw (o .heads 9) (linked-frame (λ p. m (entry (entryAt m c p) 3)) _ (m (head c 9)) (t .detached) (i .detached) (λ p h. entry-kept p 3 (ds p 3 h)));
+      }
+
+  -- one whose storage is sound: its orders are of pages that it has had
+  pub sound-kept : (t : Table) → TableIs m c t → Sound till t (t .free) → SameIds m n c t → TableIs n c t
+  sound-kept t i s ids = table-kept t i ids
+      (λ p f h. o .pages p f (omega (arith, i .size, empty-below t s p h)))
+      (λ p f h. o .pages p f (omega (arith, i .size, detached-below t s p h)))
+
+-- ---- the frames
+
+-- the pool's words stay
+pub record PoolSame (m n : Mem) : Type 0 where
+  pub owners : (g : ℕ) → n (owner g) ≡ m (owner g)
+  pub groups : (i : ℕ) → i < 3 → (g : ℕ) → n (group i g) ≡ m (group i g)
+  pub count : n (root 7) ≡ m (root 7)
+
+-- THE FRAMES of a state with the same free ones, where each page with a frame had it
+pub frames-kept : (m n : Mem) (s u : State) → PoolSame m n → ((c : ℕ) → n (head c 10) ≡ m (head c 10)) → u .frames ≡ s .frames → u .frameCount ≡ s .frameCount
+    → ((c p f : ℕ) → c < u .tableCount → p < u .tables c .size → u .tables c .pages p .frame ≡ some f → (c < s .tableCount) × (p < s .tables c .size) × (s .tables c .pages p .frame ≡ some f))
+    → FramesAre m s → FramesAre n u
+frames-kept m n s u o firsts fs count had q = record {
+  held = λ c p f l h e. let w = had c p f l h e in o .owners f ∙ q .held c p f (w .0) (w .1) (w .2) ∙ ap (λ (x : ℕ). suc (x + p)) (sym (firsts c));
+  free = λ f h. o .owners f ∙ q .free f (rw fs at h);
+  sixteens = λ g h. rw fs (o .groups 0 (omega arith) g ∙ q .sixteens g (rw count at h));
+  hundreds = λ g h. rw fs (o .groups 1 (omega arith) g ∙ q .hundreds g (rw count at h));
+  thousands = λ g h. rw fs (o .groups 2 (omega arith) g ∙ q .thousands g (rw count at h));
+  count = o .count ∙ q .count ∙ ap length (sym fs);
+}
+
+-- ---- an object
+
+pub object-kept : (m n : Mem) (o : ℕ) (x : Object) → ((f : ℕ) → n (object o f) ≡ m (object o f)) → ObjectIs m o x → ObjectIs n o x
+object-kept m n o x e q = record {
+  koid = e 0 ∙ q .koid;
+  kind = e 1 ∙ q .kind;
+  class = e 2 ∙ q .class;
+  supported = e 3 ∙ q .supported;
+  exportable = e 4 ∙ q .exportable;
+  stage = e 5 ∙ q .stage;
+  count = e 6 ∙ q .count;
+  limit = e 7 ∙ q .limit;
+}
+
+-- ---- one place keeps its row
+
+pub items-kept : {A : Type 0} (P Q : ℕ → A → Type 0) → ((j : ℕ) (y : A) → P j y → Q j y) → (j : ℕ) (ys : List A) → Items P j ys → Items Q j ys
+items-kept P Q f j [] p = tt
+items-kept P Q f j (y ∷ ys) p = (f j y (p .0), items-kept P Q f (suc j) ys (p .1))
+
+module _ (m n : Mem) (x : ℕ) (its : (j f : ℕ) → n (item x j f) ≡ m (item x j f)) where
+  handle-kept : (j : ℕ) (h : Handle) → HandleIs m x j h → HandleIs n x j h
+  handle-kept j h p = (its j 2 ∙ p .0, its j 3 ∙ p .1, its j 4 ∙ p .2)
+
+  entry-stays : (j : ℕ) (e : Entry) → EntryIs m x j e → EntryIs n x j e
+  entry-stays j (moved k h r) p = (its j 0 ∙ p .0, its j 1 ∙ p .1, handle-kept j h (p .2), its j 5 ∙ p .3)
+  entry-stays j (copied h) p = (its j 0 ∙ p .0, handle-kept j h (p .1))
+
+  -- the slots of a reservation, the entries of a claim, the handles of a parcel
+  pub slots-kept : (j : ℕ) (ks : List ℕ) → Items (λ j k. m (item x j 0) ≡ k) j ks → Items (λ j k. n (item x j 0) ≡ k) j ks
+  slots-kept = items-kept (λ j k. m (item x j 0) ≡ k) (λ j k. n (item x j 0) ≡ k) (λ j k q. its j 0 ∙ q)
+
+  pub entries-kept : (j : ℕ) (es : List Entry) → Items (EntryIs m x) j es → Items (EntryIs n x) j es
+  entries-kept = items-kept (EntryIs m x) (EntryIs n x) entry-stays
+
+  pub handles-kept : (j : ℕ) (hs : List Handle) → Items (HandleIs m x) j hs → Items (HandleIs n x) j hs
+  handles-kept = items-kept (HandleIs m x) (HandleIs n x) handle-kept
+
+  pub body-kept : ((f : ℕ) → n (row x f) ≡ m (row x f)) → (b : Body) → BodyIs m x b → BodyIs n x b
+  body-kept rws (reservation b ks) p = (rws 1 ∙ p .0, rws 2 ∙ p .1, rws 3 ∙ p .2, slots-kept 0 ks (p .3))
+  body-kept rws (claim b es) p = (rws 1 ∙ p .0, rws 2 ∙ p .1, rws 3 ∙ p .2, entries-kept 0 es (p .3))
+  body-kept rws (parcel hs) p = (rws 1 ∙ p .0, rws 3 ∙ p .1, handles-kept 0 hs (p .2))
+
+-- ---- the book
+
+-- the row index and the rows stay
+pub record RowsStay (m n : Mem) : Type 0 where
+  pub places : (i : ℕ) → n (index i) ≡ m (index i)
+  pub ranks : (r : ℕ) → n (rank r) ≡ m (rank r)
+  pub rows : (r f : ℕ) → n (row r f) ≡ m (row r f)
+  pub items : (r j f : ℕ) → n (item r j f) ≡ m (item r j f)
+
+-- they are the regions above the objects
+pub rows-stay : (m n : Mem) → ((k x y f : ℕ) → 9 ≤ k → n (reg k x y f) ≡ m (reg k x y f)) → RowsStay m n
+rows-stay m n o = record {
+  places = λ i. o 9 i 0 0 (omega arith);
+  ranks = λ r. o 9 r 0 1 (omega arith);
+  rows = λ r f. o 10 r 0 f (omega arith);
+  items = λ r j f. o 10 r (suc j) f (omega arith);
+}
+
+-- what the book says of a marked slot: BookIs.marks, of one slot
+abbrev pub MarkIs : Mem → State → ℕ → ℕ → Type 0
+MarkIs m s b k =
+    (slotWord m b k 2 < s .book .capacity) × (m (rank (slotWord m b k 2)) < length (s .book .rows)) × (slotWord m b k 3 < m (row (slotWord m b k 2) 3))
+    × (m (row (slotWord m b k 2) 2) ≡ b) × (m (item (slotWord m b k 2) (slotWord m b k 3) (slotWord m b k 0 - 1)) ≡ k)
+    × (slotWord m b k 0 ≡ 2 → m (item (slotWord m b k 2) (slotWord m b k 3) 0) ≡ 0)
+
+module _ (m n : Mem) (o : RowsStay m n) where
+  -- it stays, if the slot's words 0, 2 and 3 do
+  pub mark-kept : (s : State) (b k : ℕ) → slotWord n b k 0 ≡ slotWord m b k 0 → slotWord n b k 2 ≡ slotWord m b k 2 → slotWord n b k 3 ≡ slotWord m b k 3 → MarkIs m s b k → MarkIs n s b k
+  mark-kept s b k e₀ e₂ e₃ p =
+      go (slotWord m b k 0) (slotWord m b k 2) (slotWord m b k 3) (slotWord n b k 0) (slotWord n b k 2) (slotWord n b k 3) e₀ e₂ e₃ p
+    where
+      go : (a₀ a₂ a₃ c₀ c₂ c₃ : ℕ) → c₀ ≡ a₀ → c₂ ≡ a₂ → c₃ ≡ a₃
+          → (a₂ < s .book .capacity) × (m (rank a₂) < length (s .book .rows)) × (a₃ < m (row a₂ 3)) × (m (row a₂ 2) ≡ b) × (m (item a₂ a₃ (a₀ - 1)) ≡ k)
+          × (a₀ ≡ 2 → m (item a₂ a₃ 0) ≡ 0)
+          → (c₂ < s .book .capacity) × (n (rank c₂) < length (s .book .rows)) × (c₃ < n (row c₂ 3)) × (n (row c₂ 2) ≡ b) × (n (item c₂ c₃ (c₀ - 1)) ≡ k)
+          × (c₀ ≡ 2 → n (item c₂ c₃ 0) ≡ 0)
+      go a₀ a₂ a₃ c₀ c₂ c₃ q₀ q₂ q₃ p =
+          rw (q₀, q₂, q₃) (p .0, rw (o .ranks a₂) (p .1), rw (o .rows a₂ 3) (p .2), o .rows a₂ 2 ∙ p .3, o .items a₂ a₃ (a₀ - 1) ∙ p .4, λ e. o .items a₂ a₃ 0 ∙ p .5 e)
+
+  rows-kept : (i : ℕ) (rs : List Row) → RowsAre m i rs → RowsAre n i rs
+  rows-kept i [] p = tt
+  rows-kept i (r ∷ rs) p = let x : ℕ = m (index i) in
+      rw (o .places i) (o .rows (m (index i)) 0 ∙ p .0, body-kept m n (m (index i)) (o .items x) (o .rows x) (r .body) (p .1), rows-kept (suc i) rs (p .2))
+
+  -- THE BOOK of a state with the same rows: the marks are the operation's to show
+  pub book-kept : (s u : State) → u .book ≡ s .book → n (root 5) ≡ m (root 5) → n (root 6) ≡ m (root 6)
+      → ((b k : ℕ) → b < u .tableCount → isMarked (u .tables b .slots k) ≡ true → MarkIs n s b k) → BookIs m s → BookIs n u
+  book-kept s u e next used marks q = record {
+    next = rw e (next ∙ q .next);
+    used = rw e (used ∙ q .used);
+    rows = rw e (rows-kept 0 (s .book .rows) (q .rows));
+    places = λ i h. rw (e, o .places i) (q .places i (rw e at h) .0, o .ranks (m (index i)) ∙ q .places i (rw e at h) .1);
+    marks = λ b k l h. rw e (marks b k l h);
+  }
