@@ -10,6 +10,7 @@ root = Path(__file__).resolve().parent.parent
 doc = (root / "docs/formats.md").read_text()
 source = {name: (root / "crates/format/src" / f"{name}.rt").read_text() for name in ("lib", "op", "field", "refusal")}
 spec = (root / "crates/format/specs/Format.antt").read_text()
+fields = (root / "crates/format/specs/Fields.antt").read_text()
 model = (root / "crates/model/specs/Words.antt").read_text()
 faults, compared = [], 0
 
@@ -26,17 +27,6 @@ def constant(text, name):
     return int(found.group(1).replace("_", "")) if found else None
 
 
-def body(name):
-    found = re.search(r"\npub fn %s\(.*?\n\{\n(.*?)\n\}\n" % name, source["lib"], flags=re.S)
-    return found.group(1) if found else ""
-
-
-def arms(name):
-    """The results of a function that is one `match`, at the numbers of its arms."""
-    found = re.findall(r"^ +(\d+) => ([\d_]+),$", body(name), flags=re.M)
-    return [int(n.replace("_", "")) for _, n in found] if [int(k) for k, _ in found] == list(range(len(found))) else None
-
-
 def array(name):
     found = re.search(r"const %s: \[u\d+; \d+\] = \[(.*?)\];" % name, source["lib"], flags=re.S)
     return [int(n.replace("_", "")) for n in re.findall(r"[\d_]+", found.group(1))] if found else None
@@ -48,6 +38,12 @@ def definition(name):
     return numbers if numbers is None or "∷" in found.group(1) else numbers[0]
 
 
+def named(name):
+    first, *rest = name.split()
+    found = re.search(r"^%s = (\d+)$" % (first + "".join(w.title() for w in rest) + "Field"), fields, flags=re.M)
+    return int(found.group(1)) if found else None
+
+
 # fields
 kinds = {"number": 0, "handle value": 0, "64 rights": 0, "reservation id": 0, "32 bits": 1, "koid": 2}
 bits, field_kinds = {}, []
@@ -56,8 +52,8 @@ for bit, name, kind, _ in re.findall(r"^\| (\d+) \| ([^|]+?) \| ([^|]*?) \|([^|]
     bits[name] = int(bit)
     field_kinds.append(4 if name == "op" else 3 if name == "route" else kinds.get(kind.split(",")[0].strip(), -1))
     same(f"the bit of field {name}", constant(source["field"], "FIELD_" + name.upper().replace(" ", "_")), int(bit))
+    same(f"the bit of field {name}, in the definitions", named(name), int(bit))
 same("the fields", len(bits), 18)
-same("field_kind", arms("field_kind"), field_kinds)
 same("fieldKinds", definition("fieldKinds"), field_kinds)
 
 
@@ -82,7 +78,7 @@ same("MAY", array("MAY"), mays)
 same("musts", definition("musts"), musts)
 same("mays", definition("mays"), mays)
 table = re.search(r"plainRequests =(.*?)∷ \[\]", model, flags=re.S)
-built = re.findall(r"λ f\. (\w+)", table.group(1))[1:]
+built = re.findall(r"λ f\. (\w+)", table.group(1))
 camel = [re.sub(r"[ _](\w)", lambda m: m.group(1).upper(), n) for n in names[1:]]
 same("the order of plainRequests", built, camel)
 

@@ -7,26 +7,13 @@ use native.Mathlib.Omega.{arith}
 use lib.Dec.{eqb}
 use Rattle.words.specs.Pick.{yes-is, no-is}
 use Rattle.layout.specs.declared.Shape.{Shape}
-use Rattle.layout.specs.Layout.{Mem, row, item, load, save}
+use Rattle.layout.specs.Layout.{Mem, row, item, load, save, save-load}
 use Rattle.storage.specs.Ops.{vacateW, occupyW}
 use Rattle.object.specs.Words.{lowerW}
-use Rattle.book.specs.Ops.{rowLink, closeW}
+use Rattle.book.specs.Ops.{closeW}
 use Rattle.answer.specs.Does.{Both, both, answered}
 use Rattle.reserve.specs.Ops.{reservationLink, abortR}
-use Rattle.claim.specs.Ops.{claimLink, each, undoW, undoneW, rolledW, rollbackR, sentRights, leaveW, leftW, sendW, sentW, committedW, commitR, paired, fillW, filledW, directW, directCommitR, directRollbackR}
-
--- `claim_of`
-module _ (m : Mem) (sh : Shape) (i l x w : ℕ) (t : Bool) (e₁ : l ≡ rowLink m sh i) (e₂ : x ≡ l - 1) (e₃ : w ≡ m (row x 1)) (e₄ : t ≡ eqb w 2) where
-  a-claim : eqb (m (row (rowLink m sh i - 1) 1)) 2 ≡ t
-  a-claim = rw (e₄, e₃, e₂, e₁)
-
-  pub claim-yes : t ≡ true → l ≡ claimLink m sh i
-  unfolding claimLink
-  claim-yes y = yes-is _ _ _ _ (a-claim ∙ y) e₁
-
-  pub claim-no : t ≡ false → 0 ≡ claimLink m sh i
-  unfolding claimLink
-  claim-no y = no-is _ _ _ _ (a-claim ∙ y) refl
+use Rattle.claim.specs.Ops.{claimLink, each, undoW, undoneW, rolledW, sentRights, leaveW, leftW, sendW, sentW, committedW, paired, fillW, filledW, directW, directCommitR, directRollbackR}
 
 -- the loops: at number j what is left is still to do
 module _ (f : List ℕ → ℕ → List ℕ) (ws : List ℕ) (n : ℕ) where
@@ -82,11 +69,17 @@ module _ (ws : List ℕ) (sh : Shape) (b x j w : ℕ) (t : Bool) (e : w ≡ load
   unfolding leaveW
   leave-copy y = no-is _ _ _ _ (moves (load ws sh) x j w t e q ∙ y) refl
 
--- `send_entries`, `fill_slots`: a turn
-pub send-is : (ws vs : List ℕ) (sh : Shape) (x j r : ℕ) → r ≡ sentRights (load ws sh) x j → vs ≡ save ws sh (item x j 3) r → vs ≡ sendW ws sh x j
-unfolding sendW
-send-is ws vs sh x j r e a = rw (a, e)
+-- `send_entry`: of a copy it stores what stands there
+module _ (ws : List ℕ) (sh : Shape) (x j w : ℕ) (t : Bool) (e : w ≡ load ws sh (item x j 0)) (q : t ≡ eqb w 0) where
+  pub send-move : (vs : List ℕ) (r : ℕ) → t ≡ true → r ≡ load ws sh (item x j 5) → vs ≡ save ws sh (item x j 3) r → vs ≡ sendW ws sh x j
+  unfolding sendW
+  send-move vs r y d a = a ∙ ap (save ws sh (item x j 3)) (sent-move (load ws sh) x j w t e q r y d)
 
+  pub send-copy : t ≡ false → ws ≡ sendW ws sh x j
+  unfolding sendW
+  send-copy y = sym (save-load ws sh (item x j 3)) ∙ ap (save ws sh (item x j 3)) (sent-copy (load ws sh) x j w t e q (load ws sh (item x j 3)) y refl)
+
+-- `fill_slots`: a turn
 pub fill-is : (ws vs : List ℕ) (sh : Shape) (c y x j k o r f : ℕ) → k ≡ load ws sh (item y j 0) → o ≡ load ws sh (item x j 2) → r ≡ sentRights (load ws sh) x j → f ≡ load ws sh (item x j 4)
     → vs ≡ occupyW ws sh c k o r f → vs ≡ fillW ws sh c y x j
 unfolding fillW
@@ -97,27 +90,6 @@ pub committed-is : (ws w₁ w₂ w₃ : List ℕ) (sh : Shape) (x b n : ℕ) →
     → w₃ ≡ save w₂ sh (row x 1) 3 → w₃ ≡ committedW ws sh x
 unfolding committedW
 committed-is ws w₁ w₂ w₃ sh x b n e₁ e₂ a₁ a₂ a₃ = rw (a₃, a₂, a₁, e₁, e₂)
-
--- `rollback`, `commit`: the claim with an id, or none
-module _ (ws os os′ : List ℕ) (sh : Shape) (base i l : ℕ) (t : Bool) (e : l ≡ claimLink (load ws sh) sh i) (q : t ≡ eqb l 0) where
-  none-there : eqb (claimLink (load ws sh) sh i) 0 ≡ t
-  none-there = rw (q, e)
-
-  pub rollback-none : t ≡ true → os′ ≡ answered os base (18 ∷ []) → both ws os′ ≡ rollbackR ws os sh base i
-  unfolding rollbackR
-  rollback-none y a = yes-is _ _ _ _ (none-there ∙ y) (ap (both ws) a)
-
-  pub rollback-done : (ws′ : List ℕ) (x : ℕ) → t ≡ false → x ≡ l - 1 → ws′ ≡ rolledW ws sh x → os′ ≡ answered os base (0 ∷ []) → both ws′ os′ ≡ rollbackR ws os sh base i
-  unfolding rollbackR
-  rollback-done ws′ x y d a c = no-is _ _ _ _ (none-there ∙ y) (rw (a, c, d, e))
-
-  pub commit-none : t ≡ true → os′ ≡ answered os base (18 ∷ []) → both ws os′ ≡ commitR ws os sh base i
-  unfolding commitR
-  commit-none y a = yes-is _ _ _ _ (none-there ∙ y) (ap (both ws) a)
-
-  pub commit-done : (ws′ : List ℕ) (x : ℕ) → t ≡ false → x ≡ l - 1 → ws′ ≡ committedW ws sh x → os′ ≡ answered os base (0 ∷ []) → both ws′ os′ ≡ commitR ws os sh base i
-  unfolding commitR
-  commit-done ws′ x y d a c = no-is _ _ _ _ (none-there ∙ y) (rw (a, c, d, e))
 
 -- `paired`
 module _ (m : Mem) (l k : ℕ) (t : Bool) (q : t ≡ eqb l 0) where

@@ -2,10 +2,10 @@
 use mathlib.Core.Path.{_≡_, refl, sym, ap, _∙_}
 use mathlib.Core.Bool.{Bool, false}
 use mathlib.Core.List.{List, map}
-use Prim.Native.Nat.{ℕ, zero, suc, _-_, _≤_, _<_}
+use Prim.Native.Nat.{ℕ, _≤_, _<_}
 use native.Mathlib.Omega.{arith}
 use lib.ListN.{length, length-map}
-use borrow.Author.Tests.{eq-eqb, ne-eqb}
+use borrow.Author.Tests.{eq-eqb}
 use Rattle.codec.specs.Codec.{nextGeneration}
 use Rattle.model.specs.Base.{occurs, pick}
 use Rattle.model.specs.State.{till, Slot.vacant, Table, Entry, Body.claim, Body.parcel, State, generation, maxBatch}
@@ -14,20 +14,20 @@ use Rattle.model.specs.Change.{withTable}
 use Rattle.model.specs.Book.{swapRow, movedOf, sentOf}
 use Rattle.model.specs.Sums.{member-in}
 use Rattle.model.specs.Step.{commitOf, decide}
-use Rattle.model.specs.Request.{Request.commit, Answer.done}
-use Rattle.model.specs.Words.{usedWords}
+use Rattle.model.specs.Request.{Request.commit}
 use Rattle.invariant.specs.Pointwise.{vacateAll-slots}
 use Rattle.layout.specs.declared.Shape.{Shape}
 use Rattle.layout.specs.Layout.{total, row, item, in-row, load, save, load-save}
 use Rattle.representation.specs.Represents.{BodyIs, isMarked, Rep}
+use Rattle.storage.specs.Kept.{handles-kept}
 use Rattle.storage.specs.Reps.{Held, held-of}
 use Rattle.book.specs.Ops.{Fills, fills-then, fills-row}
 use Rattle.book.specs.Find.{fits-of, RowAt}
 use Rattle.book.specs.Marks.{Unnamed}
 use Rattle.book.specs.Swap.{swap-held}
 use Rattle.book.specs.Vacated.{with-table-at as table-at}
-use Rattle.answer.specs.Does.{Does, does-refused, does-accepted}
-use Rattle.parcel.specs.Keeps.{Keeps, handles-same}
+use Rattle.answer.specs.Does.{Does, does-on-row}
+use Rattle.parcel.specs.Keeps.{Keeps}
 use Rattle.claim.specs.Ops.{claimLink, leftW, sentW, committedW, commitR}
 use Rattle.claim.specs.Found.{Claimed, claim-none, claim-some, own, range, freed}
 use Rattle.claim.specs.Entries.{left-keeps}
@@ -86,7 +86,7 @@ module _ (ws : List ℕ) (sh : Shape) (s : State) (r : Rep ws sh s) where
     body = let a = load-save ws₂ sh room₂ (row x 1) 3 (in-row sh x 1 low (omega arith)) in (
       a (row x 1) ∙ rw (eq-eqb x x refl),
       a (row x 3) ∙ sent-row sh x (length es) ws₁ 0 3 room ∙ stands .body .2 ∙ sym (length-map es sentOf),
-      handles-same (load ws₂ sh) (load (save ws₂ sh (row x 1) 3) sh) (λ z j f. a (item z j f)) x 0 (map sentOf es)
+      handles-kept (load ws₂ sh) (load (save ws₂ sh (row x 1) 3) sh) x (λ j f. a (item x j f)) 0 (map sentOf es)
           (sent-items sh x low (load ws₁ sh) es ws₁ 0 room (omega (arith, few)) (λ i f l. refl) (stands .body .3)),
     )
 
@@ -100,14 +100,7 @@ module _ (ws : List ℕ) (sh : Shape) (s : State) (r : Rep ws sh s) where
 
   -- COMMIT is the model's step
   pub commit-does : (os : List ℕ) (base i : ℕ) → Does ws os sh base s (commit i) (commitR ws os sh base i)
-  unfolding commitR decide commitOf usedWords
-  commit-does os base i = go (claimLink (load ws sh) sh i) refl
-    where
-      go : (l : ℕ) → claimLink (load ws sh) sh i ≡ l → Does ws os sh base s (commit i) (commitR ws os sh base i)
-      go zero e = rw e (does-refused os sh base s (commit i) ws 18 (r .reps) (claim-none ws sh s r i e _))
-      go (suc x) e =
-          let p = claim-some ws sh s r i x e in
-          let z : suc x - 1 ≡ x = omega arith in
-          rw (e, z, ne-eqb (suc x) 0 (λ q. omega arith))
-          (does-accepted os sh base s (commit i) (committedW ws sh x) (swapRow i (parcel (map sentOf (p .1))) (left s (p .0) (p .1))) done
-          (committed-held x i (p .0) (p .1) (p .2) .reps) (rw (p .2 .found)))
+  unfolding decide commitOf
+  commit-does os base i = does-on-row os sh base s (commit i) ws (committedW ws sh) (claimLink (load ws sh) sh i) (r .reps) (λ e. claim-none ws sh s r i e _)
+      (λ x e. let p = claim-some ws sh s r i x e in
+      (swapRow i (parcel (map sentOf (p .1))) (left s (p .0) (p .1)), committed-held x i (p .0) (p .1) (p .2) .reps, rw (p .2 .found)))

@@ -25,12 +25,12 @@ use Rattle.storage.specs.Order.{occurs-head}
 use Rattle.storage.specs.Ops.{vacateW, occupyW}
 use Rattle.storage.specs.Turns.{vacate-turns}
 use Rattle.storage.specs.Whole.{off-table}
+use Rattle.storage.specs.Kept.{entries-kept, slots-kept}
 use Rattle.storage.specs.Reps.{Held, ready-of, vacate-held}
 use Rattle.object.specs.Words.{lowerW}
-use Rattle.book.specs.Places.{items-kept, entry-kept}
 use Rattle.book.specs.Fades.{vacate-fades, row-turned}
 use Rattle.book.specs.Vacated.{with-table-at as table-at, with-own as table-same, with-over as table-twice}
-use Rattle.parcel.specs.Keeps.{Keeps, keeps-none, keeps-then, slots-same, lower-keeps, occupy-keeps}
+use Rattle.parcel.specs.Keeps.{Keeps, keeps-none, keeps-then, lower-keeps, occupy-keeps}
 use Rattle.claim.specs.Ops.{each, undoW, sentRights, leaveW, fillW}
 
 -- ---- loops, in their definition's terms
@@ -71,10 +71,6 @@ fill-entry : (ws : List ℕ) (sh : Shape) (c y x j k : ℕ) (e : Entry) → load
     → fillW ws sh c y x j ≡ occupyW ws sh c k (sentOf e .object) (sentOf e .rights) (sentOf e .flags)
 unfolding fillW
 fill-entry ws sh c y x j k e d p = let q = sent-is (load ws sh) x j e p in rw (d, q .0, q .1, q .2)
-
--- the entries of a row whose items are as they were
-entries-same : (m n : Mem) → ((x j f : ℕ) → n (item x j f) ≡ m (item x j f)) → (x j : ℕ) (es : List Entry) → Items (EntryIs m x) j es → Items (EntryIs n x) j es
-entries-same m n e x j es p = items-kept m n x (e x) (EntryIs m x) (EntryIs n x) (entry-kept m n x (e x)) j es p
 
 -- ---- ONE SLOT VACATED
 
@@ -122,7 +118,7 @@ module _ (sh : Shape) (b x : ℕ) where
       let v : List ℕ = occupyW ws sh b k (g .object) (g .rights) (g .flags) in
       let one = occupy-keeps sh ws s h b l k g (busy k (occurs-head k (movedOf es))) in
       let rest = undone-keeps es v (withTable s b u) (suc j) (one .held) l (rw (table-at s b u) (busy-kept (s .tables b) k g (movedOf es) busy)) known
-      (entries-same (load ws sh) (load v sh) (one .items) x (suc j) es (its .1)) in
+      (entries-kept (load ws sh) (load v sh) x (one .items x) (suc j) es (its .1)) in
       rw (each-more undo ws v j (length es) (undo-moved ws sh b x j k g r (its .0)))
       (keeps-then sh ws s v (withTable s b u) (each undo v (suc j) (length es)) (release (withTable s b (restoreAll till es u)) (copiesOf es)) one
       (rw (table-at s b u, ap (λ (z : State). release z (copiesOf es)) (table-twice s b u (restoreAll till es u))) at rest))
@@ -130,7 +126,7 @@ module _ (sh : Shape) (b x : ℕ) where
       let v : List ℕ = lowerW ws sh (g .object) in
       let u : State = withObjects s (change lower (s .objects) (g .object)) in
       let one = lower-keeps sh ws s h (g .object) (known .0) in
-      let rest = undone-keeps es v u (suc j) (one .held) l busy (known .1) (entries-same (load ws sh) (load v sh) (one .items) x (suc j) es (its .1)) in
+      let rest = undone-keeps es v u (suc j) (one .held) l busy (known .1) (entries-kept (load ws sh) (load v sh) x (one .items x) (suc j) es (its .1)) in
       rw (each-more undo ws v j (length es) (undo-copied ws sh b x j g (its .0)))
       (keeps-then sh ws s v u (each undo v (suc j) (length es)) (undone s b (copied g ∷ es)) one rest)
 
@@ -148,7 +144,7 @@ module _ (sh : Shape) (b x : ℕ) where
       let v : List ℕ = vacateW ws sh b k in
       let one = vacate-keeps sh ws s h b l k (busy k (occurs-head k (movedOf es))) in
       let rest = left-keeps es v (withTable s b u) (suc j) (one .held) l (rw (table-at s b u) (busy-left (s .tables b) k (movedOf es) (once k) busy)) (λ i. omega (arith, once i))
-      (entries-same (load ws sh) (load v sh) (one .items) x (suc j) es (its .1)) in
+      (entries-kept (load ws sh) (load v sh) x (one .items x) (suc j) es (its .1)) in
       rw (each-more leave ws v j (length es) (leave-moved ws sh b x j k g r (its .0)))
       (keeps-then sh ws s v (withTable s b u) (each leave v (suc j) (length es)) (withTable s b (vacateAll till (movedOf es) u)) one
       (rw (table-at s b u, table-twice s b u (vacateAll till (movedOf es) u)) at rest))
@@ -172,7 +168,7 @@ module _ (sh : Shape) (c y x : ℕ) where
       let v : List ℕ = occupyW ws sh c k (sentOf e .object) (sentOf e .rights) (sentOf e .flags) in
       let one = occupy-keeps sh ws s h c l k (sentOf e) (busy k (occurs-head k ks)) in
       let rest = filled-keeps es ks v (withTable s c u) (suc j) (one .held) l (rw (table-at s c u) (busy-kept (s .tables c) k (sentOf e) ks busy)) (omega arith)
-      (slots-same (load ws sh) (load v sh) (one .items) y (suc j) ks (slots .1)) (entries-same (load ws sh) (load v sh) (one .items) x (suc j) es (its .1)) in
+      (slots-kept (load ws sh) (load v sh) y (one .items y) (suc j) ks (slots .1)) (entries-kept (load ws sh) (load v sh) x (one .items x) (suc j) es (its .1)) in
       rw (each-more fill ws v j (length es) (fill-entry ws sh c y x j k e (slots .0) (its .0)))
       (keeps-then sh ws s v (withTable s c u) (each fill v (suc j) (length es)) (withTable s c (fillAll till ks (map sentOf es) u)) one
       (rw (table-at s c u, table-twice s c u (fillAll till ks (map sentOf es) u)) at rest))

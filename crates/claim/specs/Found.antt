@@ -1,29 +1,24 @@
 -- The open claim with an id, in the model. Assumes nothing.
-use mathlib.Core.Path.{_≡_, refl, sym, ap, _∙_}
+use mathlib.Core.Path.{_≡_, refl, ap, _∙_}
 use mathlib.Core.Bool.{false}
 use mathlib.Core.List.{List}
-use mathlib.Core.Option.{Option, some}
-use Prim.Native.Nat.{ℕ, zero, suc, _-_, _<_}
+use mathlib.Core.Option.{some}
+use Prim.Native.Nat.{ℕ, suc, _<_}
 use native.Mathlib.Omega.{arith}
-use lib.Dec.{eqb}
-use borrow.Author.Tests.{eqb-true}
-use Rattle.words.specs.Pick.{bool}
 use Rattle.model.specs.Base.{occurs}
 use Rattle.model.specs.State.{till, Entry, Body, Body.reservation, Body.claim, Body.parcel, State}
 use Rattle.model.specs.Book.{find, movedOf}
 use Rattle.model.specs.WellFormed.{BodyRange}
-use Rattle.model.specs.Decision.{Decision, Decision.refusal, asClaim, onClaim}
+use Rattle.model.specs.Decision.{Decision, Decision.refusal, asClaim, claimRow_of_refuse_then_}
 use Rattle.invariant.specs.BookLemmas.{found-range}
 use Rattle.invariant.specs.Marks.{Owns}
 use Rattle.invariant.specs.StorageDecisions.{claim-owns}
 use Rattle.layout.specs.declared.Shape.{Shape}
 use Rattle.layout.specs.Layout.{Mem, row, load}
 use Rattle.representation.specs.Represents.{BodyIs, isMarked, Rep}
-use Rattle.book.specs.Ops.{rowLink}
-use Rattle.book.specs.Find.{fits-of, RowAt, row-none}
+use Rattle.book.specs.Find.{fits-of, RowAt, kind-none, kind-some}
 use Rattle.book.specs.Marks.{Moves, moved-occurs, Unnamed, unnamed, named-claim}
 use Rattle.book.specs.Fades.{Fades, named-fades}
-use Rattle.reserve.specs.Found.{by-row}
 use Rattle.claim.specs.Ops.{claimLink}
 
 -- word 1 of a row tells a claim
@@ -32,7 +27,7 @@ a-claim m x (reservation b ks) p e = absurd (omega (arith, p .0))
 a-claim m x (claim b es) p e = (b, es, refl)
 a-claim m x (parcel hs) p e = absurd (omega (arith, p .0))
 
-no-claim : (m : Mem) (x : ℕ) (y : Body) → BodyIs m x y → (m (row x 1) ≡ 2 → ⊥) → (f : ℕ → List Entry → Decision) → asClaim (some y) f ≡ refusal 18
+no-claim : (m : Mem) (x : ℕ) (y : Body) → BodyIs m x y → (m (row x 1) ≡ 2 → ⊥) → (f : ℕ → List Entry → Decision) → asClaim (some y) 18 f ≡ refusal 18
 no-claim m x (reservation b ks) p e f = refl
 no-claim m x (claim b es) p e f = absurd (e (p .0))
 no-claim m x (parcel hs) p e f = refl
@@ -44,32 +39,19 @@ pub record Claimed (m : Mem) (s : State) (x i b : ℕ) (es : List Entry) : Type 
 
 module _ (ws : List ℕ) (sh : Shape) (s : State) (r : Rep ws sh s) (i : ℕ) where
   -- "unknown .. open row of the kind named": 18
-  pub claim-none : claimLink (load ws sh) sh i ≡ 0 → (f : ℕ → List Entry → Decision) → onClaim s i f ≡ refusal 18
-  unfolding claimLink
-  claim-none e f = go (rowLink (load ws sh) sh i) refl e
-    where
-      go : (l : ℕ) → rowLink (load ws sh) sh i ≡ l → claimLink (load ws sh) sh i ≡ 0 → onClaim s i f ≡ refusal 18
-      go zero q d = ap (λ (o : Option Body). asClaim o f) (row-none sh (load ws sh) s (r .reps .memory) (fits-of s (r .wellFormed)) i q)
-      go (suc x) q d =
-          let p = by-row ws sh s r i x q in
-          let z : rowLink (load ws sh) sh i - 1 ≡ x = omega arith in
-          ap (λ (o : Option Body). asClaim o f) (p .1) ∙ no-claim (load ws sh) x (p .0) (p .2 .body) (λ k.
-          let g : rowLink (load ws sh) sh i ≡ 0 = rw (z, k) at d in omega arith) f
+  pub claim-none : claimLink (load ws sh) sh i ≡ 0 → (f : ℕ → List Entry → Decision) → (claimRow i of s refuse 18 then f) ≡ refusal 18
+  claim-none e f = kind-none sh (load ws sh) s (r .reps .memory) (fits-of s (r .wellFormed)) (r .reps .shaped .limits .few-rows) 2 i (λ o. asClaim o 18 f ≡ refusal 18)
+      refl (λ x y p n. no-claim (load ws sh) x y p n f) e
 
   claimed-of : (x : ℕ) (y : Body) (b : ℕ) (es : List Entry) → find i (s .book .rows) ≡ some y → RowAt (load ws sh) s x i y → y ≡ claim b es
       → (b : ℕ) × (es : List Entry) × Claimed (load ws sh) s x i b es
   claimed-of x y b es d a e = (b, es, record { found = d ∙ ap some e; row = rw e at a })
 
   pub claim-some : (x : ℕ) → claimLink (load ws sh) sh i ≡ suc x → (b : ℕ) × (es : List Entry) × Claimed (load ws sh) s x i b es
-  unfolding claimLink
-  claim-some x e = bool (eqb (load ws sh (row (rowLink (load ws sh) sh i - 1) 1)) 2)
-      (λ q. let l : rowLink (load ws sh) sh i ≡ suc x = rw q at e in
-      let p = by-row ws sh s r i x l in
-      let z : rowLink (load ws sh) sh i - 1 ≡ x = omega arith in
-      let k : load ws sh (row x 1) ≡ 2 = ap (λ (v : ℕ). load ws sh (row v 1)) (sym z) ∙ eqb-true (load ws sh (row (rowLink (load ws sh) sh i - 1) 1)) 2 q in
-      let g = a-claim (load ws sh) x (p .0) (p .2 .body) k in
-      claimed-of x (p .0) (g .0) (g .1) (p .1) (p .2) (g .2))
-      (λ q. let l : 0 ≡ suc x = rw q at e in absurd (omega arith))
+  claim-some x e =
+      let p = kind-some sh (load ws sh) s (r .reps .memory) (fits-of s (r .wellFormed)) (r .reps .shaped .limits .few-rows) 2 i x e in
+      let g = a-claim (load ws sh) x (p .0) (p .2 .body) (p .3) in
+      claimed-of x (p .0) (g .0) (g .1) (p .1) (p .2) (g .2)
 
 -- ---- what a claim holds
 

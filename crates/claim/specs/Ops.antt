@@ -8,13 +8,13 @@ use Rattle.layout.specs.declared.Shape.{Shape}
 use Rattle.layout.specs.Layout.{Mem, row, item, load, save}
 use Rattle.storage.specs.Ops.{vacateW, occupyW}
 use Rattle.object.specs.Words.{lowerW}
-use Rattle.book.specs.Ops.{rowLink, closeW}
-use Rattle.answer.specs.Does.{Both, both, answered, refuseR}
+use Rattle.book.specs.Ops.{kindLink, closeW}
+use Rattle.answer.specs.Does.{Both, both, answered, refuseR, onRowR}
 use Rattle.reserve.specs.Ops.{reservationLink, abortR}
 
 -- the open claim with an id: its place plus 1, 0 if there is none
-unfoldable pub claimLink : Mem → Shape → ℕ → ℕ
-claimLink m sh i = pick (eqb (m (row (rowLink m sh i - 1) 1)) 2) (rowLink m sh i) 0
+abbrev pub claimLink : Mem → Shape → ℕ → ℕ
+claimLink = kindLink 2
 
 -- what f does at one number, done at n of them from j on
 unfoldable pub each : (List ℕ → ℕ → List ℕ) → List ℕ → ℕ → ℕ → List ℕ
@@ -37,11 +37,8 @@ undoneW ws sh b x n = each (λ (vs : List ℕ) (j : ℕ). undoW vs sh b x j) ws 
 unfoldable pub rolledW : List ℕ → Shape → ℕ → List ℕ
 rolledW ws sh x = closeW (undoneW ws sh (load ws sh (row x 2)) x (load ws sh (row x 3))) sh x
 
--- "unknown .. open row of the kind named": 18
-unfoldable pub rollbackR : List ℕ → List ℕ → Shape → ℕ → ℕ → Both
-rollbackR ws os sh base i =
-    let l : ℕ = claimLink (load ws sh) sh i in
-    pick (eqb l 0) (refuseR ws os base 18) (both (rolledW ws sh (l - 1)) (answered os base (0 ∷ [])))
+abbrev pub rollbackR : List ℕ → List ℕ → Shape → ℕ → ℕ → Both
+rollbackR ws os sh base i = onRowR (rolledW ws sh) ws os base (claimLink (load ws sh) sh i)
 
 -- ---- commit
 
@@ -71,10 +68,8 @@ committedW ws sh x =
     let n : ℕ = load ws sh (row x 3) in
     save (sentW (leftW ws sh (load ws sh (row x 2)) x n) sh x n) sh (row x 1) 3
 
-unfoldable pub commitR : List ℕ → List ℕ → Shape → ℕ → ℕ → Both
-commitR ws os sh base i =
-    let l : ℕ = claimLink (load ws sh) sh i in
-    pick (eqb l 0) (refuseR ws os base 18) (both (committedW ws sh (l - 1)) (answered os base (0 ∷ [])))
+abbrev pub commitR : List ℕ → List ℕ → Shape → ℕ → ℕ → Both
+commitR ws os sh base i = onRowR (committedW ws sh) ws os base (claimLink (load ws sh) sh i)
 
 -- ---- a claim and a reservation
 

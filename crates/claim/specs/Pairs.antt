@@ -10,7 +10,7 @@ use lib.Dec.{eqb}
 use borrow.Author.Tests.{eqb-true, eq-eqb, ne-eqb}
 use Rattle.words.specs.Pick.{bool}
 use Rattle.model.specs.State.{Entry, State}
-use Rattle.model.specs.Decision.{Decision, Decision.refusal, unless_refuse_then_, onClaim, onReservation}
+use Rattle.model.specs.Decision.{Decision, Decision.refusal, unless_refuse_then_, claimRow_of_refuse_then_, reservationRow_of_refuse_then_}
 use Rattle.layout.specs.declared.Shape.{Shape}
 use Rattle.layout.specs.Layout.{Mem, row, load}
 use Rattle.representation.specs.Represents.{Rep}
@@ -21,7 +21,7 @@ use Rattle.claim.specs.Found.{Claimed, claim-none, claim-some}
 
 -- "unknown .. open row of the kind named .. lengths differ": 18, else the decision goes on with the two rows
 abbrev pub onPair : State → ℕ → ℕ → (ℕ → List Entry → ℕ → List ℕ → Decision) → Decision
-onPair s i j f = onClaim s i λ b es. onReservation s j λ c ks. unless eqb (length es) (length ks) refuse 18 then f b es c ks
+onPair s i j f = claimRow i of s refuse 18 then λ b es. reservationRow j of s refuse 18 then λ c ks. unless eqb (length es) (length ks) refuse 18 then f b es c ks
 
 -- the two, in their places
 pub record Pair (m : Mem) (sh : Shape) (s : State) (i j : ℕ) : Type 0 where

@@ -1,18 +1,15 @@
 -- Rollback: its function takes the model's step. Assumes nothing.
-use mathlib.Core.Path.{_≡_, refl, ap, _∙_}
+use mathlib.Core.Path.{_≡_, ap, _∙_}
 use mathlib.Core.Bool.{false}
 use mathlib.Core.List.{List}
-use Prim.Native.Nat.{ℕ, zero, suc, _-_, _<_}
-use native.Mathlib.Omega.{arith}
+use Prim.Native.Nat.{ℕ, _<_}
 use lib.ListN.{length}
-use borrow.Author.Tests.{ne-eqb}
 use Rattle.model.specs.Base.{occurs}
 use Rattle.model.specs.State.{till, Table, Entry, Body.claim, State}
 use Rattle.model.specs.Book.{dropRow, movedOf}
 use Rattle.model.specs.Step.{restoreAll, rollbackOf, decide}
 use Rattle.model.specs.Request.{Request.rollback, Answer.done}
 use Rattle.model.specs.Decision.{Decision.accept}
-use Rattle.model.specs.Words.{usedWords}
 use Rattle.invariant.specs.Parcels.{moved-length}
 use Rattle.invariant.specs.Pointwise.{movedHandles, restoreAll-is, fillAll-slots}
 use Rattle.invariant.specs.StorageState.{copies-range}
@@ -23,7 +20,7 @@ use Rattle.storage.specs.Reps.{Held, held-of}
 use Rattle.book.specs.Find.{fits-of}
 use Rattle.book.specs.Close.{close-held}
 use Rattle.book.specs.Vacated.{with-table-at as table-at}
-use Rattle.answer.specs.Does.{Does, does-refused, does-accepted}
+use Rattle.answer.specs.Does.{Does, does-on-row}
 use Rattle.parcel.specs.Keeps.{Keeps}
 use Rattle.parcel.specs.Published.{bare-given}
 use Rattle.claim.specs.Ops.{claimLink, undoneW, rolledW, rollbackR}
@@ -55,13 +52,7 @@ module _ (ws : List ℕ) (sh : Shape) (s : State) (r : Rep ws sh s) where
 
   -- ROLLBACK is the model's step
   pub rollback-does : (os : List ℕ) (base i : ℕ) → Does ws os sh base s (rollback i) (rollbackR ws os sh base i)
-  unfolding rollbackR decide rollbackOf usedWords
-  rollback-does os base i = go (claimLink (load ws sh) sh i) refl
-    where
-      go : (l : ℕ) → claimLink (load ws sh) sh i ≡ l → Does ws os sh base s (rollback i) (rollbackR ws os sh base i)
-      go zero e = rw e (does-refused os sh base s (rollback i) ws 18 (r .reps) (claim-none ws sh s r i e _))
-      go (suc x) e =
-          let p = claim-some ws sh s r i x e in
-          let z : suc x - 1 ≡ x = omega arith in
-          rw (e, z, ne-eqb (suc x) 0 (λ q. omega arith))
-          (does-accepted os sh base s (rollback i) (rolledW ws sh x) (dropRow i (undone s (p .0) (p .1))) done (rolled-held x i (p .0) (p .1) (p .2) .reps) (rolls x i (p .0) (p .1) (p .2)))
+  unfolding decide rollbackOf
+  rollback-does os base i = does-on-row os sh base s (rollback i) ws (rolledW ws sh) (claimLink (load ws sh) sh i) (r .reps) (λ e. claim-none ws sh s r i e _)
+      (λ x e. let p = claim-some ws sh s r i x e in
+      (dropRow i (undone s (p .0) (p .1)), rolled-held x i (p .0) (p .1) (p .2) .reps, rolls x i (p .0) (p .1) (p .2)))

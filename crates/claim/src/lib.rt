@@ -6,7 +6,7 @@
 ghost use mathlib.Core.Path.{_≡_};
 ghost use Rattle.layout.specs.Layout.{load as loadAt};
 ghost use Rattle.answer.specs.Does.{both};
-ghost use Rattle.claim.specs.Ops.{claimLink, undoW, undoneW, rolledW, rollbackR, sentRights, leaveW, leftW, sentW, committedW, commitR};
+ghost use Rattle.claim.specs.Ops.{claimLink, undoW, undoneW, rolledW, rollbackR, sentRights, leaveW, leftW, sendW, sentW, committedW, commitR};
 ghost use Rattle.claim.specs.Ops.{paired, filledW, directW, directCommitR, directRollbackR};
 use codec::ReservationId;
 use layout::Shape;
@@ -103,14 +103,23 @@ fn leave_entries(s: &mut [u64], sh: Shape, b: u64, x: u64, n: u64)
     }
 }
 
-// The first n entries become the handles that the receiver gets.
+// Entry j becomes the handle that the receiver gets; a copy is that already.
+fn send_entry(s: &mut [u64], sh: Shape, x: u64, j: u64)
+    ensures words { λ _. ⌜ now (s .exit) ≡ sendW (now (s .entry)) sh x j ⌝ }
+{
+    if words::eq(layout::item_word(s, sh, x, j, 0), book::MOVE) {
+        let r = layout::item_word(s, sh, x, j, 5);
+        layout::put_item(s, sh, x, j, 3, r);
+    }
+}
+
+// The first n entries do.
 fn send_entries(s: &mut [u64], sh: Shape, x: u64, n: u64)
     ensures words { λ _. ⌜ now (s .exit) ≡ sentW (now (s .entry)) sh x n ⌝ }
 {
     let mut j: u64 = 0;
     while j < n {
-        let r = sent_rights(s, sh, x, j);
-        layout::put_item(s, sh, x, j, 3, r);
+        send_entry(s, sh, x, j);
         j += 1;
     }
 }

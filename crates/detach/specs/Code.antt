@@ -2,18 +2,17 @@
 use mathlib.Core.Path.{_≡_, refl, sym, ap, _∙_}
 use mathlib.Core.Bool.{Bool, true, false}
 use mathlib.Core.List.{List, [], _∷_}
-use Prim.Native.Nat.{ℕ, zero, suc, _+_, _-_, _*_, _%_, _^_, _≤_, _<_}
+use Prim.Native.Nat.{ℕ, zero, suc, _+_, _-_, _*_, _%_, _<_}
 use native.Mathlib.Omega.{arith}
 use native.Mathlib.Numerals.{add-one}
 use lib.Dec.{eqb, ltb}
-use borrow.Author.Tests.{eq-eqb, ne-eqb}
 use Rattle.words.specs.Pick.{yes-is, no-is}
 use Rattle.model.specs.State.{till}
 use Rattle.model.specs.Storage.{slotsOf}
 use Rattle.model.specs.Bounds.{slots-max}
 use Rattle.layout.specs.declared.Shape.{Shape}
 use Rattle.layout.specs.Layout.{Mem, head, entry, load, save, Write.at, writes}
-use Rattle.representation.specs.Represents.{frameOf, slotWord}
+use Rattle.representation.specs.Represents.{wordIn, frameOf, slotWord}
 use Rattle.head.specs.declared.TableHead.{TableHead}
 use Rattle.head.specs.Head.{headAt, takenBy, emptyBy, detachedBy, nextEpoch, freeP, detachedP}
 use Rattle.head.specs.Apart.{save-off, load-other}
@@ -23,13 +22,6 @@ use Rattle.storage.specs.Ops.{up, leaveW}
 use Rattle.storage.specs.Late.{unlinkedW, firstWithout, unlinked-keeps, leave-by}
 use Rattle.frames.specs.Ops.{giveFrameW}
 use Rattle.detach.specs.Ops.{firstAfter, linkW, unlinkW, unlinkAll, unlinkPageW, joinDetachedW, detachW, firstEmpty, takePageR}
-
--- `first_after`
-pub after-first : (b n f : ℕ) → b ≡ 0 → n ≡ firstAfter b n f
-after-first b n f e = yes-is (eqb b 0) n n f (eq-eqb b 0 e) refl
-
-pub after-later : (b n f : ℕ) → (b ≡ 0 → ⊥) → f ≡ firstAfter b n f
-after-later b n f e = no-is (eqb b 0) f n f (ne-eqb b 0 e) refl
 
 -- `put_link`
 pub link-none : (ws : List ℕ) (sh : Shape) (b l f v : ℕ) → l ≡ 0 → ws ≡ linkW ws sh b l f v
@@ -42,7 +34,11 @@ unfolding linkW
 link-some ws vs sh b zero f v h q = absurd (h refl)
 link-some ws vs sh b (suc l) f v h q = let y : suc l - 1 ≡ l = omega arith in rw y at q
 
--- the stores of `unlink_slot`
+-- `unlink_slot`: a word of slot k, by the frame that the slot stands in
+pub word-is : (m : Mem) (b k f fr r : ℕ) → fr ≡ frameOf m b k → r ≡ wordIn m fr (k % 64) f → r ≡ slotWord m b k f
+word-is m b k f fr r e a = a ∙ ap (λ (z : ℕ). wordIn m z (k % 64) f) e
+
+-- its stores
 pub unlink-is : (ws : List ℕ) (sh : Shape) (b k : ℕ) (h t : TableHead) (n q x : ℕ) (w₁ w₂ w₃ : List ℕ)
     → h ≡ headAt (load ws sh) b → n ≡ slotWord (load ws sh) b k 2 → q ≡ slotWord (load ws sh) b k 3 → x ≡ firstAfter q n (h .«first_free») → t ≡ takenBy h x
     → w₁ ≡ linkW ws sh b q 2 n → w₂ ≡ linkW w₁ sh b n 3 q → w₃ ≡ writes w₂ sh (freeP b t)

@@ -27,9 +27,10 @@ use Rattle.storage.specs.Ops.{leaveW}
 use Rattle.storage.specs.Take.{leaveV}
 use Rattle.storage.specs.Turns.{Ready, leave-moves}
 use Rattle.storage.specs.Reps.{Held, ready-of}
-use Rattle.frames.specs.Paged.{OnlyPaged, table-paged, paged-write, paged-row, entry-below}
+use Rattle.storage.specs.Kept.{PoolSame}
+use Rattle.storage.specs.Whole.{table-pool}
+use Rattle.frames.specs.Paged.{OnlyPaged, table-paged, paged-write, paged-rows, entry-below}
 use Rattle.frames.specs.Whole.{paged, paged-mark}
-use Rattle.frames.specs.Words.{PoolSame, table-pool}
 use Rattle.frames.specs.Done.{held-given}
 use Rattle.detach.specs.Ops.{unlinkPageW, joinDetachedP, joinDetachedW, detachW}
 use Rattle.detach.specs.Page.{Cleared, page-cleared}
@@ -152,7 +153,7 @@ module _ (ws : List ℕ) (sh : Shape) (s : State) (h : Held ws sh s) (w : Frames
   join-sees = ap (λ (x : Mem). look x b) join-is ∙ join-shows n b p
 
   join-table : TableIs (load ws₃ sh) b (detach till t p)
-  join-table = unsee m₀ (load ws₃ sh) b (detach till t p) (λ x. paged-row b f m₀ (load ws₃ sh) join-only x 0)
+  join-table = unsee m₀ (load ws₃ sh) b (detach till t p) (λ x. paged-rows b f m₀ (load ws₃ sh) join-only .rows x 0)
       (rw join-sees (join-seen m₀ (look n b) t p (left .table) sound att))
 
   join-sound : Sound till (detach till t p) (detach till t p .free)

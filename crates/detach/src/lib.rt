@@ -4,13 +4,22 @@
 
 // A page leaves its table, over the state's words: its slots leave the free order, and its frame is given back.
 ghost use mathlib.Core.Path.{_≡_};
-ghost use Rattle.model.specs.State.{till};
-ghost use Rattle.model.specs.Storage.{slotsOf};
 ghost use Rattle.layout.specs.Layout.{load as loadAt};
+ghost use Rattle.representation.specs.Represents.{wordIn};
 ghost use Rattle.answer.specs.Does.{both};
 ghost use Rattle.storage.specs.Ops.{leaveW};
-ghost use Rattle.detach.specs.Ops.{firstAfter, linkW, unlinkW, unlinkPageW, joinDetachedW, detachW, firstEmpty, takePageR};
+ghost use Rattle.detach.specs.Ops.{linkW, unlinkW, unlinkPageW, joinDetachedW, detachW, firstEmpty, takePageR};
 use layout::Shape;
+
+// Word f of slot j of a frame, given plus 1; 0 where there is none.
+fn word_in(s: &[u64], sh: Shape, fr: u64, j: u64, f: u64) -> u64
+    ensures { λ r. ⌜ r ≡ wordIn (loadAt (now (s .entry)) sh) fr j f ⌝ }
+{
+    if fr == 0 {
+        return 0;
+    }
+    layout::cell_word(s, sh, fr - 1, j, f)
+}
 
 // Word f of the slot of a link; through 0 nothing.
 fn put_link(s: &mut [u64], sh: Shape, b: u64, l: u64, f: u64, v: u64)
@@ -22,44 +31,25 @@ fn put_link(s: &mut [u64], sh: Shape, b: u64, l: u64, f: u64, v: u64)
     storage::put_slot_word(s, sh, b, l - 1, f, v);
 }
 
-// The head of an order after a slot left it: its next, if it was the first.
-fn first_after(before: u64, next: u64, first: u64) -> u64
-    ensures { λ r. ⌜ r ≡ firstAfter before next first ⌝ }
-{
-    if before == 0 { next } else { first }
-}
-
 // Slot k, which is vacant, leaves the free order, wherever it stands in it. Its own words stay.
 fn unlink_slot(s: &mut [u64], sh: Shape, b: u64, k: u64)
     ensures words { λ _. ⌜ now (s .exit) ≡ unlinkW (now (s .entry)) sh b k ⌝ }
 {
     let h = head::load(s, sh, b);
-    let n = storage::slot_word(s, sh, b, k, 2);
-    let q = storage::slot_word(s, sh, b, k, 3);
-    let t = head::take_local(h, first_after(q, n, h.first_free));
+    let fr = storage::frame_link(s, sh, b, k);
+    let n = word_in(s, sh, fr, k % 64, 2);
+    let q = word_in(s, sh, fr, k % 64, 3);
+    let t = head::take_local(h, storage::head_after(q, n, h.first_free));
     put_link(s, sh, b, q, 2, n);
     put_link(s, sh, b, n, 3, q);
     head::store_free(s, sh, b, t);
-}
-
-// "Page 262,143 has 63 slots".
-fn page_slots(p: u64) -> u64
-    ensures { λ r. ⌜ r ≡ slotsOf till p ⌝ }
-{
-    if p < 262143 {
-        return 64;
-    }
-    if p == 262143 {
-        return 63;
-    }
-    0
 }
 
 // The slots of page p, all vacant, leave the free order.
 fn unlink_page(s: &mut [u64], sh: Shape, b: u64, p: u64)
     ensures words { λ _. ⌜ now (s .exit) ≡ unlinkPageW (now (s .entry)) sh b p ⌝ }
 {
-    let n = page_slots(p);
+    let n = head::slots_of(p) as u64;
     let mut j: u64 = 0;
     while j < n {
         unlink_slot(s, sh, b, p * 64 + j);

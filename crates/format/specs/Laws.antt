@@ -117,13 +117,21 @@ pub kinds-fit : (every (λ (bit kind : ℕ). leb kind 4) 0 fieldKinds && eqb (le
 unfolding fieldKinds
 kinds-fit = refl
 
--- a table's entry, where its number is known
-pub entry : (xs : List ℕ) (i k r : ℕ) → i ≡ k → r ≡ getD xs k 0 → r ≡ getD xs i 0
-entry xs i k r e p = p ∙ ap (λ (n : ℕ). getD xs n 0) (sym e)
+-- a number that is none of those below n, as a `match` leaves it that named them one by one
+abbrev pub Left : Type 0 → ℕ → ℕ → Type 0
+Left X i zero = X
+Left X i (suc n) = Left X i n × (i ≡ n → ⊥)
 
--- a number that is at least n, and is not n
-pub beyond : (n i : ℕ) → n ≤ i → (i ≡ n → ⊥) → suc n ≤ i
-beyond n i h f = omega arith
+pub left-past : (X : Type 0) (i n : ℕ) → Left X i n → n ≤ i
+left-past X i zero h = omega arith
+left-past X i (suc n) h = beyond n i (left-past X i n (h .0)) (h .1)
+  where
+    beyond : (n i : ℕ) → n ≤ i → (i ≡ n → ⊥) → suc n ≤ i
+    beyond n i h f = omega arith
+
+-- so a table of n entries has none at it
+pub none-at : (X : Type 0) (xs : List ℕ) (i : ℕ) → Left X i (length xs) → 0 ≡ getD xs i 0
+none-at X xs i h = sym (List·getD-eq-default xs 0 (left-past X i (length xs) h))
 
 -- what a kind takes, where the kind is known
 pub kind-fits : (kind k word : ℕ) (r : Bool) → kind ≡ k → r ≡ fieldFits k word → r ≡ fieldFits kind word

@@ -37,3 +37,6 @@ pub const FIELD_FORBIDDEN_KIND: u64 = 17;
 
 // How many fields there are.
 pub const FIELDS: u64 = 18;
+
+// A bit past the last, which names no field: what is read by it is 0.
+pub const NO_FIELD: u64 = FIELDS;

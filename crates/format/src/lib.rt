@@ -1,14 +1,14 @@
 // The fixed tables of request records: which fields each op must and may carry, and which words a field takes.
 ghost use mathlib.Core.Path.{_≡_};
 ghost use lib.ListN.{getD};
-ghost use Rattle.format.specs.Format.{musts, mays, fieldKinds, fieldFits, knownOp, transferItemMust, transferItemMay, parcelItemMust, parcelItemMay, fieldCount, answerWords};
+ghost use Rattle.format.specs.Format.{musts, mays, fieldFits, knownOp, transferItemMust, transferItemMay, parcelItemMust, parcelItemMay, fieldCount, answerWords};
 
 pub mod field;
 pub mod op;
 pub mod refusal;
 
-// The fields that each op must carry, as a bit map, at the op's number.
-pub const MUST: [u16; 25] = [
+// The fields that each op must carry, as a bit map, at the op's number. It is read at constant indices alone, so that it takes no memory at run time.
+pub const MUST: [u64; 25] = [
     0,
     101,
     51,
@@ -37,7 +37,7 @@ pub const MUST: [u16; 25] = [
 ];
 
 // The fields that each op may carry besides.
-pub const MAY: [u32; 25] = [
+pub const MAY: [u64; 25] = [
     0,
     0,
     0,
@@ -97,41 +97,66 @@ pub const ANSWER_WORDS: u64 = 72;
 pub fn must(op: u64) -> u64
     ensures { λ r. ⌜ r ≡ getD musts op 0 ⌝ }
 {
-    let i = op as usize;
-    if i < 25 { MUST[i] as u64 } else { 0 }
+    match op {
+        0 => MUST[0],
+        1 => MUST[1],
+        2 => MUST[2],
+        3 => MUST[3],
+        4 => MUST[4],
+        5 => MUST[5],
+        6 => MUST[6],
+        7 => MUST[7],
+        8 => MUST[8],
+        9 => MUST[9],
+        10 => MUST[10],
+        11 => MUST[11],
+        12 => MUST[12],
+        13 => MUST[13],
+        14 => MUST[14],
+        15 => MUST[15],
+        16 => MUST[16],
+        17 => MUST[17],
+        18 => MUST[18],
+        19 => MUST[19],
+        20 => MUST[20],
+        21 => MUST[21],
+        22 => MUST[22],
+        23 => MUST[23],
+        24 => MUST[24],
+        _ => 0,
+    }
 }
 
 // The fields that an op may carry besides, as a bit map; 0 for an unknown op. Only a transfer's preparation has any.
 pub fn may(op: u64) -> u64
     ensures { λ r. ⌜ r ≡ getD mays op 0 ⌝ }
 {
-    let i = op as usize;
-    if i < 25 { MAY[i] as u64 } else { 0 }
-}
-
-// The kind of the field of a bit; 0 where there is no such field.
-pub fn field_kind(bit: u64) -> u64
-    ensures { λ r. ⌜ r ≡ getD fieldKinds bit 0 ⌝ }
-{
-    match bit {
-        0 => 4,
-        1 => 0,
-        2 => 0,
-        3 => 0,
-        4 => 0,
-        5 => 0,
-        6 => 1,
-        7 => 0,
-        8 => 0,
-        9 => 1,
-        10 => 2,
-        11 => 0,
-        12 => 3,
-        13 => 0,
-        14 => 1,
-        15 => 1,
-        16 => 2,
-        17 => 1,
+    match op {
+        0 => MAY[0],
+        1 => MAY[1],
+        2 => MAY[2],
+        3 => MAY[3],
+        4 => MAY[4],
+        5 => MAY[5],
+        6 => MAY[6],
+        7 => MAY[7],
+        8 => MAY[8],
+        9 => MAY[9],
+        10 => MAY[10],
+        11 => MAY[11],
+        12 => MAY[12],
+        13 => MAY[13],
+        14 => MAY[14],
+        15 => MAY[15],
+        16 => MAY[16],
+        17 => MAY[17],
+        18 => MAY[18],
+        19 => MAY[19],
+        20 => MAY[20],
+        21 => MAY[21],
+        22 => MAY[22],
+        23 => MAY[23],
+        24 => MAY[24],
         _ => 0,
     }
 }

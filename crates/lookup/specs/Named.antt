@@ -10,8 +10,9 @@ use Rattle.codec.specs.declared.Decoded.{Decoded}
 use Rattle.codec.specs.declared.Decoded.the-variants.{At, Invalid as NoSlot}
 use Rattle.codec.specs.Codec.{decodes, slotIn as slotNamed, generationIn, decodeOf}
 use Rattle.model.specs.State.{Handle, Slot.occupied, Lifecycle.active, Table, State, isActive, isOccupied}
-use Rattle.model.specs.Lookup.{View as Named, viewSlot, lookup, onView, onHandle}
-use Rattle.model.specs.Decision.{Decision, Decision.refusal, unless_refuse_then_, onTable}
+use Rattle.model.specs.Lookup.{View as Named, viewSlot, lookup, onView}
+pub use Rattle.model.specs.Decided.{onActive, onHandle}
+use Rattle.model.specs.Decision.{Decision, Decision.refusal, unless_refuse_then_}
 use Rattle.layout.specs.declared.Shape.{Shape}
 use Rattle.layout.specs.Layout.{Mem, head, cell}
 use Rattle.representation.specs.Represents.{wordIn, frameOf, slotWord, tagged, slotFrom, slotIn, TableIs, Represents}
@@ -110,10 +111,6 @@ module _ (m : Mem) (b : ℕ) (t : Table) (i : TableIs m b t) where
 
 -- ---- openings
 
--- "16 TableRetired: not active"
-abbrev pub onActive : State → ℕ → (Table → Decision) → Decision
-onActive s b f = onTable s b λ t. unless isActive (t .life) refuse 16 then f t
-
 pub record Active (s : State) (b : ℕ) : Type 0 where
   pub known : b < s .tableCount
   pub active : isActive (s .tables b .life) ≡ true
@@ -157,12 +154,12 @@ module _ (sh : Shape) (m : Mem) (s : State) (i : Represents sh m s) (b : ℕ) wh
     unfolding openOf
     open-refused-is n e f = bool (eqb (tableRefusal m sh b) 0)
         (λ p. let a = table-open (eqb-true (tableRefusal m sh b) 0 p) in
-        active-on s b a (λ t. onView (lookup t v) (f t)) ∙ ap (λ (x : Named). onView x (f (s .tables b))) (sym (view-at a)) ∙ viewed (viewOf m b v) (rw p at e))
+        active-on s b a (λ t. onView (lookup t v) 2 3 (f t)) ∙ ap (λ (x : Named). onView x 2 3 (f (s .tables b))) (sym (view-at a)) ∙ viewed (viewOf m b v) (rw p at e))
         (λ p. let z : Refused (tableRefusal m sh b) ≡ Refused n = rw p at e in
         let y : tableRefusal m sh b ≡ n = cc in
-        table-refused n y (λ q. eqb-false (tableRefusal m sh b) 0 p (y ∙ q)) (λ t. onView (lookup t v) (f t)))
+        table-refused n y (λ q. eqb-false (tableRefusal m sh b) 0 p (y ∙ q)) (λ t. onView (lookup t v) 2 3 (f t)))
       where
-        viewed : (x : View) → viewOpened x ≡ Refused n → onView (named x) (f (s .tables b)) ≡ refusal n
+        viewed : (x : View) → viewOpened x ≡ Refused n → onView (named x) 2 3 (f (s .tables b)) ≡ refusal n
         viewed Invalid z = let y : 2 ≡ n = cc in ap refusal y
         viewed Busy z = let y : 3 ≡ n = cc in ap refusal y
         viewed (Holds h) z = let y : _≡_ {A = ℕ} 0 1 = cc in absurd (omega arith)
@@ -175,7 +172,7 @@ module _ (sh : Shape) (m : Mem) (s : State) (i : Represents sh m s) (b : ℕ) wh
         record {
           table = a;
           slot = view-found m b (s .tables b) (i .tables b (a .known)) v h y;
-          handle = λ f. active-on s b a (λ t. onView (lookup t v) (f t)) ∙ ap (λ (x : Named). onView x (f (s .tables b))) (sym (view-at a) ∙ ap named y);
+          handle = λ f. active-on s b a (λ t. onView (lookup t v) 2 3 (f t)) ∙ ap (λ (x : Named). onView x 2 3 (f (s .tables b))) (sym (view-at a) ∙ ap named y);
         })
         (λ p. let z : Refused (tableRefusal m sh b) ≡ Found h = rw p at e in let y : _≡_ {A = ℕ} 0 1 = cc in absurd (omega arith))
       where

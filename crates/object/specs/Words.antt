@@ -5,7 +5,7 @@ use Prim.Native.Nat.{ℕ}
 use Rattle.layout.specs.declared.Shape.{Shape}
 use Rattle.layout.specs.Layout.{Mem, object, load, Write, Write.at, writes}
 use Rattle.object.specs.declared.ObjectRecord.{ObjectRecord}
-use Rattle.object.specs.Record.{activatedBy, raisedBy, loweredBy, retiredBy}
+use Rattle.object.specs.Record.{noRecord, withCount, activatedBy, raisedBy, loweredBy, retiredBy}
 
 -- the record of object o
 unfoldable pub recordAt : Mem → ℕ → ObjectRecord
@@ -19,6 +19,14 @@ recordAt m o = record {
   count = m (object o 6);
   limit = m (object o 7);
 }
+
+-- what a step reads of it, in the record of no object
+unfoldable pub standingAt : Mem → ℕ → ObjectRecord
+standingAt m o = withCount noRecord (m (object o 5)) (m (object o 6))
+
+pub standing-is : (m : Mem) (o g n : ℕ) (x y : ObjectRecord) → g ≡ m (object o 5) → n ≡ m (object o 6) → x ≡ noRecord → y ≡ withCount x g n → y ≡ standingAt m o
+unfolding standingAt
+standing-is m o g n x y a b e d = d ∙ rw (e, a, b)
 
 -- its stage and its count, the two words that a step writes
 abbrev pub recordP : ℕ → ObjectRecord → List Write
@@ -40,8 +48,9 @@ lowerW = stepW loweredBy
 abbrev pub retireW : List ℕ → Shape → ℕ → List ℕ
 retireW = stepW retiredBy
 
--- a record read, stepped and written back
+-- stage and count read, stepped and written back, of a step that looks at nothing else
 pub step-is : (f : ObjectRecord → ObjectRecord) (ws : List ℕ) (sh : Shape) (o : ℕ) (x y : ObjectRecord) (vs : List ℕ)
-    → x ≡ recordAt (load ws sh) o → y ≡ f x → vs ≡ writes ws sh (recordP o y) → vs ≡ stepW f ws sh o
+    → recordP o (f (standingAt (load ws sh) o)) ≡ recordP o (f (recordAt (load ws sh) o))
+    → x ≡ standingAt (load ws sh) o → y ≡ f x → vs ≡ writes ws sh (recordP o y) → vs ≡ stepW f ws sh o
 unfolding stepW
-step-is f ws sh o x y vs a b c = c ∙ ap (λ (z : ObjectRecord). writes ws sh (recordP o z)) (b ∙ ap f a)
+step-is f ws sh o x y vs e a b c = c ∙ ap (λ (z : ObjectRecord). writes ws sh (recordP o z)) (b ∙ ap f a) ∙ ap (writes ws sh) e

@@ -1,8 +1,8 @@
 // Objects: records by value, a lent list of them that is updated by number, and the same over the state's words.
 ghost use mathlib.Core.Path.{_≡_};
 ghost use Rattle.layout.specs.Layout.{load as loadAt, writes};
-ghost use Rattle.object.specs.Record.{withCount, activatedBy, raisedBy, loweredBy, retiredBy, countIn, listBy, answerBy};
-ghost use Rattle.object.specs.Words.{recordAt, recordP, activateW, raiseW, lowerW, retireW};
+ghost use Rattle.object.specs.Record.{noRecord, withCount, activatedBy, raisedBy, loweredBy, retiredBy, countIn, listBy, answerBy};
+ghost use Rattle.object.specs.Words.{recordAt, standingAt, recordP, activateW, raiseW, lowerW, retireW};
 use codec::Koid;
 use layout::Shape;
 
@@ -24,6 +24,22 @@ pub const STILL_NEW: u64 = 0;
 pub const NOW_ACTIVE: u64 = 1;
 
 pub const NOW_RETIRED: u64 = 2;
+
+// The record of no object.
+fn no_record() -> ObjectRecord
+    ensures { λ r. ⌜ r ≡ noRecord ⌝ }
+{
+    ObjectRecord {
+        koid: Koid(0),
+        kind: 0,
+        class: 0,
+        supported: 0,
+        exportable: 0,
+        stage: STILL_NEW,
+        count: 0,
+        limit: 0,
+    }
+}
 
 // The record with another stage and count.
 fn with_count(x: ObjectRecord, stage: u64, count: u64) -> ObjectRecord
@@ -210,6 +226,15 @@ pub fn read_object(s: &[u64], sh: Shape, o: u64) -> ObjectRecord
     }
 }
 
+// What a step reads of object o, its stage and its count, in the record of no object: the words that no step looks at are not loaded.
+fn standing_of(s: &[u64], sh: Shape, o: u64) -> ObjectRecord
+    ensures { λ r. ⌜ r ≡ standingAt (loadAt (now (s .entry)) sh) o ⌝ }
+{
+    let stage = layout::object_word(s, sh, o, 5);
+    let count = layout::object_word(s, sh, o, 6);
+    with_count(no_record(), stage, count)
+}
+
 // Stores what a step changes: the stage and the count.
 fn write_object(s: &mut [u64], sh: Shape, o: u64, x: ObjectRecord)
     ensures { λ _. ⌜ now (s .exit) ≡ writes (now (s .entry)) sh (recordP o x) ⌝ }
@@ -222,7 +247,7 @@ fn write_object(s: &mut [u64], sh: Shape, o: u64, x: ObjectRecord)
 pub fn activate_object(s: &mut [u64], sh: Shape, o: u64)
     ensures words { λ _. ⌜ now (s .exit) ≡ activateW (now (s .entry)) sh o ⌝ }
 {
-    let x = read_object(s, sh, o);
+    let x = standing_of(s, sh, o);
     let step = activate_local(x);
     let y = step.object;
     write_object(s, sh, o, y);
@@ -232,7 +257,7 @@ pub fn activate_object(s: &mut [u64], sh: Shape, o: u64)
 pub fn raise_object(s: &mut [u64], sh: Shape, o: u64)
     ensures words { λ _. ⌜ now (s .exit) ≡ raiseW (now (s .entry)) sh o ⌝ }
 {
-    let x = read_object(s, sh, o);
+    let x = standing_of(s, sh, o);
     let step = raise_local(x);
     let y = step.object;
     write_object(s, sh, o, y);
@@ -242,7 +267,7 @@ pub fn raise_object(s: &mut [u64], sh: Shape, o: u64)
 pub fn lower_object(s: &mut [u64], sh: Shape, o: u64)
     ensures words { λ _. ⌜ now (s .exit) ≡ lowerW (now (s .entry)) sh o ⌝ }
 {
-    let x = read_object(s, sh, o);
+    let x = standing_of(s, sh, o);
     let step = lower_local(x);
     let y = step.object;
     write_object(s, sh, o, y);
@@ -252,7 +277,7 @@ pub fn lower_object(s: &mut [u64], sh: Shape, o: u64)
 pub fn retire_object(s: &mut [u64], sh: Shape, o: u64)
     ensures words { λ _. ⌜ now (s .exit) ≡ retireW (now (s .entry)) sh o ⌝ }
 {
-    let x = read_object(s, sh, o);
+    let x = standing_of(s, sh, o);
     let step = retire_local(x);
     let y = step.object;
     write_object(s, sh, o, y);

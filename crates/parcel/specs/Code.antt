@@ -9,17 +9,17 @@ use Rattle.words.specs.Pick.{yes-is, no-is}
 use Rattle.authority.specs.Rights.{contains, duplicateRight}
 use Rattle.model.specs.State.{knownFlags, lastId}
 use Rattle.layout.specs.declared.Shape.{Shape}
-use Rattle.layout.specs.Layout.{Mem, root, row, item, load}
+use Rattle.layout.specs.Layout.{Mem, root, object, row, item, load}
 use Rattle.object.specs.declared.ObjectRecord.{ObjectRecord}
 use Rattle.object.specs.Words.{recordAt, activateW, raiseW, lowerW, retireW}
-use Rattle.book.specs.Ops.{rowLink, spare, openW, handleW, closeW}
+use Rattle.book.specs.Ops.{spare, openW, handleW, closeW}
 use Rattle.answer.specs.Does.{both, answered}
 use Rattle.lookup.specs.declared.PreparedHandle.{PreparedHandle}
 use Rattle.lookup.specs.declared.Opened.{Opened}
 use Rattle.lookup.specs.declared.Opened.the-variants.{Refused, Handle as Found}
 use Rattle.lookup.specs.View.{tableRefusal, openOf}
 use Rattle.lookup.specs.Code.{on-refused}
-use Rattle.parcel.specs.Ops.{retireR, rowLeft, idRefusal, parcelW, activationRefusal, rowRefusal, newRefusal, newObjectR, copyRefusal, copiedR, duplicateR, parcelLink, loweredW, releasedW, releaseR}
+use Rattle.parcel.specs.Ops.{retireR, rowLeft, idRefusal, parcelW, activationRefusal, rowRefusal, newRefusal, newObjectR, raiseRefusal, copyRefusal, copiedR, duplicateR, loweredW, releasedW}
 
 -- `retire_object`
 module _ (ws ws′ os os′ : List ℕ) (sh : Shape) (base o : ℕ) (t : Bool) (e : t ≡ ltb o (sh .objects)) where
@@ -63,14 +63,14 @@ module _ (x : ObjectRecord) (t₁ : Bool) (e₁ : t₁ ≡ eqb (x .exportable) 0
       unfolding activationRefusal
       activation-active y = no-is _ _ _ _ (sym e₁ ∙ n₁) (no-is _ _ _ _ (sym e₂ ∙ n₂) (yes-is _ _ _ _ (sym e₃ ∙ y) refl))
 
-      module _ (n₃ : t₃ ≡ false) (t₄ : Bool) (e₄ : t₄ ≡ ltb (x .count) (x .limit)) where
-        pub activation-free : t₄ ≡ true → 0 ≡ activationRefusal x
+      module _ (n₃ : t₃ ≡ false) (t₄ : Bool) (e₄ : t₄ ≡ eqb (x .count) (x .limit)) where
+        pub activation-full : t₄ ≡ true → 11 ≡ activationRefusal x
         unfolding activationRefusal
-        activation-free y = no-is _ _ _ _ (sym e₁ ∙ n₁) (no-is _ _ _ _ (sym e₂ ∙ n₂) (no-is _ _ _ _ (sym e₃ ∙ n₃) (yes-is _ _ _ _ (sym e₄ ∙ y) refl)))
+        activation-full y = no-is _ _ _ _ (sym e₁ ∙ n₁) (no-is _ _ _ _ (sym e₂ ∙ n₂) (no-is _ _ _ _ (sym e₃ ∙ n₃) (yes-is _ _ _ _ (sym e₄ ∙ y) refl)))
 
-        pub activation-full : t₄ ≡ false → 11 ≡ activationRefusal x
+        pub activation-free : t₄ ≡ false → 0 ≡ activationRefusal x
         unfolding activationRefusal
-        activation-full y = no-is _ _ _ _ (sym e₁ ∙ n₁) (no-is _ _ _ _ (sym e₂ ∙ n₂) (no-is _ _ _ _ (sym e₃ ∙ n₃) (no-is _ _ _ _ (sym e₄ ∙ y) refl)))
+        activation-free y = no-is _ _ _ _ (sym e₁ ∙ n₁) (no-is _ _ _ _ (sym e₂ ∙ n₂) (no-is _ _ _ _ (sym e₃ ∙ n₃) (no-is _ _ _ _ (sym e₄ ∙ y) refl)))
 
 -- `row_refusal`
 module _ (m : Mem) (x : ObjectRecord) (n : ℕ) (t : Bool) (e : n ≡ activationRefusal x) (q : t ≡ eqb n 0) where
@@ -113,10 +113,13 @@ module _ (m : Mem) (sh : Shape) (o r f : ℕ) (t₁ : Bool) (e₁ : t₁ ≡ ltb
         unfolding newRefusal
         new-row n y i = yes-is _ _ _ _ (sym e₁ ∙ y₁) (yes-is _ _ _ _ (sym e₂ ∙ y₂) (yes-is _ _ _ _ (supports ∙ y₃) (yes-is _ _ _ _ (sym e₄ ∙ y) (i ∙ ap (rowRefusal m) d))))
 
--- `open_parcel`
-pub parcel-is : (ws w₁ w₂ : List ℕ) (sh : Shape) (x o r f : ℕ) → x ≡ spare (load ws sh) → w₁ ≡ handleW ws sh x 0 o r f → w₂ ≡ openW w₁ sh 3 0 1 → w₂ ≡ parcelW ws sh o r f
+-- `put_parcel`, and the row that opens over it
+pub put-is : (ws w₁ : List ℕ) (sh : Shape) (x o r f : ℕ) → x ≡ spare (load ws sh) → w₁ ≡ handleW ws sh x 0 o r f → w₁ ≡ handleW ws sh (spare (load ws sh)) 0 o r f
+put-is ws w₁ sh x o r f e a = rw (a, e)
+
+pub parcel-is : (ws w₁ w₂ : List ℕ) (sh : Shape) (o r f : ℕ) → w₁ ≡ handleW ws sh (spare (load ws sh)) 0 o r f → w₂ ≡ openW w₁ sh 3 0 1 → w₂ ≡ parcelW ws sh o r f
 unfolding parcelW
-parcel-is ws w₁ w₂ sh x o r f e a₁ a₂ = rw (a₂, a₁, e)
+parcel-is ws w₁ w₂ sh o r f a₁ a₂ = rw (a₂, a₁)
 
 -- `new_object`
 module _ (ws os os′ : List ℕ) (sh : Shape) (base o r f n : ℕ) (t : Bool) (e : n ≡ newRefusal (load ws sh) sh o r f) (q : t ≡ eqb n 0) where
@@ -132,6 +135,29 @@ module _ (ws os os′ : List ℕ) (sh : Shape) (base o r f n : ℕ) (t : Bool) (
   unfolding newObjectR
   new-done w₁ w₂ id y i a₁ a₂ a₃ = yes-is _ _ _ _ (new-tested ∙ y) (rw (a₂, a₁, a₃, i))
 
+-- `raise_refusal`
+module _ (m : Mem) (o stage : ℕ) (d : stage ≡ m (object o 5)) (t₁ : Bool) (e₁ : t₁ ≡ eqb stage 2) where
+  stage-tells : eqb (recordAt m o .stage) 2 ≡ t₁
+  unfolding recordAt
+  stage-tells = sym (e₁ ∙ ap (λ (z : ℕ). eqb z 2) d)
+
+  pub raise-retired : t₁ ≡ true → 9 ≡ raiseRefusal m o
+  unfolding raiseRefusal
+  raise-retired y = yes-is _ _ _ _ (stage-tells ∙ y) refl
+
+  module _ (n₁ : t₁ ≡ false) (count limit : ℕ) (f : count ≡ m (object o 6)) (g : limit ≡ m (object o 7)) (t₂ : Bool) (e₂ : t₂ ≡ eqb count limit) where
+    count-tells : eqb (recordAt m o .count) (recordAt m o .limit) ≡ t₂
+    unfolding recordAt
+    count-tells = sym (e₂ ∙ ap (λ (z : ℕ). eqb z limit) f ∙ ap (eqb (m (object o 6))) g)
+
+    pub raise-full : t₂ ≡ true → 11 ≡ raiseRefusal m o
+    unfolding raiseRefusal
+    raise-full y = no-is _ _ _ _ (stage-tells ∙ n₁) (yes-is _ _ _ _ (count-tells ∙ y) refl)
+
+    pub raise-free : t₂ ≡ false → 0 ≡ raiseRefusal m o
+    unfolding raiseRefusal
+    raise-free y = no-is _ _ _ _ (stage-tells ∙ n₁) (no-is _ _ _ _ (count-tells ∙ y) refl)
+
 -- `copy_refusal`
 module _ (m : Mem) (h : PreparedHandle) (r : ℕ) (t₁ : Bool) (e₁ : t₁ ≡ contains (h .rights) duplicateRight) where
   pub copy-forbidden : t₁ ≡ false → 5 ≡ copyRefusal m h r
@@ -143,25 +169,17 @@ module _ (m : Mem) (h : PreparedHandle) (r : ℕ) (t₁ : Bool) (e₁ : t₁ ≡
     unfolding copyRefusal
     copy-rights n = yes-is _ _ _ _ (sym e₁ ∙ y₁) (no-is _ _ _ _ (sym e₂ ∙ n) refl)
 
-    module _ (y₂ : t₂ ≡ true) (x : ObjectRecord) (d : x ≡ recordAt m (h .object)) (t₃ : Bool) (e₃ : t₃ ≡ eqb (x .stage) 2) where
-      copy-stage : eqb (recordAt m (h .object) .stage) 2 ≡ t₃
-      copy-stage = sym (e₃ ∙ ap (λ (z : ObjectRecord). eqb (z .stage) 2) d)
+    module _ (y₂ : t₂ ≡ true) (n : ℕ) (d : n ≡ raiseRefusal m (h .object)) (t₃ : Bool) (e₃ : t₃ ≡ eqb n 0) where
+      copy-raised : eqb (raiseRefusal m (h .object)) 0 ≡ t₃
+      copy-raised = sym (e₃ ∙ ap (λ (k : ℕ). eqb k 0) d)
 
-      pub copy-retired : t₃ ≡ true → 9 ≡ copyRefusal m h r
+      pub copy-id : (k : ℕ) → t₃ ≡ true → k ≡ idRefusal m → k ≡ copyRefusal m h r
       unfolding copyRefusal
-      copy-retired y = yes-is _ _ _ _ (sym e₁ ∙ y₁) (yes-is _ _ _ _ (sym e₂ ∙ y₂) (yes-is _ _ _ _ (copy-stage ∙ y) refl))
+      copy-id k y i = yes-is _ _ _ _ (sym e₁ ∙ y₁) (yes-is _ _ _ _ (sym e₂ ∙ y₂) (yes-is _ _ _ _ (copy-raised ∙ y) i))
 
-      module _ (n₃ : t₃ ≡ false) (t₄ : Bool) (e₄ : t₄ ≡ eqb (x .count) (x .limit)) where
-        copy-count : eqb (recordAt m (h .object) .count) (recordAt m (h .object) .limit) ≡ t₄
-        copy-count = sym (e₄ ∙ ap (λ (z : ObjectRecord). eqb (z .count) (z .limit)) d)
-
-        pub copy-full : t₄ ≡ true → 11 ≡ copyRefusal m h r
-        unfolding copyRefusal
-        copy-full y = yes-is _ _ _ _ (sym e₁ ∙ y₁) (yes-is _ _ _ _ (sym e₂ ∙ y₂) (no-is _ _ _ _ (copy-stage ∙ n₃) (yes-is _ _ _ _ (copy-count ∙ y) refl)))
-
-        pub copy-id : (n : ℕ) → t₄ ≡ false → n ≡ idRefusal m → n ≡ copyRefusal m h r
-        unfolding copyRefusal
-        copy-id n y i = yes-is _ _ _ _ (sym e₁ ∙ y₁) (yes-is _ _ _ _ (sym e₂ ∙ y₂) (no-is _ _ _ _ (copy-stage ∙ n₃) (no-is _ _ _ _ (copy-count ∙ y) i)))
+      pub copy-count : t₃ ≡ false → n ≡ copyRefusal m h r
+      unfolding copyRefusal
+      copy-count y = yes-is _ _ _ _ (sym e₁ ∙ y₁) (yes-is _ _ _ _ (sym e₂ ∙ y₂) (no-is _ _ _ _ (copy-raised ∙ y) d))
 
 -- `duplicate_handle`
 module _ (ws os os′ : List ℕ) (sh : Shape) (base r : ℕ) (h : PreparedHandle) (n : ℕ) (t : Bool) (e : n ≡ copyRefusal (load ws sh) h r) (q : t ≡ eqb n 0) where
@@ -200,19 +218,6 @@ module _ (ws os : List ℕ) (sh : Shape) (base b v r n : ℕ) (t : Bool) (e : n 
       unfolding duplicateR
       duplicate-found ws′ os′ h p a = yes-is _ _ _ _ (table-tested ∙ y) (yes-is _ _ _ _ (sym e₂ ∙ y₂) (rw (sym e₃ ∙ p) a))
 
--- `parcel_of`
-module _ (m : Mem) (sh : Shape) (i l x w : ℕ) (t : Bool) (e₁ : l ≡ rowLink m sh i) (e₂ : x ≡ l - 1) (e₃ : w ≡ m (row x 1)) (e₄ : t ≡ eqb w 3) where
-  a-parcel : eqb (m (row (rowLink m sh i - 1) 1)) 3 ≡ t
-  a-parcel = rw (e₄, e₃, e₂, e₁)
-
-  pub parcel-yes : t ≡ true → l ≡ parcelLink m sh i
-  unfolding parcelLink
-  parcel-yes y = yes-is _ _ _ _ (a-parcel ∙ y) e₁
-
-  pub parcel-no : t ≡ false → 0 ≡ parcelLink m sh i
-  unfolding parcelLink
-  parcel-no y = no-is _ _ _ _ (a-parcel ∙ y) refl
-
 -- `lower_items`
 pub lowered-start : (ws : List ℕ) (sh : Shape) (x n : ℕ) → loweredW ws sh x 0 n ≡ loweredW ws sh x 0 (n - 0)
 lowered-start ws sh x n = let z : n - 0 ≡ n = omega arith in rw z
@@ -233,16 +238,3 @@ lowered-end ws us sh x n i l inv = let z : n - i ≡ 0 = omega arith in sym (inv
 pub released-is : (ws w₁ w₂ : List ℕ) (sh : Shape) (x n : ℕ) → n ≡ load ws sh (row x 3) → w₁ ≡ loweredW ws sh x 0 n → w₂ ≡ closeW w₁ sh x → w₂ ≡ releasedW ws sh x
 unfolding releasedW
 released-is ws w₁ w₂ sh x n e a₁ a₂ = rw (a₂, a₁, e)
-
--- `release_parcel`
-module _ (ws os os′ : List ℕ) (sh : Shape) (base i l : ℕ) (t : Bool) (e : l ≡ parcelLink (load ws sh) sh i) (q : t ≡ eqb l 0) where
-  none-there : eqb (parcelLink (load ws sh) sh i) 0 ≡ t
-  none-there = rw (q, e)
-
-  pub release-none : t ≡ true → os′ ≡ answered os base (18 ∷ []) → both ws os′ ≡ releaseR ws os sh base i
-  unfolding releaseR
-  release-none y a = yes-is _ _ _ _ (none-there ∙ y) (ap (both ws) a)
-
-  pub release-done : (ws′ : List ℕ) (x : ℕ) → t ≡ false → x ≡ l - 1 → ws′ ≡ releasedW ws sh x → os′ ≡ answered os base (0 ∷ []) → both ws′ os′ ≡ releaseR ws os sh base i
-  unfolding releaseR
-  release-done ws′ x y d a c = no-is _ _ _ _ (none-there ∙ y) (rw (a, c, d, e))

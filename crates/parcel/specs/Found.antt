@@ -2,11 +2,8 @@
 use mathlib.Core.Path.{_≡_, refl, sym, ap, _∙_}
 use mathlib.Core.List.{List}
 use mathlib.Core.Option.{none, some}
-use Prim.Native.Nat.{ℕ, zero, suc, _-_}
+use Prim.Native.Nat.{ℕ, zero, suc}
 use native.Mathlib.Omega.{arith}
-use lib.Dec.{eqb}
-use borrow.Author.Tests.{eqb-true, eq-eqb}
-use Rattle.words.specs.Pick.{bool}
 use Rattle.model.specs.State.{Handle, Body, Body.reservation, Body.claim, Body.parcel, State}
 use Rattle.model.specs.Book.{find}
 use Rattle.model.specs.Decision.{asParcel}
@@ -16,7 +13,7 @@ use Rattle.representation.specs.Represents.{BodyIs}
 use Rattle.storage.specs.Reps.{Held}
 use Rattle.book.specs.Lists.{ids-apart, nothing}
 use Rattle.book.specs.Ops.{rowLink}
-use Rattle.book.specs.Find.{Fits, RowAt, row-found, row-none, at-find}
+use Rattle.book.specs.Find.{Fits, RowAt, row-found, row-none, at-find, kind-none, kind-some}
 use Rattle.parcel.specs.Ops.{parcelLink}
 
 -- word 1 of a row tells a parcel
@@ -36,35 +33,18 @@ pub record Loose (m : Mem) (s : State) (x i : ℕ) (hs : List Handle) : Type 0 w
   pub row : RowAt m s x i (parcel hs)
 
 module _ (ws : List ℕ) (sh : Shape) (s : State) (h : Held ws sh s) (f : Fits s) (i : ℕ) where
-  by-row : (x : ℕ) → rowLink (load ws sh) sh i ≡ suc x → (y : Body) × (find i (s .book .rows) ≡ some y) × RowAt (load ws sh) s x i y
-  by-row x e = row-found sh (load ws sh) s (h .reps .memory) f (h .reps .shaped .limits .few-rows) i x e
-
   -- "unknown .. open row of the kind named"
   pub parcel-none : parcelLink (load ws sh) sh i ≡ 0 → asParcel (find i (s .book .rows)) ≡ none
-  unfolding parcelLink
-  parcel-none e = go (rowLink (load ws sh) sh i) refl e
-    where
-      go : (l : ℕ) → rowLink (load ws sh) sh i ≡ l → parcelLink (load ws sh) sh i ≡ 0 → asParcel (find i (s .book .rows)) ≡ none
-      go zero q d = ap asParcel (row-none sh (load ws sh) s (h .reps .memory) f i q)
-      go (suc x) q d =
-          let p = by-row x q in
-          let z : rowLink (load ws sh) sh i - 1 ≡ x = omega arith in
-          ap asParcel (p .1) ∙ no-parcel (load ws sh) x (p .0) (p .2 .body) (λ k.
-          let g : rowLink (load ws sh) sh i ≡ 0 = rw (z, k) at d in omega arith)
+  parcel-none e = kind-none sh (load ws sh) s (h .reps .memory) f (h .reps .shaped .limits .few-rows) 3 i (λ o. asParcel o ≡ none) refl (no-parcel (load ws sh)) e
 
   loose-of : (x : ℕ) (y : Body) (hs : List Handle) → find i (s .book .rows) ≡ some y → RowAt (load ws sh) s x i y → y ≡ parcel hs → (hs : List Handle) × Loose (load ws sh) s x i hs
   loose-of x y hs d a e = (hs, record { found = d ∙ ap some e; row = rw e at a })
 
   pub parcel-some : (x : ℕ) → parcelLink (load ws sh) sh i ≡ suc x → (hs : List Handle) × Loose (load ws sh) s x i hs
-  unfolding parcelLink
-  parcel-some x e = bool (eqb (load ws sh (row (rowLink (load ws sh) sh i - 1) 1)) 3)
-      (λ q. let l : rowLink (load ws sh) sh i ≡ suc x = rw q at e in
-      let p = by-row x l in
-      let z : rowLink (load ws sh) sh i - 1 ≡ x = omega arith in
-      let k : load ws sh (row x 1) ≡ 3 = ap (λ (v : ℕ). load ws sh (row v 1)) (sym z) ∙ eqb-true (load ws sh (row (rowLink (load ws sh) sh i - 1) 1)) 3 q in
-      let g = a-parcel (load ws sh) x (p .0) (p .2 .body) k in
-      loose-of x (p .0) (g .0) (p .1) (p .2) (g .1))
-      (λ q. let l : 0 ≡ suc x = rw q at e in absurd (omega arith))
+  parcel-some x e =
+      let p = kind-some sh (load ws sh) s (h .reps .memory) f (h .reps .shaped .limits .few-rows) 3 i x e in
+      let g = a-parcel (load ws sh) x (p .0) (p .2 .body) (p .3) in
+      loose-of x (p .0) (g .0) (p .1) (p .2) (g .1)
 
   -- a row stands in one place
   row-one : (x z : ℕ) (y c : Body) → RowAt (load ws sh) s x i y → RowAt (load ws sh) s z i c → x ≡ z
@@ -77,11 +57,4 @@ module _ (ws : List ℕ) (sh : Shape) (s : State) (h : Held ws sh s) (f : Fits s
     where
       go : (l : ℕ) → rowLink (load ws sh) sh i ≡ l → l ≡ suc x
       go zero q = nothing y (sym (row-none sh (load ws sh) s (h .reps .memory) f i q) ∙ at-find sh (load ws sh) s (h .reps .memory) f x i y a)
-      go (suc z) q = let p = by-row z q in ap suc (row-one z x (p .0) y (p .2) a)
-
-  pub parcel-link : (x : ℕ) (hs : List Handle) → RowAt (load ws sh) s x i (parcel hs) → parcelLink (load ws sh) sh i ≡ suc x
-  unfolding parcelLink
-  parcel-link x hs a =
-      let e = row-link x (parcel hs) a in
-      let z : rowLink (load ws sh) sh i - 1 ≡ x = omega (arith, e) in
-      rw (z, eq-eqb (load ws sh (row x 1)) 3 (a .body .0)) e
+      go (suc z) q = let p = row-found sh (load ws sh) s (h .reps .memory) f (h .reps .shaped .limits .few-rows) i z q in ap suc (row-one z x (p .0) y (p .2) a)

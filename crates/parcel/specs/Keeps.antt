@@ -1,26 +1,24 @@
 -- What the steps of a request keep: marks and rows, while objects are lowered and slots are occupied. Assumes nothing.
 use mathlib.Core.Path.{_≡_, refl, _∙_}
 use mathlib.Core.Bool.{true}
-use mathlib.Core.List.{List, [], _∷_}
-use Prim.Native.Nat.{ℕ, suc, _<_}
-use native.Mathlib.Omega.{arith}
+use mathlib.Core.List.{List}
+use Prim.Native.Nat.{ℕ, _<_}
 use Rattle.model.specs.State.{till, Handle, Slot.occupied, Body, State, isBusy}
 use Rattle.model.specs.Storage.{keep}
 use Rattle.model.specs.Change.{withTable, withObjects}
 use Rattle.model.specs.Objects.{lower, change}
 use Rattle.layout.specs.declared.Shape.{Shape}
-use Rattle.layout.specs.Layout.{Mem, index, rank, row, item, load}
-use Rattle.representation.specs.Represents.{HandleIs, Items}
+use Rattle.layout.specs.Layout.{item, load}
 use Rattle.storage.specs.Ops.{occupyW}
 use Rattle.storage.specs.Turns.{occupy-turns}
-use Rattle.storage.specs.Whole.{off-table}
+use Rattle.storage.specs.Kept.{slot-kept}
+use Rattle.storage.specs.Whole.{table-rows}
 use Rattle.storage.specs.Reps.{Held, ready-of, occupy-held}
 use Rattle.object.specs.Record.{loweredBy}
 use Rattle.object.specs.Words.{lowerW}
-use Rattle.object.specs.Whole.{OnlyObject, slot-kept}
+use Rattle.object.specs.Whole.{OnlyObject, object-stays, object-rows}
 use Rattle.object.specs.Reps.{step-only, lower-held}
-use Rattle.book.specs.Places.{body-kept}
-use Rattle.book.specs.Find.{Fits, RowAt}
+use Rattle.book.specs.Find.{Fits, RowAt, row-kept}
 use Rattle.book.specs.Fades.{Fades, fades-none, fades-then, fades-rows, occupy-fades, row-turned}
 
 -- the words represent the state u, the book is the one that was, no mark is new, and every row stands where it stood with its items
@@ -43,33 +41,6 @@ keeps-then sh ws s ws₁ s₁ ws₂ s₂ p q = record {
   fits = λ f. q .fits (p .fits f);
 }
 
--- the items of a row are as they were
-pub items-same : {A : Type 0} (P Q : ℕ → A → Type 0) → ((j : ℕ) (y : A) → P j y → Q j y) → (j : ℕ) (l : List A) → Items P j l → Items Q j l
-items-same P Q f j [] p = tt
-items-same P Q f j (y ∷ l) p = (f j y (p .0), items-same P Q f (suc j) l (p .1))
-
-pub handles-same : (m n : Mem) → ((x j f : ℕ) → n (item x j f) ≡ m (item x j f)) → (x j : ℕ) (hs : List Handle) → Items (HandleIs m x) j hs → Items (HandleIs n x) j hs
-handles-same m n e x j hs p = items-same (HandleIs m x) (HandleIs n x) (λ j y q. (e x j 2 ∙ q .0, e x j 3 ∙ q .1, e x j 4 ∙ q .2)) j hs p
-
-pub slots-same : (m n : Mem) → ((x j f : ℕ) → n (item x j f) ≡ m (item x j f)) → (x j : ℕ) (ks : List ℕ) → Items (λ j k. m (item x j 0) ≡ k) j ks → Items (λ j k. n (item x j 0) ≡ k) j ks
-slots-same m n e x j ks p = items-same (λ j k. m (item x j 0) ≡ k) (λ j k. n (item x j 0) ≡ k) (λ j k q. e x j 0 ∙ q) j ks p
-
--- a row through a step on an object
-row-object : (o : ℕ) (m n : Mem) (s : State) (u : State) → u .book ≡ s .book → OnlyObject o m n → (x i : ℕ) (y : Body) → RowAt m s x i y → RowAt n u x i y
-row-object o m n s u b only x i y a =
-    let rk : n (rank x) ≡ m (rank x) = only 9 x 0 1 (λ e. omega arith) in
-    let ix : n (index (m (rank x))) ≡ m (index (m (rank x))) = only 9 (m (rank x)) 0 0 (λ e. omega arith) in
-    let rw′ : (f : ℕ) → n (row x f) ≡ m (row x f) = λ f. only 10 x 0 f (λ e. omega arith) in
-    let it : (j f : ℕ) → n (item x j f) ≡ m (item x j f) = λ j f. only 10 x (suc j) f (λ e. omega arith) in
-    record {
-      place = rw b (a .place);
-      used = rw (rk, b) (a .used);
-      named = rw rk (ix ∙ a .named);
-      listed = rw (rk, b) (a .listed);
-      id = rw′ 0 ∙ a .id;
-      body = body-kept m n x it rw′ y (a .body);
-    }
-
 -- ONE HANDLE FEWER of an object
 pub lower-keeps : (sh : Shape) (ws : List ℕ) (s : State) → Held ws sh s → (o : ℕ) → o < s .objectCount → Keeps sh ws s (lowerW ws sh o) (withObjects s (change lower (s .objects) o))
 lower-keeps sh ws s h o l =
@@ -77,10 +48,9 @@ lower-keeps sh ws s h o l =
     record {
       held = lower-held ws sh s h o l;
       fades = fades-rows (load ws sh) s (load (lowerW ws sh o) sh) (withObjects s (change lower (s .objects) o)) refl refl
-          (slot-kept (load ws sh) (load (lowerW ws sh o) sh) (λ b f. only 1 b 0 f (λ e. omega arith)) (λ e f. only 2 e 0 f (λ q. omega arith))
-          (λ fr j f. only 7 fr j f (λ e. omega arith)) (λ k. only 10 k 0 0 (λ e. omega arith)));
-      rows = row-object o (load ws sh) (load (lowerW ws sh o) sh) s (withObjects s (change lower (s .objects) o)) refl only;
-      items = λ x j f. only 10 x (suc j) f (λ e. omega arith);
+          (λ b. slot-kept (load ws sh) (load (lowerW ws sh o) sh) b (object-stays o (load ws sh) (load (lowerW ws sh o) sh) only b));
+      rows = row-kept (load ws sh) (load (lowerW ws sh o) sh) s (withObjects s (change lower (s .objects) o)) refl (object-rows o (load ws sh) (load (lowerW ws sh o) sh) only);
+      items = object-rows o (load ws sh) (load (lowerW ws sh o) sh) only .items;
       fits = λ f. record { room = f .room; rise = f .rise };
     }
 
@@ -93,6 +63,6 @@ occupy-keeps sh ws s h b l k x was =
       held = occupy-held ws sh s h b l k x was;
       fades = occupy-fades ws sh s h b l k was x;
       rows = row-turned (load ws sh) (load (occupyW ws sh b k (x .object) (x .rights) (x .flags)) sh) s b (keep till (λ g. occupied g x) (s .tables b) k) only;
-      items = λ z j f. off-table b (load ws sh) (load (occupyW ws sh b k (x .object) (x .rights) (x .flags)) sh) only 10 z (suc j) f (λ e. omega arith) (λ e. omega arith) (λ e. omega arith);
+      items = table-rows b (load ws sh) (load (occupyW ws sh b k (x .object) (x .rights) (x .flags)) sh) only .items;
       fits = λ f. record { room = f .room; rise = f .rise };
     }

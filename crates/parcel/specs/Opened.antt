@@ -2,7 +2,7 @@
 use mathlib.Core.Path.{_≡_, refl, sym, ap, _∙_}
 use mathlib.Core.Bool.{Bool, true, false, not}
 use mathlib.Core.List.{List, [], _∷_}
-use Prim.Native.Nat.{ℕ, zero, suc, _+_, _-_, _^_, _<_}
+use Prim.Native.Nat.{ℕ, zero, suc, _+_, _^_, _<_}
 use native.Mathlib.Omega.{arith}
 use lib.ListN.{length}
 use lib.Dec.{eqb, ltb}
@@ -16,7 +16,8 @@ use Rattle.model.specs.Objects.{isNowActive, isNowRetired, activated, raise, re
 use Rattle.model.specs.Book.{addRow, freeRow, idLeft}
 use Rattle.model.specs.Request.{Request.newObject, Request.duplicate, Request.retireObject, Answer.done, Answer.opened}
 use Rattle.model.specs.Decision.{Decision, Decision.refusal, Decision.accept, unless_refuse_then_}
-use Rattle.model.specs.Lookup.{lookup, onView, onHandle}
+use Rattle.model.specs.Lookup.{lookup, onView}
+use Rattle.model.specs.Decided.{onHandle}
 use Rattle.model.specs.Step.{newObjectOf, duplicateOf, retireObjectOf, decide}
 use Rattle.model.specs.Words.{usedWords}
 use Rattle.layout.specs.declared.Shape.{Shape}
@@ -36,8 +37,8 @@ use Rattle.lookup.specs.declared.Opened.the-variants.{Refused, Handle as Found}
 use Rattle.lookup.specs.View.{tableRefusal, openOf}
 use Rattle.lookup.specs.Named.{Opens, Active, active-on, table-open, table-refused, open-refused-is, open-found-is}
 use Rattle.lookup.specs.Read.{onOpened, opened-known}
-use Rattle.parcel.specs.Ops.{retireR, rowLeft, parcelW, activationRefusal, rowRefusal, newRefusal, newObjectR, copyRefusal, copiedR, duplicateR}
-use Rattle.parcel.specs.Decided.{decidedBy, refused-when, accepted-when, id-after}
+use Rattle.parcel.specs.Ops.{retireR, parcelW, activationRefusal, rowRefusal, newRefusal, newObjectR, raiseRefusal, copyRefusal, copiedR, duplicateR}
+use Rattle.parcel.specs.Decided.{decidedBy, refused-when, accepted-when, left-is, free-place, next-after}
 
 -- ---- the words of a parcel of one handle
 
@@ -78,13 +79,13 @@ module _ (ws : List ℕ) (sh : Shape) (s : State) (h : Held ws sh s) (free : len
 -- ---- refusals
 
 abbrev activationBy : Bool → Bool → Bool → Bool → ℕ
-activationBy e r a l = pick e (pick r 9 (pick a 10 (pick l 0 11))) 6
+activationBy e r a l = pick e (pick r 9 (pick a 10 (pick l 11 0))) 6
 
 abbrev newBy : Bool → Bool → Bool → ℕ → Bool → ℕ
 newBy w c k n i = pick w (pick c (pick k (pick (eqb n 0) (pick i 12 0) n) 7) 6) 1
 
 new-checks : (w c k e r a l i : Bool) (d : Decision)
-    → (unless w refuse 1 then unless c refuse 6 then unless k refuse 7 then unless e refuse 6 then unless not r refuse 9 then unless not a refuse 10 then unless l refuse 11 then
+    → (unless w refuse 1 then unless c refuse 6 then unless k refuse 7 then unless e refuse 6 then unless not r refuse 9 then unless not a refuse 10 then unless not l refuse 11 then
     unless not i refuse 12 then d)
     ≡ decidedBy (newBy w c k (activationBy e r a l) i) d
 new-checks false c k e r a l i d = refl
@@ -93,9 +94,15 @@ new-checks true true false e r a l i d = refl
 new-checks true true true false r a l i d = refl
 new-checks true true true true true a l i d = refl
 new-checks true true true true false true l i d = refl
-new-checks true true true true false false false i d = refl
-new-checks true true true true false false true true d = refl
-new-checks true true true true false false true false d = refl
+new-checks true true true true false false true i d = refl
+new-checks true true true true false false false true d = refl
+new-checks true true true true false false false false d = refl
+
+-- the checks of a copy, then what follows them
+raise-or : (r l : Bool) (n : ℕ) → pick (eqb (pick r 9 (pick l 11 0)) 0) n (pick r 9 (pick l 11 0)) ≡ pick r 9 (pick l 11 n)
+raise-or true l n = refl
+raise-or false true n = refl
+raise-or false false n = refl
 
 abbrev copyBy : Bool → Bool → Bool → Bool → Bool → ℕ
 copyBy a c r l i = pick a (pick c (pick r 9 (pick l 11 (pick i 12 0))) 5) 5
@@ -118,7 +125,7 @@ exportable-tells : (b : Bool) (x y : ℕ) → pick (eqb (bit b) 0) x y ≡ pick 
 exportable-tells true x y = refl
 exportable-tells false x y = refl
 
-activation-is : (m : Mem) (o : ℕ) (x : Object) → ObjectIs m o x → activationRefusal (recordAt m o) ≡ activationBy (x .exportable) (isNowRetired (x .stage)) (isNowActive (x .stage)) (ltb (x .count) (x .limit))
+activation-is : (m : Mem) (o : ℕ) (x : Object) → ObjectIs m o x → activationRefusal (recordAt m o) ≡ activationBy (x .exportable) (isNowRetired (x .stage)) (isNowActive (x .stage)) (eqb (x .count) (x .limit))
 unfolding activationRefusal recordAt
 activation-is m o x q = rw (q .exportable, q .stage, q .count, q .limit, retired-tells (x .stage), active-tells (x .stage)) (exportable-tells (x .exportable) 6 _)
 
@@ -168,15 +175,6 @@ module _ (ws : List ℕ) (sh : Shape) (s : State) (i : Rep ws sh s) (os : List �
   known-is : (o : ℕ) → ltb o (sh .objects) ≡ ltb o (s .objectCount)
   known-is o = ap (ltb o) (r .objectCount)
 
-  left-is : rowLeft (load ws sh) sh ≡ freeRow s
-  left-is = rw (r .book .used, r .capacity)
-
-  room : freeRow s ≡ true → length (s .book .rows) < s .book .capacity
-  room e = ltb-true (length (s .book .rows)) (s .book .capacity) e
-
-  next-after : eqb (s .book .next) lastId ≡ false → s .book .next + 1 < 2 ^ 64
-  next-after e = id-after (s .book .next) (i .wellFormed .ids .next) e
-
   -- RETIRE OBJECT is the model's step
   pub retireObject-does : (o : ℕ) → Does ws os sh base s (retireObject o) (retireR ws os sh base o)
   unfolding retireR decide retireObjectOf usedWords
@@ -192,7 +190,7 @@ module _ (ws : List ℕ) (sh : Shape) (s : State) (i : Rep ws sh s) (os : List �
 
     abbrev newBy′ : ℕ
     newBy′ = newBy (freeRow s) (contains (object′ .supported) rights) (contains knownFlags flags)
-        (activationBy (object′ .exportable) (isNowRetired (object′ .stage)) (isNowActive (object′ .stage)) (ltb (object′ .count) (object′ .limit))) (eqb (s .book .next) lastId)
+        (activationBy (object′ .exportable) (isNowRetired (object′ .stage)) (isNowActive (object′ .stage)) (eqb (object′ .count) (object′ .limit))) (eqb (s .book .next) lastId)
 
     abbrev made : Decision
     made = accept (addRow (parcel (record { object = o; rights = rights; flags = flags } ∷ [])) (withObjects s (change activated (s .objects) o))) (opened (s .book .next))
@@ -200,13 +198,13 @@ module _ (ws : List ℕ) (sh : Shape) (s : State) (i : Rep ws sh s) (os : List �
     new-is : o < s .objectCount → newRefusal (load ws sh) sh o rights flags ≡ newBy′
     unfolding newRefusal rowRefusal
     new-is l = let q = r .objects o l in
-        rw (known-is o, lt-ltb o (s .objectCount) l, activation-is (load ws sh) o (s .objects o) q, left-is, r .book .next, supported-is (load ws sh) o (s .objects o) q)
+        rw (known-is o, lt-ltb o (s .objectCount) l, activation-is (load ws sh) o (s .objects o) q, left-is ws sh s i, r .book .next, supported-is (load ws sh) o (s .objects o) q)
 
     new-decided : o < s .objectCount → newObjectOf till s o rights flags ≡ decidedBy newBy′ made
     unfolding newObjectOf
     new-decided l = rw (lt-ltb o (s .objectCount) l)
         (new-checks (freeRow s) (contains (object′ .supported) rights) (contains knownFlags flags) (object′ .exportable) (isNowRetired (object′ .stage)) (isNowActive (object′ .stage))
-        (ltb (object′ .count) (object′ .limit)) (eqb (s .book .next) lastId) made)
+        (eqb (object′ .count) (object′ .limit)) (eqb (s .book .next) lastId) made)
 
     new-unknown-is : ltb o (s .objectCount) ≡ false → newRefusal (load ws sh) sh o rights flags ≡ 18
     unfolding newRefusal
@@ -220,8 +218,8 @@ module _ (ws : List ℕ) (sh : Shape) (s : State) (i : Rep ws sh s) (os : List �
         (addRow (parcel (record { object = o; rights = rights; flags = flags } ∷ [])) (withObjects s (change activated (s .objects) o)))
     new-held l z =
         let p = new-free (freeRow s) (contains (object′ .supported) rights) (contains knownFlags flags)
-        (activationBy (object′ .exportable) (isNowRetired (object′ .stage)) (isNowActive (object′ .stage)) (ltb (object′ .count) (object′ .limit))) (eqb (s .book .next) lastId) z in
-        parcel-held (activateW ws sh o) sh (withObjects s (change activated (s .objects) o)) (activate-held ws sh s held o l) (room (p .0)) o rights flags (next-after (p .1))
+        (activationBy (object′ .exportable) (isNowRetired (object′ .stage)) (isNowActive (object′ .stage)) (eqb (object′ .count) (object′ .limit))) (eqb (s .book .next) lastId) z in
+        parcel-held (activateW ws sh o) sh (withObjects s (change activated (s .objects) o)) (activate-held ws sh s held o l) (free-place ws sh s i (p .0)) o rights flags (next-after ws sh s i (p .1))
 
     -- NEW OBJECT is the model's step
     pub newObject-does : Does ws os sh base s (newObject o rights flags) (newObjectR ws os sh base o rights flags)
@@ -248,7 +246,7 @@ module _ (ws : List ℕ) (sh : Shape) (s : State) (i : Rep ws sh s) (os : List �
         accept (addRow (parcel (withRights h rights ∷ [])) (withObjects s (change raise (s .objects) (h .object)))) (opened (s .book .next))
 
     abbrev afterTable : Table → Decision
-    afterTable t = unless freeRow s refuse 1 then onView (lookup t v) (copies t)
+    afterTable t = unless freeRow s refuse 1 then onView (lookup t v) 2 3 (copies t)
 
     table-is : Active s b → duplicateOf till s b v rights ≡ afterTable (s .tables b)
     unfolding duplicateOf
@@ -262,7 +260,7 @@ module _ (ws : List ℕ) (sh : Shape) (s : State) (i : Rep ws sh s) (os : List �
     full-is a e = table-is a ∙ rw e
 
     lookup-is : Active s b → freeRow s ≡ true → (d : Decision) → onHandle s b v copies ≡ d → duplicateOf till s b v rights ≡ d
-    lookup-is a e d k = table-is a ∙ rw e (sym (active-on s b a (λ t. onView (lookup t v) (copies t))) ∙ k)
+    lookup-is a e d k = table-is a ∙ rw e (sym (active-on s b a (λ t. onView (lookup t v) 2 3 (copies t))) ∙ k)
 
     module _ (h : PreparedHandle) (k : Opens s b v h) where
       abbrev object″ : Object
@@ -281,9 +279,16 @@ module _ (ws : List ℕ) (sh : Shape) (s : State) (i : Rep ws sh s) (os : List �
       known = opened-known ws sh s i b v h k
 
       copy-is : copyRefusal (load ws sh) h rights ≡ copyBy′
-      unfolding copyRefusal
+      unfolding copyRefusal raiseRefusal
       copy-is = let q = r .objects (h .object) known in
-          rw (stage-is (load ws sh) (h .object) object″ q, retired-tells (object″ .stage), count-is (load ws sh) (h .object) object″ q, limit-is (load ws sh) (h .object) object″ q, r .book .next)
+          rw (
+            stage-is (load ws sh) (h .object) object″ q,
+            retired-tells (object″ .stage),
+            count-is (load ws sh) (h .object) object″ q,
+            limit-is (load ws sh) (h .object) object″ q,
+            r .book .next,
+            raise-or (isNowRetired (object″ .stage)) (eqb (object″ .count) (object″ .limit)) (pick (eqb (s .book .next) lastId) 12 0),
+          )
 
       copy-decided : Active s b → freeRow s ≡ true → duplicateOf till s b v rights ≡ decidedBy copyBy′ copied
       copy-decided a e = lookup-is a e (decidedBy copyBy′ copied) (k .handle copies
@@ -295,8 +300,8 @@ module _ (ws : List ℕ) (sh : Shape) (s : State) (i : Rep ws sh s) (os : List �
           let p = copy-free (contains (h .rights) duplicateRight) (contains (h .rights) rights) (isNowRetired (object″ .stage)) (eqb (object″ .count) (object″ .limit)) (eqb (s .book .next) lastId) z in
           let c : object″ .count < object″ .limit = omega (arith, i .wellFormed .counts .within (h .object) known, eqb-false (object″ .count) (object″ .limit) (p .0)) in
           let w = limit-room (object″ .count) (object″ .limit) (i .wellFormed .ranges .objects (h .object) known .limit) c in
-          parcel-held (raiseW ws sh (h .object)) sh (withObjects s (change raise (s .objects) (h .object))) (raise-held ws sh s held (h .object) known w) (room e)
-          (h .object) rights (h .flags) (next-after (p .1))
+          parcel-held (raiseW ws sh (h .object)) sh (withObjects s (change raise (s .objects) (h .object))) (raise-held ws sh s held (h .object) known w) (free-place ws sh s i e)
+          (h .object) rights (h .flags) (next-after ws sh s i (p .1))
 
       copied-does : Active s b → freeRow s ≡ true → Does ws os sh base s (duplicate b v rights) (copiedR ws os sh base rights h)
       unfolding copiedR decide usedWords
@@ -310,7 +315,7 @@ module _ (ws : List ℕ) (sh : Shape) (s : State) (i : Rep ws sh s) (os : List �
     -- DUPLICATE is the model's step
     pub duplicate-does : Does ws os sh base s (duplicate b v rights) (duplicateR ws os sh base b v rights)
     unfolding duplicateR decide
-    duplicate-does = rw left-is (bool (eqb (tableRefusal (load ws sh) sh b) 0)
+    duplicate-does = rw (left-is ws sh s i) (bool (eqb (tableRefusal (load ws sh) sh b) 0)
         (λ p. let a = table-open sh (load ws sh) s r b (eqb-true (tableRefusal (load ws sh) sh b) 0 p) in
         rw p (bool (freeRow s)
         (λ e. rw e (go a e (openOf (load ws sh) sh b v) refl))

@@ -1,7 +1,7 @@
 -- What the functions of the requests retire object, new object, duplicate and release parcel do to the words. Assumes nothing.
 use mathlib.Core.Bool.{Bool}
 use mathlib.Core.List.{List, [], _∷_}
-use Prim.Native.Nat.{ℕ, zero, suc, _-_}
+use Prim.Native.Nat.{ℕ, zero, suc}
 use lib.Dec.{eqb, ltb}
 use Rattle.words.specs.Pick.{pick}
 use Rattle.authority.specs.Rights.{contains, duplicateRight}
@@ -10,8 +10,8 @@ use Rattle.layout.specs.declared.Shape.{Shape}
 use Rattle.layout.specs.Layout.{Mem, root, object, row, item, load}
 use Rattle.object.specs.declared.ObjectRecord.{ObjectRecord}
 use Rattle.object.specs.Words.{recordAt, activateW, raiseW, lowerW, retireW}
-use Rattle.book.specs.Ops.{rowLink, spare, openW, handleW, closeW}
-use Rattle.answer.specs.Does.{Both, both, answered, refuseR}
+use Rattle.book.specs.Ops.{kindLink, spare, openW, handleW, closeW}
+use Rattle.answer.specs.Does.{Both, both, answered, refuseR, onRowR}
 use Rattle.lookup.specs.declared.PreparedHandle.{PreparedHandle}
 use Rattle.lookup.specs.View.{tableRefusal, openOf}
 use Rattle.lookup.specs.Read.{onOpened}
@@ -40,7 +40,7 @@ activationRefusal x =
     pick (eqb (x .exportable) 0) 6
     (pick (eqb (x .stage) 2) 9
     (pick (eqb (x .stage) 1) 10
-    (pick (ltb (x .count) (x .limit)) 0 11)))
+    (pick (eqb (x .count) (x .limit)) 11 0)))
 
 -- the activation of x, then the id
 unfoldable pub rowRefusal : Mem → ObjectRecord → ℕ
@@ -60,14 +60,19 @@ newObjectR ws os sh base o r f =
     let n : ℕ = newRefusal (load ws sh) sh o r f in
     pick (eqb n 0) (both (parcelW (activateW ws sh o) sh o r f) (answered os base (0 ∷ load ws sh (root 5) ∷ []))) (refuseR ws os base n)
 
+-- "9, 11" of a copy, beside `copyChecks` of the model; 0 for none
+unfoldable pub raiseRefusal : Mem → ℕ → ℕ
+raiseRefusal m o =
+    pick (eqb (recordAt m o .stage) 2) 9
+    (pick (eqb (recordAt m o .count) (recordAt m o .limit)) 11
+    0)
+
 -- "Duplicate: 16, 1, 2 or 3, 5, 9, 11, 12": from 5 on, of the handle found and its object
 unfoldable pub copyRefusal : Mem → PreparedHandle → ℕ → ℕ
 copyRefusal m h r =
     pick (contains (h .rights) duplicateRight)
     (pick (contains (h .rights) r)
-    (pick (eqb (recordAt m (h .object) .stage) 2) 9
-    (pick (eqb (recordAt m (h .object) .count) (recordAt m (h .object) .limit)) 11
-    (idRefusal m)))
+    (pick (eqb (raiseRefusal m (h .object)) 0) (idRefusal m) (raiseRefusal m (h .object)))
     5) 5
 
 unfoldable pub copiedR : List ℕ → List ℕ → Shape → ℕ → ℕ → PreparedHandle → Both
@@ -89,8 +94,8 @@ duplicateR ws os sh base b v r =
 -- ---- release
 
 -- the parcel with an id: its place plus 1, 0 if there is none
-unfoldable pub parcelLink : Mem → Shape → ℕ → ℕ
-parcelLink m sh i = pick (eqb (m (row (rowLink m sh i - 1) 1)) 3) (rowLink m sh i) 0
+abbrev pub parcelLink : Mem → Shape → ℕ → ℕ
+parcelLink = kindLink 3
 
 -- the objects of n handles from item j on, of the row in place x, have one handle fewer each
 unfoldable pub loweredW : List ℕ → Shape → ℕ → ℕ → ℕ → List ℕ
@@ -101,7 +106,5 @@ loweredW ws sh x j (suc n) = loweredW (lowerW ws sh (load ws sh (item x j 2))) s
 unfoldable pub releasedW : List ℕ → Shape → ℕ → List ℕ
 releasedW ws sh x = closeW (loweredW ws sh x 0 (load ws sh (row x 3))) sh x
 
-unfoldable pub releaseR : List ℕ → List ℕ → Shape → ℕ → ℕ → Both
-releaseR ws os sh base i =
-    let l : ℕ = parcelLink (load ws sh) sh i in
-    pick (eqb l 0) (refuseR ws os base 18) (both (releasedW ws sh (l - 1)) (answered os base (0 ∷ [])))
+abbrev pub releaseR : List ℕ → List ℕ → Shape → ℕ → ℕ → Both
+releaseR ws os sh base i = onRowR (releasedW ws sh) ws os base (parcelLink (load ws sh) sh i)

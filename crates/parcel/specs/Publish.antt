@@ -25,12 +25,13 @@ use Rattle.layout.specs.Layout.{Mem, row, item, load}
 use Rattle.representation.specs.Represents.{HandleIs, Items}
 use Rattle.storage.specs.Order.{occurs-head}
 use Rattle.storage.specs.Ops.{occupyW}
+use Rattle.storage.specs.Kept.{handles-kept, slots-kept}
 use Rattle.storage.specs.Reps.{Held}
 use Rattle.book.specs.Find.{Fits, RowAt}
 use Rattle.book.specs.Vacated.{with-table-at as table-at, with-own as table-same, with-over as table-twice}
 use Rattle.parcel.specs.Ops.{parcelLink}
 use Rattle.parcel.specs.Found.{parcel-none, parcel-some}
-use Rattle.parcel.specs.Keeps.{Keeps, keeps-none, keeps-then, handles-same, slots-same, occupy-keeps}
+use Rattle.parcel.specs.Keeps.{Keeps, keeps-none, keeps-then, occupy-keeps}
 use Rattle.parcel.specs.Publishing.{plus, fits, filledW, publishedW}
 
 -- ---- the lengths
@@ -120,9 +121,9 @@ module _ (sh : Shape) (b x y p : ℕ) where
       let one = occupy-keeps sh ws s h b l k g (busy k (occurs-head k ks)) in
       let still : (i : ℕ) → 0 < occurs i ks → isBusy (u .slots i) ≡ true = λ i o. keep-busy (s .tables b) k g i (busy i (omega arith)) in
       let z : suc (p + j) ≡ p + suc j = omega arith in
-      let its : Items (SlotsAt (load v sh) x) (p + suc j) ks = rw z at (slots-same (load ws sh) (load v sh) (one .items) x (suc (p + j)) ks (slots .1)) in
+      let its : Items (SlotsAt (load v sh) x) (p + suc j) ks = rw z at (slots-kept (load ws sh) (load v sh) x (one .items x) (suc (p + j)) ks (slots .1)) in
       let rest = filled-keeps hs ks v (withTable s b u) (suc j) (one .held) l (rw (table-at s b u) still) its
-      (handles-same (load ws sh) (load v sh) (one .items) y (suc j) hs (handles .1)) (omega arith) (omega arith) in
+      (handles-kept (load ws sh) (load v sh) y (one .items y) (suc j) hs (handles .1)) (omega arith) (omega arith) in
       rw (fill-more ws sh b x p y j (length hs) k g (omega arith) (slots .0) (handles .0))
       (keeps-then sh ws s v (withTable s b u) (filledW v sh b x p y (suc j) (length hs)) (withTable s b (fillAll till ks hs u)) one
       (rw (table-at s b u, table-twice s b u (fillAll till ks hs u)) at rest))
@@ -172,7 +173,7 @@ module _ (sh : Shape) (b x : ℕ) where
           let c = drop-few (length gs) ks in
           let two = rec (drop (length gs) ks) v (withTable s b u) (p + length gs) (one .held) (one .fits f) l
           (λ k o. rw (table-at s b u) (fillAll-busy till ks gs (s .tables b) k (busy k (omega (arith, occurs-split k (length gs) ks)))))
-          (items-drop (SlotsAt (load v sh) x) (length gs) p ks (slots-same (load ws sh) (load v sh) (one .items) x p ks slots)) after (omega arith) (omega arith) in
+          (items-drop (SlotsAt (load v sh) x) (length gs) p ks (slots-kept (load ws sh) (load v sh) x (one .items x) p ks slots)) after (omega arith) (omega arith) in
           rw (published-more ws sh b x p i is y (length gs) n1 (a .body .1) (omega arith), whole)
           (keeps-then sh ws s v (withTable s b u) (publishedW v sh b x (p + length gs) is) (withTable s b (fillAll till ks (gs ++ rest) (s .tables b))) one
           (rw (table-at s b u, table-twice s b u (fillAll till (drop (length gs) ks) rest u), fill-append ks gs rest (s .tables b)) at two))

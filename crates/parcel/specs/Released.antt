@@ -1,32 +1,30 @@
 -- A parcel is released: its function takes the model's step. Assumes nothing.
-use mathlib.Core.Path.{_≡_, refl, ap}
+use mathlib.Core.Path.{_≡_, ap}
 use mathlib.Core.List.{List, [], _∷_}
-use Prim.Native.Nat.{ℕ, zero, suc, _-_, _<_}
-use native.Mathlib.Omega.{arith}
+use Prim.Native.Nat.{ℕ, suc, _<_}
 use lib.ListN.{length}
-use borrow.Author.Tests.{ne-eqb}
 use Rattle.model.specs.State.{Handle, Body.parcel, State}
 use Rattle.model.specs.Change.{withObjects}
 use Rattle.model.specs.Objects.{lower, change, release}
 use Rattle.model.specs.Book.{dropRow}
 use Rattle.model.specs.WellFormed.{HandleRange, All}
-use Rattle.model.specs.Request.{Request.releaseParcel, Answer.done}
+use Rattle.model.specs.Request.{Request.releaseParcel}
 use Rattle.model.specs.Step.{releaseParcelOf, decide}
-use Rattle.model.specs.Words.{usedWords}
 use Rattle.invariant.specs.BookLemmas.{found-range}
 use Rattle.layout.specs.declared.Shape.{Shape}
 use Rattle.layout.specs.Layout.{row, item, load}
 use Rattle.representation.specs.Represents.{HandleIs, Items, Rep}
+use Rattle.storage.specs.Kept.{handles-kept}
 use Rattle.storage.specs.Reps.{Held, held-of}
 use Rattle.object.specs.Words.{lowerW}
 use Rattle.book.specs.Find.{fits-of}
 use Rattle.book.specs.Marks.{named-parcel}
 use Rattle.book.specs.Fades.{unnamed-fades}
 use Rattle.book.specs.Close.{close-held}
-use Rattle.answer.specs.Does.{Does, does-refused, does-accepted}
+use Rattle.answer.specs.Does.{Does, does-on-row}
 use Rattle.parcel.specs.Ops.{parcelLink, loweredW, releasedW, releaseR}
 use Rattle.parcel.specs.Found.{Loose, parcel-none, parcel-some}
-use Rattle.parcel.specs.Keeps.{Keeps, keeps-none, keeps-then, handles-same, lower-keeps}
+use Rattle.parcel.specs.Keeps.{Keeps, keeps-none, keeps-then, lower-keeps}
 
 lowered-more : (ws : List ℕ) (sh : Shape) (x j n o : ℕ) → load ws sh (item x j 2) ≡ o → loweredW ws sh x j (suc n) ≡ loweredW (lowerW ws sh o) sh x (suc j) n
 unfolding loweredW
@@ -42,7 +40,7 @@ lowered-all sh x (y ∷ hs) ws s j h known its =
     let s₁ : State = withObjects s (change lower (s .objects) (y .object)) in
     let p = lower-keeps sh ws s h (y .object) (known .0) in
     let q = lowered-all sh x hs (lowerW ws sh (y .object)) (withObjects s (change lower (s .objects) (y .object))) (suc j) (p .held) (known .1)
-    (handles-same (load ws sh) (load (lowerW ws sh (y .object)) sh) (p .items) x (suc j) hs (its .1)) in
+    (handles-kept (load ws sh) (load (lowerW ws sh (y .object)) sh) x (p .items x) (suc j) hs (its .1)) in
     rw (lowered-more ws sh x j (length hs) (y .object) (its .0 .0))
     (keeps-then sh ws s ws₁ s₁ (loweredW (lowerW ws sh (y .object)) sh x (suc j) (length hs)) (release s (y ∷ hs)) p q)
 
@@ -62,13 +60,8 @@ module _ (ws : List ℕ) (sh : Shape) (s : State) (r : Rep ws sh s) where
 
   -- RELEASE PARCEL is the model's step
   pub releaseParcel-does : (os : List ℕ) (base i : ℕ) → Does ws os sh base s (releaseParcel i) (releaseR ws os sh base i)
-  unfolding releaseR decide releaseParcelOf usedWords
-  releaseParcel-does os base i = go (parcelLink (load ws sh) sh i) refl
-    where
-      go : (l : ℕ) → parcelLink (load ws sh) sh i ≡ l → Does ws os sh base s (releaseParcel i) (releaseR ws os sh base i)
-      go zero e = rw e (does-refused os sh base s (releaseParcel i) ws 18 (r .reps) (rw (parcel-none ws sh s (held-of ws sh s r) (fits-of s (r .wellFormed)) i e)))
-      go (suc x) e =
-          let p = parcel-some ws sh s (held-of ws sh s r) (fits-of s (r .wellFormed)) i x e in let hs : List Handle = p .0 in
-          let z : suc x - 1 ≡ x = omega arith in
-          rw (e, z, ne-eqb (suc x) 0 (λ q. omega arith))
-          (does-accepted os sh base s (releaseParcel i) (releasedW ws sh x) (dropRow i (release s hs)) done (released-held x i hs (p .1) .reps) (rw (p .1 .found)))
+  unfolding decide releaseParcelOf
+  releaseParcel-does os base i = does-on-row os sh base s (releaseParcel i) ws (releasedW ws sh) (parcelLink (load ws sh) sh i) (r .reps)
+      (λ e. rw (parcel-none ws sh s (held-of ws sh s r) (fits-of s (r .wellFormed)) i e))
+      (λ x e. let p = parcel-some ws sh s (held-of ws sh s r) (fits-of s (r .wellFormed)) i x e in
+      (dropRow i (release s (p .0)), released-held x i (p .0) (p .1) .reps, rw (p .1 .found)))

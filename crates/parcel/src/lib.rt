@@ -9,9 +9,10 @@ ghost use Rattle.model.specs.State.{knownFlags};
 ghost use Rattle.model.specs.Words.{must};
 ghost use Rattle.request.specs.Place.{fieldsAt, endAt};
 ghost use Rattle.layout.specs.Layout.{load as loadAt};
+ghost use Rattle.book.specs.Ops.{spare, handleW};
 ghost use Rattle.answer.specs.Does.{both};
-ghost use Rattle.parcel.specs.Ops.{retireR, rowLeft, idRefusal, activationRefusal, rowRefusal, newRefusal, parcelW, newObjectR};
-ghost use Rattle.parcel.specs.Ops.{copyRefusal, copiedR, duplicateR, parcelLink, loweredW, releasedW, releaseR};
+ghost use Rattle.parcel.specs.Ops.{retireR, rowLeft, idRefusal, activationRefusal, rowRefusal, newRefusal, newObjectR};
+ghost use Rattle.parcel.specs.Ops.{raiseRefusal, copyRefusal, copiedR, duplicateR, parcelLink, loweredW, releasedW, releaseR};
 ghost use Rattle.model.specs.Base.{member};
 ghost use Rattle.model.specs.Decision.{distinct};
 ghost use Rattle.parcel.specs.Publishing.{idsAt, plus, fits, filledW, publishedW, droppedW, spentW, publishR};
@@ -75,10 +76,10 @@ pub fn activation_refusal(x: ObjectRecord) -> u64
     if words::eq(x.stage, object::NOW_ACTIVE) {
         return format::refusal::OBJECT_ALREADY_ACTIVE;
     }
-    if words::lt(x.count, x.limit) {
-        return format::refusal::DONE;
+    if words::eq(x.count, x.limit) {
+        return format::refusal::ACTIVE_HANDLE_LIMIT;
     }
-    format::refusal::ACTIVE_HANDLE_LIMIT
+    format::refusal::DONE
 }
 
 // The activation of an object, then the id.
@@ -113,13 +114,12 @@ fn new_refusal(s: &[u64], sh: Shape, o: u64, rights: Rights, flags: u64) -> u64
     format::refusal::MISUSE
 }
 
-// A parcel of one handle opens in the place that is free.
-fn open_parcel(s: &mut [u64], sh: Shape, object: u64, rights: u64, flags: u64)
-    ensures { λ _. ⌜ now (s .exit) ≡ parcelW (now (s .entry)) sh object rights flags ⌝ }
+// The one handle of the parcel that opens next, in its place.
+fn put_parcel(s: &mut [u64], sh: Shape, object: u64, rights: u64, flags: u64)
+    ensures { λ _. ⌜ now (s .exit) ≡ handleW (now (s .entry)) sh (spare (loadAt (now (s .entry)) sh)) 0 object rights flags ⌝ }
 {
     let x = book::spare_place(s, sh);
     book::put_handle(s, sh, x, 0, object, rights, flags);
-    book::open_row(s, sh, book::PARCEL, 0, 1);
 }
 
 // "New object: 1, 6, 7, activation, 12": its first handle is a parcel.
@@ -138,11 +138,28 @@ pub fn new_object(
     if words::eq(n, 0) {
         let id = layout::root_word(s, sh, 5);
         object::activate_object(s, sh, o);
-        open_parcel(s, sh, o, rights.0, flags);
+        put_parcel(s, sh, o, rights.0, flags);
+        book::open_row(s, sh, book::PARCEL, 0, 1);
         answer::say1(out, base, id);
         return;
     }
     answer::refuse(out, base, n);
+}
+
+// "9, 11" of a copy: object o gets no handle more; 0 where it can.
+pub fn raise_refusal(s: &[u64], sh: Shape, o: u64) -> u64
+    ensures { λ r. ⌜ r ≡ raiseRefusal (loadAt (now (s .entry)) sh) o ⌝ }
+{
+    let stage = layout::object_word(s, sh, o, 5);
+    if words::eq(stage, object::NOW_RETIRED) {
+        return format::refusal::OBJECT_RETIRED;
+    }
+    let count = layout::object_word(s, sh, o, 6);
+    let limit = layout::object_word(s, sh, o, 7);
+    if words::eq(count, limit) {
+        return format::refusal::ACTIVE_HANDLE_LIMIT;
+    }
+    format::refusal::DONE
 }
 
 // "Duplicate: 16, 1, 2 or 3, 5, 9, 11, 12": from 5 on; 0 for no refusal.
@@ -152,14 +169,11 @@ fn copy_refusal(s: &[u64], sh: Shape, h: PreparedHandle, rights: Rights) -> u64
     let held = Rights(h.rights);
     if held.contains(Rights::DUPLICATE) {
         if held.contains(rights) {
-            let x = object::read_object(s, sh, h.object);
-            if words::eq(x.stage, object::NOW_RETIRED) {
-                return format::refusal::OBJECT_RETIRED;
+            let n = raise_refusal(s, sh, h.object);
+            if words::eq(n, 0) {
+                return id_refusal(s, sh);
             }
-            if words::eq(x.count, x.limit) {
-                return format::refusal::ACTIVE_HANDLE_LIMIT;
-            }
-            return id_refusal(s, sh);
+            return n;
         }
         return format::refusal::ACCESS_DENIED;
     }
@@ -181,7 +195,8 @@ fn duplicate_handle(
     if words::eq(n, 0) {
         let id = layout::root_word(s, sh, 5);
         object::raise_object(s, sh, h.object);
-        open_parcel(s, sh, h.object, rights.0, h.flags);
+        put_parcel(s, sh, h.object, rights.0, h.flags);
+        book::open_row(s, sh, book::PARCEL, 0, 1);
         answer::say1(out, base, id);
         return;
     }

@@ -10,7 +10,7 @@
 // R and K are decimal. A word W is hexadecimal, and W*n stands for n times W. A record that has no room is read to its end, and its line says so; a start that
 // has none leaves a state of no words.
 ghost use mathlib.Core.Path.{_≡_};
-ghost use Prim.Native.Nat.{_+_, _*_, _<_, _≤_};
+ghost use Prim.Native.Nat.{_+_, _*_, _<_};
 ghost use lib.ListN.{length, replicate};
 ghost use Rattle.io.specs.Counts.{Counts};
 ghost use Rattle.replay.specs.Runs.{wordOf, Cut, Run, Past};

@@ -15,7 +15,7 @@ use lib.Count.{ones, ones-step, ones-le}
 use lib.Pow.{field, mod-mod-pow, shr-shr, shl-exact, pow-pos}
 use borrow.Author.Tests.{lt-ltb, le-ltb, le-leb, lt-leb, ltb-true, eqb-true}
 use Rattle.format.specs.Format.{fieldFits, fieldKinds, fieldCount}
-use Rattle.words.specs.Pick.{and-left, and-right}
+use Rattle.words.specs.Pick.{both-is, and-left, and-right}
 use Rattle.model.specs.Base.{pick}
 use Rattle.model.specs.Words.{Fields, odd, fitAll, may, must}
 use Rattle.request.specs.declared.Three.{Three}
@@ -178,18 +178,14 @@ unfolding fitOne
 absent m bit ws p kind h e o =
     ap (fitOne kind) (may-at 18 bit m ws p h ∙ ap (λ (b : Bool). here b ws (p + ones (m % 2 ^ bit))) (apart m 251456 bit e o))
 
-both-true : (a b : Bool) → a ≡ true → b ≡ true → (a && b) ≡ true
-both-true true b e f = f
-both-true false b e f = e
-
 -- a map with none of the fields that do not take every word
 pub none-narrow : (m : ℕ) (ws : List ℕ) (p : ℕ) → bitAnd m 251456 ≡ 0 → true ≡ narrowFit (fieldsFrom fieldCount m ws p)
 unfolding narrowFit
 none-narrow m ws p e =
-    sym (both-true _ _ (absent m 6 ws p 1 (omega arith) e refl) (both-true _ _ (absent m 9 ws p 1 (omega arith) e refl)
-    (both-true _ _ (absent m 10 ws p 2 (omega arith) e refl) (both-true _ _ (absent m 12 ws p 3 (omega arith) e refl)
-    (both-true _ _ (absent m 14 ws p 1 (omega arith) e refl) (both-true _ _ (absent m 15 ws p 1 (omega arith) e refl)
-    (both-true _ _ (absent m 16 ws p 2 (omega arith) e refl) (both-true _ _ (absent m 17 ws p 1 (omega arith) e refl) refl))))))))
+    sym (both-is _ _ (absent m 6 ws p 1 (omega arith) e refl) (both-is _ _ (absent m 9 ws p 1 (omega arith) e refl)
+    (both-is _ _ (absent m 10 ws p 2 (omega arith) e refl) (both-is _ _ (absent m 12 ws p 3 (omega arith) e refl)
+    (both-is _ _ (absent m 14 ws p 1 (omega arith) e refl) (both-is _ _ (absent m 15 ws p 1 (omega arith) e refl)
+    (both-is _ _ (absent m 16 ws p 2 (omega arith) e refl) (both-is _ _ (absent m 17 ws p 1 (omega arith) e refl) refl))))))))
 
 -- `fitAll`, not computed
 unfoldable fits : List ℕ → Fields → Bool

@@ -4,43 +4,22 @@ use mathlib.Core.Path.{_≡_, refl, sym, ap, subst, _∙_}
 use mathlib.Core.Bool.{Bool, true, false}
 use mathlib.Core.List.{List, [], _∷_}
 use mathlib.Core.Option.{Option, none, some}
-use Prim.Native.Nat.{ℕ, zero, suc, _+_, _-_, _*_, _/_, _≤_, _<_}
+use Prim.Native.Nat.{ℕ, zero, suc, _+_, _-_, _≤_, _<_}
 use native.Mathlib.Omega.{arith}
 use native.Mathlib.Numerals.{add-one}
 use lib.ListN.{length, getD, drop}
-use lib.Dec.{eqb, ltb}
-use Rattle.format.specs.Format.{musts, mays, transferItemMust, transferItemMay, parcelItemMust, parcelItemMay, fieldCount, answerWords}
-use Rattle.model.specs.Base.{pick, nth, isSome}
+use lib.Dec.{eqb}
+use Rattle.format.specs.Format.{musts, mays, transferItemMust, transferItemMay, parcelItemMust, parcelItemMay}
+use Rattle.model.specs.Base.{pick}
 use Rattle.model.specs.Request.{Request}
-use Rattle.model.specs.Words.{andThen, Fields, odd, may, must, readRequest, readList, answerShort}
+use Rattle.model.specs.Words.{andThen, Fields, must, readList}
 use Rattle.request.specs.declared.Three.{Three}
-use Rattle.request.specs.declared.Next.the-variants.{At, Malformed}
 use Rattle.request.specs.declared.Listed.the-variants.{Requests, Malformed as ListMalformed}
-use Rattle.request.specs.Place.{placed, listed, upTo, past, fieldsFrom, fieldsAt, threeAt, mapAt, endAt, recordEnd, manyEnd, placesFrom, placeOf, itemsEnd, opAt, countAt, requestEnd, nextAt, requestOf, requestAt}
+use Rattle.request.specs.Place.{listed, upTo, threeAt, endAt, recordEnd, manyEnd, placesFrom, placeOf, itemsEnd, opAt, countAt, requestEnd, nextAt, requestOf, requestAt}
 use Rattle.request.specs.Fields.{Whole, record-whole, first-fits}
-use Rattle.request.specs.Steps.{at-is, bad-is}
-use Rattle.request.specs.Lists.{known-op, place-later, request-placed, request-read, request-ends, list-turn, list-end}
+use Rattle.request.specs.Lists.{known-op, place-later, request-ends, list-turn, list-end}
 
 -- Fields
-
--- a record has its 18 fields: each is absent, or the word that stands for it, where `has` and `field` read it
-from-length : (n m : ℕ) (ws : List ℕ) (p : ℕ) → length (fieldsFrom n m ws p) ≡ n
-unfolding fieldsFrom
-from-length zero m ws p = refl
-from-length (suc n) m ws p = ap suc (from-length n (m / 2) ws (past (odd m) p))
-
-pub fields-length : (ws : List ℕ) (at : ℕ) → length (fieldsAt ws at) ≡ fieldCount
-unfolding fieldsAt
-fields-length ws at = from-length fieldCount (mapAt ws at) ws (suc at)
-
-entry : (fs : Fields) (k : ℕ) → k < length fs → nth fs k ≡ some (pick (isSome (may fs k)) (some (must fs k)) none)
-entry [] k h = absurd (omega arith)
-entry (none ∷ fs) zero h = refl
-entry (some w ∷ fs) zero h = refl
-entry (f ∷ fs) (suc k) h = entry fs k (omega arith)
-
-pub field-is : (ws : List ℕ) (at k : ℕ) → k < fieldCount → nth (fieldsAt ws at) k ≡ some (pick (isSome (may (fieldsAt ws at) k)) (some (must (fieldsAt ws at) k)) none)
-field-is ws at k h = entry (fieldsAt ws at) k (subst (λ (n : ℕ). k < n) (sym (fields-length ws at)) h)
 
 -- what was done with three fields that were read, by the fields
 pub three-read : {A : Type 0} (f : ℕ → ℕ → ℕ → A) (fs : Fields) (i j k : ℕ) (r : Three) (x : A) → r ≡ threeAt fs i j k → x ≡ f (r .a) (r .b) (r .c) → x ≡ f (must fs i) (must fs j) (must fs k)
@@ -67,13 +46,6 @@ places-length (suc n) ws at = ap suc (places-length n ws (endAt ws at))
 pub place-next : (i : ℕ) (ws : List ℕ) (at : ℕ) → placeOf (i + 1) ws at ≡ endAt ws (placeOf i ws at)
 unfolding placeOf
 place-next i ws at = rw add-one
-
--- record i of n stands at its place
-pub place-nth : (n i : ℕ) (ws : List ℕ) (at : ℕ) → i < n → nth (placesFrom n ws at) i ≡ some (placeOf i ws at)
-unfolding placesFrom placeOf
-place-nth zero i ws at h = absurd (omega arith)
-place-nth (suc n) zero ws at h = refl
-place-nth (suc n) (suc i) ws at h = place-nth n i ws (endAt ws at) (omega arith) ∙ ap some (sym (place-later i ws at))
 
 -- n records in a row that are well formed: where they end, that each is well formed, and that each has a word at least
 pub record Rowed (first must allowed n : ℕ) (ws : List ℕ) (at e : ℕ) : Type 0 where
@@ -158,14 +130,6 @@ request-whole ws at e p = go (recordEnd 4 (getD musts (opAt ws at) 0) (getD must
           short = ends .1;
         }
 
--- what `request_ok` says: the request's end, or that it is malformed
-pub request-ok-at : (ws : List ℕ) (at e : ℕ) → At e ≡ placed ws (readRequest (drop at ws)) → requestEnd ws at ≡ some e
-request-ok-at ws at e p = at-is (At e) (requestEnd ws at) e (p ∙ sym (request-placed ws at)) refl
-
-pub request-ok-bad : (ws : List ℕ) (at : ℕ) → Malformed ≡ placed ws (readRequest (drop at ws)) → readRequest (drop at ws) ≡ none
-request-ok-bad ws at p =
-    request-read ws at ∙ ap (λ (x : Option ℕ). upTo ws x (requestAt ws at)) (bad-is Malformed (requestEnd ws at) (p ∙ sym (request-placed ws at)) refl)
-
 -- Lists
 
 -- what `list_ok` says: number 19 exactly if the list cannot be read, or how many requests it has
@@ -176,11 +140,6 @@ list-bad (some rs) p = cc
 pub list-counted : (x : Option (List Request)) (n : ℕ) → Requests n ≡ listed x → (rs : List Request) × (x ≡ some rs) × (length rs ≡ n)
 list-counted none n p = let z : _≡_ {A = ℕ} 0 1 = cc in absurd (omega arith)
 list-counted (some rs) n p = (rs, refl, cc)
-
--- "AnswerShort: fewer than 72 words a request"
-pub short-is : (answers : List ℕ) (rs : List Request) (n : ℕ) → length rs ≡ n → ltb (length answers) (answerWords * n) ≡ answerShort answers rs
-unfolding answerShort
-short-is answers rs n e = ap (λ (k : ℕ). ltb (length answers) (answerWords * k)) (sym e)
 
 -- what is left of a list that is well formed begins with the request at its place; what follows begins at that request's end
 pub record Turn (ws : List ℕ) (at : ℕ) (rs : List Request) : Type 0 where
@@ -214,7 +173,3 @@ list-at ws at rs p h = go (requestEnd ws at) refl (sym (list-turn ws at h) ∙ p
 
 pub list-done : (ws : List ℕ) (at : ℕ) (rs : List Request) → readList (drop at ws) ≡ some rs → length ws ≤ at → rs ≡ []
 list-done ws at rs p h = let e : some rs ≡ some [] = sym p ∙ list-end ws at h in cc
-
--- the model's reading of a request that is well formed
-pub request-at : (ws : List ℕ) (at e : ℕ) → requestEnd ws at ≡ some e → readRequest (drop at ws) ≡ some (requestAt ws at, drop (nextAt ws at) ws)
-request-at ws at e p = request-read ws at ∙ ap (λ (x : Option ℕ). upTo ws x (requestAt ws at)) (p ∙ ap some (request-whole ws at e p .next))

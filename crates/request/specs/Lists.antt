@@ -14,9 +14,9 @@ use borrow.Author.Tests.{leb-true}
 use Rattle.format.specs.Format.{musts, mays, transferItemMust, transferItemMay, parcelItemMust, parcelItemMay, fieldFits, knownOp}
 use Rattle.model.specs.Base.{pick, nth}
 use Rattle.model.specs.Request.{Item, Request, Request.publish, Request.prepareTransfer}
-use Rattle.model.specs.Words.{Reading, andThen, Fields, may, must, readRecord, readMany, routeOf, plainRequests, withItems, readRequest, readUpTo, readList}
+use Rattle.model.specs.Words.{Reading, andThen, Fields, may, must, readRecord, readMany, routeOf, plainRequests, plainRequest, withItems, readRequest, readUpTo, readList}
 use Rattle.model.specs.Lists.{Front, request-in-front, reading-ends}
-use Rattle.model.specs.Tests.{nth-some}
+use Rattle.model.specs.Tests.{_&_, nth-some}
 use Rattle.request.specs.declared.Next.the-variants.{At}
 use Rattle.request.specs.declared.Listed.the-variants.{Requests, Malformed as ListMalformed}
 use Rattle.request.specs.Place.{nextOf, placed, upTo, counted, listed, fieldsAt, endAt, recordEnd, manyEnd, placesFrom, placeOf, itemOf, itemAt, parcelAt, opAt, countAt, itemPlaces, itemsEnd, requestEnd, requestOf, requestAt}
@@ -130,10 +130,16 @@ module _ (ws : List ℕ) (at : ℕ) where
       go (some e) = refl
 
   -- each op of the table has its request
-  table : All Itemed 0 plainRequests
+  table : All Itemed 1 plainRequests
   unfolding Itemed itemsEnd requestOf
-  table =
-      (refl, (refl, (refl, (refl, (refl, (refl, (refl, (refl, (itemed-publish, (refl, (refl, (refl, (refl, (refl, (itemed-transfer, (refl, (refl, (refl, (refl, (refl, (refl, (refl, (refl, (refl, (refl, tt)))))))))))))))))))))))))
+  table = refl & refl & refl & refl & refl & refl & refl & itemed-publish & refl & refl & refl & refl & refl & itemed-transfer & refl & refl & refl & refl & refl & refl & refl & refl & refl & refl & tt
+
+  known : (op : ℕ) → 1 ≤ op → op ≤ 24 → (make : Fields → Request) × (plainRequest op ≡ some make) × Itemed op make
+  known zero a b = absurd (omega arith)
+  known (suc n) a b =
+      let k = nth-some plainRequests n (omega arith) in
+      let e : 1 + n ≡ suc n = omega arith in
+      (k .0, k .1, subst (λ (j : ℕ). Itemed j (k .0)) e (from Itemed plainRequests 1 n (k .0) table (k .1)))
 
 -- a known op has its request
 pub known-op : (op : ℕ) → fieldFits 4 op ≡ true → (1 ≤ op) × (op ≤ 24)
@@ -154,7 +160,7 @@ module _ (ws : List ℕ) (at : ℕ) where
       ∙ go (recordEnd 4 (getD musts (opAt ws at) 0) (getD musts (opAt ws at) 0 + getD mays (opAt ws at) 0) ws at) refl
     where
       make : Fields × List ℕ → Reading Request
-      make r = andThen (nth plainRequests (must (r .0) 0)) λ f. withItems (r .0) (f (r .0)) (r .1)
+      make r = andThen (plainRequest (must (r .0) 0)) λ f. withItems (r .0) (f (r .0)) (r .1)
 
       itemed : (f : Option (Fields → Request)) (x : Fields → Request) → f ≡ some x → Itemed ws at (opAt ws at) x
           → andThen f (λ y. withItems (fieldsAt ws at) (y (fieldsAt ws at)) (drop (endAt ws at) ws)) ≡ upTo ws (itemsEnd (opAt ws at) (countAt ws at) ws (endAt ws at)) (requestOf (opAt ws at) ws at)
@@ -166,12 +172,11 @@ module _ (ws : List ℕ) (at : ℕ) where
       go none e = refl
       go (some q) e =
           let w = record-whole 4 _ _ ws at q e in
-          let k = nth-some plainRequests (opAt ws at) (omega (arith, known-op (opAt ws at) (first-fits 4 _ _ ws at q w) .1)) in
-          let i = from (Itemed ws at) plainRequests 0 (opAt ws at) (k .0) (table ws at) (k .1) in
-          let j : Itemed ws at (opAt ws at) (k .0) = subst (λ (n : ℕ). Itemed ws at n (k .0)) (zero-add (opAt ws at)) i in
-          subst (λ (p : ℕ). andThen (nth plainRequests (opAt ws at)) (λ y. withItems (fieldsAt ws at) (y (fieldsAt ws at)) (drop p ws))
+          let o = known-op (opAt ws at) (first-fits 4 _ _ ws at q w) in
+          let k = known ws at (opAt ws at) (o .0) (o .1) in
+          subst (λ (p : ℕ). andThen (plainRequest (opAt ws at)) (λ y. withItems (fieldsAt ws at) (y (fieldsAt ws at)) (drop p ws))
           ≡ upTo ws (itemsEnd (opAt ws at) (countAt ws at) ws p) (requestOf (opAt ws at) ws at)) (sym (w .ends))
-          (itemed (nth plainRequests (opAt ws at)) (k .0) (k .1) j)
+          (itemed (plainRequest (opAt ws at)) (k .0) (k .1) (k .2))
 
 items-ends : (op n : ℕ) (ws : List ℕ) (p e : ℕ) → itemsEnd op n ws p ≡ some e → p ≤ length ws → (p ≤ e) × (e ≤ length ws)
 unfolding itemsEnd

@@ -9,8 +9,8 @@ use lib.Dec.{eqb, ltb}
 use Rattle.authority.specs.Rights.{contains}
 use Rattle.format.specs.Format.{musts, mays, transferItemMust, transferItemMay, parcelItemMust, parcelItemMay, fieldKinds, fieldFits, fieldCount}
 use Rattle.model.specs.Base.{pick, nth}
-use Rattle.model.specs.Request.{Item, Request, Request.retireObject, Request.publish, Request.prepareTransfer}
-use Rattle.model.specs.Words.{Reading, andThen, Fields, odd, may, must, operationOf, routeOf, plainRequests}
+use Rattle.model.specs.Request.{Item, Request, Request.getInfo, Request.publish, Request.prepareTransfer}
+use Rattle.model.specs.Words.{Reading, andThen, Fields, odd, may, must, operationOf, routeOf, plainRequest}
 use Rattle.request.specs.declared.Three.{Three}
 use Rattle.request.specs.declared.Next.{Next}
 use Rattle.request.specs.declared.Next.the-variants.{At, Malformed}
@@ -182,9 +182,9 @@ nextAt ws at =
     pick (eqb (opAt ws at) 8) (placeOf (countAt ws at) ws (endAt ws at))
     (pick (eqb (opAt ws at) 14) (placeOf (countAt ws at) ws (endAt ws at)) (endAt ws at))
 
--- what the table of ops makes of the fields
+-- what the table of ops makes of the fields; where there is no such op, which no list that was read has, a request that changes nothing
 abbrev pub applied : Option (Fields → Request) → Fields → Request
-applied none f = retireObject 0
+applied none f = getInfo 0 0
 applied (some make) f = make f
 
 -- the request of an op at a place
@@ -192,7 +192,7 @@ unfoldable pub requestOf : ℕ → List ℕ → ℕ → Request
 requestOf op ws at =
     pick (eqb op 8) (publish (must (fieldsAt ws at) 7) (map (parcelAt ws) (itemPlaces ws at)))
     (pick (eqb op 14) (prepareTransfer (must (fieldsAt ws at) 1) (routeOf (must (fieldsAt ws at) 12)) (may (fieldsAt ws at) 16) (may (fieldsAt ws at) 17) (map (itemAt ws) (itemPlaces ws at)))
-    (applied (nth plainRequests op) (fieldsAt ws at)))
+    (applied (plainRequest op) (fieldsAt ws at)))
 
 unfoldable pub requestAt : List ℕ → ℕ → Request
 requestAt ws at = requestOf (opAt ws at) ws at

@@ -12,14 +12,14 @@ use lib.Dec.{ltb}
 use borrow.Author.Tests.{lt-ltb, le-ltb, ltb-true, ltb-false, eq-eqb, ne-eqb}
 use Rattle.format.specs.Format.{musts, mays, answerWords, fieldCount}
 use Rattle.format.specs.Laws.{must-below, may-below}
-use Rattle.model.specs.Base.{pick, orElse, isSome}
+use Rattle.model.specs.Base.{orElse, isSome}
 use Rattle.model.specs.Words.{andThen, may, must, readRequest, readList}
 use Rattle.request.specs.declared.Next.{Next}
 use Rattle.request.specs.declared.Next.the-variants.{At, Malformed}
 use Rattle.request.specs.declared.Listed.the-variants.{Requests, Malformed as ListMalformed}
 use Rattle.request.specs.declared.Optional.{Optional}
 use Rattle.request.specs.declared.Optional.the-variants.{Word, Absent}
-use Rattle.request.specs.Place.{nextOf, placed, counted, listed, opAt, countAt, placeOf, nextAt, itemsEnd, requestEnd, optional, after, here, fieldsFrom, fieldsAt, endAt, kindsOf, walk, goodMap, recordEnd, manyEnd}
+use Rattle.request.specs.Place.{nextOf, placed, counted, listed, opAt, countAt, placeOf, nextAt, itemsEnd, requestEnd, optional, here, fieldsFrom, fieldsAt, endAt, kindsOf, walk, goodMap, recordEnd, manyEnd}
 use Rattle.request.specs.Counted.{end-out}
 use Rattle.request.specs.Lists.{place-later, request-placed, request-ends, count-turn, count-bad, count-end, count-all}
 

@@ -152,7 +152,7 @@ fn three_known(rq: &[u64], at: usize, map: u64, a: u64, b: u64, c: u64) -> Three
 }
 
 // Three fields of the record at a place by their bits, 0 for one that does not stand. Where the map is the op's `must` map, their places are known
-// from the op and the bits alone; a bit past the last names no field.
+// from the op and the bits alone; `field::NO_FIELD` names none.
 pub fn read_three(rq: &[u64], at: usize, op: u64, a: u64, b: u64, c: u64) -> Three
     ensures { λ r. ⌜ r ≡ threeAt (fieldsAt (now (rq .entry)) at) a b c ⌝ }
 {
@@ -223,14 +223,63 @@ fn each_fits(rq: &[u64], at: usize, map: u64) -> bool
     requires { ⌜ at ≤ length (now rq) ⌝ }
     ensures { λ r. ⌜ r ≡ narrowFit (fieldsFrom fieldCount map (now (rq .entry)) at) ⌝ }
 {
-    let a = fits_too(rq, at, map, 17, format::KIND_NUMBER_32, true);
-    let b = fits_too(rq, at, map, 16, format::KIND_KOID, a);
-    let c = fits_too(rq, at, map, 15, format::KIND_NUMBER_32, b);
-    let d = fits_too(rq, at, map, 14, format::KIND_NUMBER_32, c);
-    let e = fits_too(rq, at, map, 12, format::KIND_ROUTE, d);
-    let f = fits_too(rq, at, map, 10, format::KIND_KOID, e);
-    let g = fits_too(rq, at, map, 9, format::KIND_NUMBER_32, f);
-    fits_too(rq, at, map, 6, format::KIND_NUMBER_32, g)
+    let a = fits_too(
+        rq,
+        at,
+        map,
+        format::field::FIELD_FORBIDDEN_KIND,
+        format::KIND_NUMBER_32,
+        true,
+    );
+    let b = fits_too(
+        rq,
+        at,
+        map,
+        format::field::FIELD_FORBIDDEN_OBJECT,
+        format::KIND_KOID,
+        a,
+    );
+    let c = fits_too(
+        rq,
+        at,
+        map,
+        format::field::FIELD_EXPECTED_KIND,
+        format::KIND_NUMBER_32,
+        b,
+    );
+    let d = fits_too(
+        rq,
+        at,
+        map,
+        format::field::FIELD_OFFERED_KIND,
+        format::KIND_NUMBER_32,
+        c,
+    );
+    let e = fits_too(
+        rq,
+        at,
+        map,
+        format::field::FIELD_ROUTE,
+        format::KIND_ROUTE,
+        d,
+    );
+    let f = fits_too(rq, at, map, format::field::FIELD_KOID, format::KIND_KOID, e);
+    let g = fits_too(
+        rq,
+        at,
+        map,
+        format::field::FIELD_KIND,
+        format::KIND_NUMBER_32,
+        f,
+    );
+    fits_too(
+        rq,
+        at,
+        map,
+        format::field::FIELD_FLAGS,
+        format::KIND_NUMBER_32,
+        g,
+    )
 }
 
 // Whether those fields fit that do not take every word, bit 0 apart: most maps have none of them.

@@ -1,14 +1,14 @@
 -- Each request does what the model's step does. Assumes nothing.
-use mathlib.Core.Path.{_≡_, refl, sym, ap, _∙_}
+use mathlib.Core.Path.{_≡_, refl}
 use mathlib.Core.List.{List}
 use Prim.Native.Nat.{ℕ, _≤_}
 use lib.ListN.{length}
 use Rattle.words.specs.Words.{Small}
-use Rattle.model.specs.State.{till, State}
+use Rattle.model.specs.State.{State}
 use Rattle.layout.specs.declared.Shape.{Shape}
 use Rattle.representation.specs.Represents.{Rep}
 use Rattle.request.specs.Place.{opAt, countAt, endAt, requestOf, requestAt}
-use Rattle.request.specs.Laws.{request-is, Formed}
+use Rattle.request.specs.Laws.{request-is}
 use Rattle.answer.specs.Does.{Does}
 use Rattle.lookup.specs.Read.{getInfo-does, resolve-does}
 use Rattle.lookup.specs.Scanned.{scan-does}

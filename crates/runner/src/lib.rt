@@ -48,7 +48,10 @@ fn serve_new_object(s: &mut [u64], sh: Shape, rq: &[u64], at: usize, out: &mut [
         field::FIELD_RIGHTS,
         field::FIELD_FLAGS,
     );
-    parcel::new_object(s, sh, f.a, Rights(f.b), f.c, out, base);
+    let object = f.a;
+    let rights = f.b;
+    let flags = f.c;
+    parcel::new_object(s, sh, object, Rights(rights), flags, out, base);
 }
 
 fn serve_duplicate(s: &mut [u64], sh: Shape, rq: &[u64], at: usize, out: &mut [u64], base: usize)
@@ -62,7 +65,10 @@ fn serve_duplicate(s: &mut [u64], sh: Shape, rq: &[u64], at: usize, out: &mut [u
         field::FIELD_VALUE,
         field::FIELD_RIGHTS,
     );
-    parcel::duplicate(s, sh, f.a, HandleValue(f.b), Rights(f.c), out, base);
+    let table = f.a;
+    let value = f.b;
+    let rights = f.c;
+    parcel::duplicate(s, sh, table, HandleValue(value), Rights(rights), out, base);
 }
 
 fn serve_release_parcel(
@@ -102,9 +108,11 @@ fn serve_reserve(s: &mut [u64], sh: Shape, rq: &[u64], at: usize, out: &mut [u64
         op::OP_RESERVE,
         field::FIELD_TABLE,
         field::FIELD_COUNT,
-        field::FIELDS,
+        field::NO_FIELD,
     );
-    reserve::reserve(s, sh, f.a, f.b, out, base);
+    let table = f.a;
+    let count = f.b;
+    reserve::reserve(s, sh, table, count, out, base);
 }
 
 fn serve_trim(s: &mut [u64], sh: Shape, rq: &[u64], at: usize, out: &mut [u64], base: usize)
@@ -116,9 +124,11 @@ fn serve_trim(s: &mut [u64], sh: Shape, rq: &[u64], at: usize, out: &mut [u64], 
         op::OP_TRIM,
         field::FIELD_ID,
         field::FIELD_COUNT,
-        field::FIELDS,
+        field::NO_FIELD,
     );
-    reserve::trim(s, sh, ReservationId(f.a), f.b, out, base);
+    let id = f.a;
+    let count = f.b;
+    reserve::trim(s, sh, ReservationId(id), count, out, base);
 }
 
 fn serve_abort(s: &mut [u64], sh: Shape, rq: &[u64], at: usize, out: &mut [u64], base: usize)
@@ -137,10 +147,12 @@ fn serve_publish(s: &mut [u64], sh: Shape, rq: &[u64], at: usize, out: &mut [u64
         op::OP_PUBLISH,
         field::FIELD_ID,
         field::FIELD_COUNT,
-        field::FIELDS,
+        field::NO_FIELD,
     );
+    let id = f.a;
+    let count = f.b;
     let items = request::record_end(rq, at);
-    parcel::publish(s, sh, rq, items, f.b, ReservationId(f.a), out, base);
+    parcel::publish(s, sh, rq, items, count, ReservationId(id), out, base);
 }
 
 fn serve_get_info(s: &mut [u64], sh: Shape, rq: &[u64], at: usize, out: &mut [u64], base: usize)
@@ -152,9 +164,11 @@ fn serve_get_info(s: &mut [u64], sh: Shape, rq: &[u64], at: usize, out: &mut [u6
         op::OP_GET_INFO,
         field::FIELD_TABLE,
         field::FIELD_VALUE,
-        field::FIELDS,
+        field::NO_FIELD,
     );
-    lookup::get_info(s, sh, f.a, HandleValue(f.b), out, base);
+    let table = f.a;
+    let value = f.b;
+    lookup::get_info(s, sh, table, HandleValue(value), out, base);
 }
 
 fn serve_resolve(s: &mut [u64], sh: Shape, rq: &[u64], at: usize, out: &mut [u64], base: usize)
@@ -173,10 +187,23 @@ fn serve_resolve(s: &mut [u64], sh: Shape, rq: &[u64], at: usize, out: &mut [u64
         at,
         op::OP_RESOLVE,
         field::FIELD_KIND,
-        field::FIELDS,
-        field::FIELDS,
+        field::NO_FIELD,
+        field::NO_FIELD,
     );
-    lookup::resolve(s, sh, f.a, HandleValue(f.b), Rights(f.c), g.a, out, base);
+    let table = f.a;
+    let value = f.b;
+    let rights = f.c;
+    let kind = g.a;
+    lookup::resolve(
+        s,
+        sh,
+        table,
+        HandleValue(value),
+        Rights(rights),
+        kind,
+        out,
+        base,
+    );
 }
 
 fn serve_replace(s: &mut [u64], sh: Shape, rq: &[u64], at: usize, out: &mut [u64], base: usize)
@@ -190,7 +217,10 @@ fn serve_replace(s: &mut [u64], sh: Shape, rq: &[u64], at: usize, out: &mut [u64
         field::FIELD_VALUE,
         field::FIELD_RIGHTS,
     );
-    close::replace(s, sh, f.a, HandleValue(f.b), Rights(f.c), out, base);
+    let table = f.a;
+    let value = f.b;
+    let rights = f.c;
+    close::replace(s, sh, table, HandleValue(value), Rights(rights), out, base);
 }
 
 fn serve_close(s: &mut [u64], sh: Shape, rq: &[u64], at: usize, out: &mut [u64], base: usize)
@@ -202,9 +232,11 @@ fn serve_close(s: &mut [u64], sh: Shape, rq: &[u64], at: usize, out: &mut [u64],
         op::OP_CLOSE,
         field::FIELD_TABLE,
         field::FIELD_VALUE,
-        field::FIELDS,
+        field::NO_FIELD,
     );
-    close::close(s, sh, f.a, HandleValue(f.b), out, base);
+    let table = f.a;
+    let value = f.b;
+    close::close(s, sh, table, HandleValue(value), out, base);
 }
 
 fn serve_scan_handles(s: &mut [u64], sh: Shape, rq: &[u64], at: usize, out: &mut [u64], base: usize)
@@ -216,9 +248,11 @@ fn serve_scan_handles(s: &mut [u64], sh: Shape, rq: &[u64], at: usize, out: &mut
         op::OP_SCAN_HANDLES,
         field::FIELD_TABLE,
         field::FIELD_CURSOR,
-        field::FIELDS,
+        field::NO_FIELD,
     );
-    lookup::scan_handles(s, sh, f.a, f.b, out, base);
+    let table = f.a;
+    let cursor = f.b;
+    lookup::scan_handles(s, sh, table, cursor, out, base);
 }
 
 fn serve_prepare_consumption(
@@ -245,16 +279,21 @@ fn serve_prepare_consumption(
         op::OP_PREPARE_CONSUMPTION,
         field::FIELD_KIND,
         field::FIELD_KOID,
-        field::FIELDS,
+        field::NO_FIELD,
     );
+    let table = f.a;
+    let value = f.b;
+    let rights = f.c;
+    let kind = g.a;
+    let koid = g.b;
     transfer::prepare_consumption(
         s,
         sh,
-        f.a,
-        HandleValue(f.b),
-        Rights(f.c),
-        g.a,
-        Koid(g.b),
+        table,
+        HandleValue(value),
+        Rights(rights),
+        kind,
+        Koid(koid),
         out,
         base,
     );
@@ -290,9 +329,18 @@ fn serve_direct_commit(
         op::OP_DIRECT_COMMIT,
         field::FIELD_ID,
         field::FIELD_DESTINATION,
-        field::FIELDS,
+        field::NO_FIELD,
     );
-    claim::direct_commit(s, sh, ReservationId(f.a), ReservationId(f.b), out, base);
+    let id = f.a;
+    let destination = f.b;
+    claim::direct_commit(
+        s,
+        sh,
+        ReservationId(id),
+        ReservationId(destination),
+        out,
+        base,
+    );
 }
 
 fn serve_direct_rollback(
@@ -311,9 +359,18 @@ fn serve_direct_rollback(
         op::OP_DIRECT_ROLLBACK,
         field::FIELD_ID,
         field::FIELD_DESTINATION,
-        field::FIELDS,
+        field::NO_FIELD,
     );
-    claim::direct_rollback(s, sh, ReservationId(f.a), ReservationId(f.b), out, base);
+    let id = f.a;
+    let destination = f.b;
+    claim::direct_rollback(
+        s,
+        sh,
+        ReservationId(id),
+        ReservationId(destination),
+        out,
+        base,
+    );
 }
 
 fn serve_remove_stopping_owner(
@@ -332,9 +389,11 @@ fn serve_remove_stopping_owner(
         op::OP_REMOVE_STOPPING_OWNER,
         field::FIELD_TABLE,
         field::FIELD_CURSOR,
-        field::FIELDS,
+        field::NO_FIELD,
     );
-    teardown::remove_stopping_owner(s, sh, f.a, f.b, out, base);
+    let table = f.a;
+    let cursor = f.b;
+    teardown::remove_stopping_owner(s, sh, table, cursor, out, base);
 }
 
 fn serve_teardown_start(

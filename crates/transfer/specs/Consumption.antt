@@ -16,7 +16,8 @@ use Rattle.model.specs.Change.{withTable}
 use Rattle.model.specs.Book.{addRow, freeRow, idLeft}
 use Rattle.model.specs.Request.{Request.prepareConsumption, Answer.opened}
 use Rattle.model.specs.Decision.{Decision, Decision.refusal, Decision.accept, unless_refuse_then_}
-use Rattle.model.specs.Lookup.{lookup, onView, onHandle}
+use Rattle.model.specs.Lookup.{lookup, onView}
+use Rattle.model.specs.Decided.{onHandle}
 use Rattle.model.specs.Step.{prepareConsumptionOf, decide}
 use Rattle.model.specs.Words.{usedWords}
 use Rattle.model.specs.Counting.{bit-other}
@@ -74,7 +75,7 @@ module _ (ws : List ℕ) (sh : Shape) (s : State) (i : Rep ws sh s) (os : List �
         accept (addRow (claim b (moved k h (h .rights) ∷ [])) (withTable s b (keep till (λ g. transferReserved g (s .book .next)) t k))) (opened (s .book .next))
 
     abbrev afterTable : Table → Decision
-    afterTable t = unless freeRow s refuse 1 then onView (lookup t v) (consumes t)
+    afterTable t = unless freeRow s refuse 1 then onView (lookup t v) 2 3 (consumes t)
 
     table-is : Active s b → prepareConsumptionOf till s b v rights kind koid ≡ afterTable (s .tables b)
     unfolding prepareConsumptionOf
@@ -88,7 +89,7 @@ module _ (ws : List ℕ) (sh : Shape) (s : State) (i : Rep ws sh s) (os : List �
     full-is a e = table-is a ∙ rw e
 
     lookup-is : Active s b → freeRow s ≡ true → (d : Decision) → onHandle s b v consumes ≡ d → prepareConsumptionOf till s b v rights kind koid ≡ d
-    lookup-is a e d k = table-is a ∙ rw e (sym (active-on s b a (λ t. onView (lookup t v) (consumes t))) ∙ k)
+    lookup-is a e d k = table-is a ∙ rw e (sym (active-on s b a (λ t. onView (lookup t v) 2 3 (consumes t))) ∙ k)
 
     module _ (h : PreparedHandle) (k : Opens s b v h) where
       abbrev object′ : Object

@@ -17,7 +17,7 @@ use Rattle.model.specs.Request.{Route, Item}
 use Rattle.model.specs.Words.{routeOf}
 use Rattle.model.specs.Objects.{isNowRetired}
 use Rattle.model.specs.Lookup.{View as Named, View.invalid, View.busy, View.holds, viewSlot, lookup}
-use Rattle.model.specs.Transfer.{Check, _or_, firstFault, permits, isCopy, isHeld, lookupNumber, heldIn, itemChecks, copyChecks, firstOf, itemsFault, entryBy, entryFor}
+use Rattle.model.specs.Transfer.{Check, _or_, firstFault, permits, isCopy, isKnown, isBusyNow, heldIn, itemChecks, copyChecks, firstOf, itemsFault, entryBy, entryFor}
 use Rattle.model.specs.WellFormed.{WellFormed, All}
 use Rattle.model.specs.Tests.{apart}
 use Rattle.invariant.specs.Items.{stands-at, fault-head, held-view, both-none}
@@ -34,7 +34,7 @@ use Rattle.lookup.specs.Named.{view-is, view-found}
 use Rattle.lookup.specs.Read.{object-known}
 use Rattle.parcel.specs.Opened.{stage-is, count-is, limit-is}
 use Rattle.transfer.specs.Checks.{routeBars, rightsRefusal, objectRefusal, handleRefusal, viewRefusal, itemRefusal, itemsRefusal}
-use Rattle.transfer.specs.Preparing.{raiseRefusal}
+use Rattle.parcel.specs.Ops.{raiseRefusal}
 
 -- a number tells a fault: 0 for none
 abbrev pub Tells : Option ℕ → ℕ → Type 0
@@ -189,8 +189,9 @@ module _ (s : State) (t : Table) (route : Route) (bo bk : Option ℕ) where
       let w : Named = lookup t (q .value) in
       let cs : List Check = itemChecks s route bo bk earlier q w in
       let once = fault-head (not (member (q .value) earlier) or 2) (drop 1 cs) e in
-      let found = fault-head (isHeld w or lookupNumber w) (drop 2 cs) (once .1) in
-      let v = held-view w (found .0) in
+      let found = fault-head (isKnown w or 2) (drop 2 cs) (once .1) in
+      let idle = fault-head (not (isBusyNow w) or 3) (drop 3 cs) (found .1) in
+      let v = held-view w (found .0) (idle .0) in
       let k : ℕ = v .0 in let h : Handle = heldIn w in
       let st = stands-at t (q .value) (v .0) (heldIn w) (v .1) in
       record {

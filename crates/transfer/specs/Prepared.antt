@@ -17,8 +17,8 @@ use Rattle.model.specs.Objects.{raise, changeAll}
 use Rattle.model.specs.Book.{addRow, freeRow, idLeft, movedOf, copiesOf}
 use Rattle.model.specs.Request.{Request, Request.prepareTransfer, Item, Answer.opened}
 use Rattle.model.specs.Words.{routeOf, usedWords}
-use Rattle.model.specs.Decision.{Decision, Decision.refusal, Decision.refusalAfterId, Decision.accept, unless_refuse_then_}
-use Rattle.model.specs.Transfer.{itemsFault, copiesFault, entryFor, afterId}
+use Rattle.model.specs.Decision.{Decision, Decision.refusal, Decision.refusalAfterId, Decision.accept, unless_refuse_then_, refuseAfterId_then_}
+use Rattle.model.specs.Transfer.{itemsFault, copiesFault, entryFor}
 use Rattle.model.specs.Step.{prepareTransferOf, decide}
 use Rattle.model.specs.WellFormed.{All}
 use Rattle.invariant.specs.Rows.{good}
@@ -108,15 +108,19 @@ module _ (ws : List ℕ) (sh : Shape) (s : State) (i : Rep ws sh s) (os : List �
 
   -- from the id step on
   abbrev rest : Decision
-  rest = afterId (itemsFault s (s .tables b) (routeOf route) bo bk [] qs) (afterId (copiesFault (s .objects) (copiesOf es)) (accept after (opened (s .book .next))))
+  rest =
+      refuseAfterId itemsFault s (s .tables b) (routeOf route) bo bk [] qs then
+      refuseAfterId copiesFault (s .objects) (copiesOf es) then
+      accept after (opened (s .book .next))
 
   abbrev restOf : Table → Decision
-  restOf t = afterId (itemsFault s t (routeOf route) bo bk [] qs) (
+  restOf t =
+      refuseAfterId itemsFault s t (routeOf route) bo bk [] qs then
       let n : ℕ = s .book .next in
       let ds : List Entry = map (entryFor t) qs in
-      afterId (copiesFault (s .objects) (copiesOf ds)) (
+      refuseAfterId copiesFault (s .objects) (copiesOf ds) then
       accept (addRow (claim b ds) (withObjects (withTable s b (keepAll till (λ g. transferReserved g n) (movedOf ds) t)) (changeAll raise (copiesOf ds) (s .objects))))
-      (opened n)))
+      (opened n)
 
   abbrev afterTable : Table → Decision
   afterTable t =

@@ -12,8 +12,9 @@ use Rattle.layout.specs.declared.Shape.{Shape}
 use Rattle.layout.specs.Layout.{Mem, root, item, load, Write, Write.at, writes}
 use Rattle.request.specs.Place.{fieldsAt, endAt}
 use Rattle.storage.specs.Ops.{up}
-use Rattle.object.specs.Words.{recordAt, raiseW, lowerW}
+use Rattle.object.specs.Words.{raiseW, lowerW}
 use Rattle.book.specs.Ops.{spare, spendW}
+use Rattle.parcel.specs.Ops.{raiseRefusal}
 use Rattle.answer.specs.Does.{Both, both, answered, refuseR}
 use Rattle.lookup.specs.declared.PreparedHandle.{PreparedHandle}
 use Rattle.lookup.specs.declared.View.{View}
@@ -32,13 +33,6 @@ viewLink (Holds h) = up (h .object)
 -- the object of the handle that an item copies, plus 1; 0 for an item that moves
 unfoldable pub copyLink : Mem → ℕ → Item → ℕ
 copyLink m b q = pick (isCopy (q .operation)) (viewLink (viewOf m b (q .value))) 0
-
--- "then copies 9, 11", beside `copyChecks` of the model; 0 for none
-unfoldable pub raiseRefusal : Mem → ℕ → ℕ
-raiseRefusal m o =
-    pick (eqb (recordAt m o .stage) 2) 9
-    (pick (eqb (recordAt m o .count) (recordAt m o .limit)) 11
-    0)
 
 -- a number, 0 for no refusal, and the words that are left
 pub record Tried : Type 0 where

@@ -36,7 +36,8 @@ use Rattle.lookup.specs.declared.View.the-variants.{Invalid, Busy, Holds}
 use Rattle.lookup.specs.View.{viewOf, handleOf, named}
 use Rattle.lookup.specs.Named.{view-is}
 use Rattle.lookup.specs.Read.{object-known}
-use Rattle.transfer.specs.Preparing.{copyLink, raiseRefusal, Tried, tried, raisedItem, loweredItem, loweredItems, raisedItems}
+use Rattle.parcel.specs.Ops.{raiseRefusal}
+use Rattle.transfer.specs.Preparing.{copyLink, Tried, tried, raisedItem, loweredItem, loweredItems, raisedItems}
 use Rattle.transfer.specs.Faults.{Tells, Found, raise-tells}
 
 -- ---- words that differ in objects alone

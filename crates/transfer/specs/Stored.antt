@@ -1,16 +1,16 @@
 -- The words of an item, stored one behind the other from where it stands. Assumes nothing.
 use mathlib.Core.Path.{_≡_, refl, sym, ap, _∙_}
-use mathlib.Core.Bool.{Bool, true, false}
+use mathlib.Core.Bool.{false}
 use mathlib.Core.List.{List}
-use Prim.Native.Nat.{ℕ, suc, _+_, _*_, _<_, _≤_, _^_}
+use Prim.Native.Nat.{ℕ, suc, _+_, _*_, _<_, _^_}
 use native.Mathlib.Omega.{arith}
 use lib.ListN.{length, set, length-set}
 use lib.Seq.{set-out}
 use Rattle.words.specs.Pick.{bool, clash}
 use Rattle.layout.specs.declared.Shape.{Shape}
 use Rattle.layout.specs.declared.Extent.{Extent}
-use Rattle.layout.specs.Regions.{region, Inside, in-place}
-use Rattle.layout.specs.Layout.{layout, rowsAt, item, place, In, isIn, in-is, in-yes, in-no, in-item, place-out, save, save-out, length-save}
+use Rattle.layout.specs.Regions.{region, in-place}
+use Rattle.layout.specs.Layout.{layout, rowsAt, item, place, In, isIn, in-is, in-yes, in-no, in-item, place-out, save, save-out}
 use Rattle.lookup.specs.declared.PreparedHandle.{PreparedHandle}
 use Rattle.transfer.specs.Ops.{movedW}
 use Rattle.transfer.specs.Preparing.{copiedW}

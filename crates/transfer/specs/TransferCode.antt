@@ -15,9 +15,9 @@ use Rattle.model.specs.Request.{Operation, Item}
 use Rattle.model.specs.Words.{may, must, operationOf}
 use Rattle.model.specs.Transfer.{isCopy}
 use Rattle.layout.specs.declared.Shape.{Shape}
-use Rattle.layout.specs.Layout.{Mem, root, object, item, load}
+use Rattle.layout.specs.Layout.{Mem, root, object, load}
 use Rattle.request.specs.declared.Optional.{Optional}
-use Rattle.request.specs.declared.Optional.the-variants.{Word, Absent}
+use Rattle.request.specs.declared.Optional.the-variants.{Word}
 use Rattle.request.specs.Place.{optional, fieldsAt, endAt, placesFrom, placeOf, itemAt}
 use Rattle.request.specs.Lists.{place-later}
 use Rattle.request.specs.Laws.{places-turn, places-end, places-length, place-next}
@@ -33,7 +33,8 @@ use Rattle.transfer.specs.declared.HandleTransferRequest.{HandleTransfer
 use Rattle.transfer.specs.declared.TransferRules.{TransferRules}
 use Rattle.transfer.specs.Ops.{movedW, claimW}
 use Rattle.transfer.specs.Checks.{asOption, itemBy, RulesAt, itemsAt, earlierAt, lookedAt, transferRefusal, copyDenied, routeBars, rightsRefusal, objectRefusal, handleRefusal, viewRefusal, itemRefusal, itemsRefusal}
-use Rattle.transfer.specs.Preparing.{viewLink, copyLink, raiseRefusal, Tried, tried, raisedItem, loweredItem, loweredItems, raisedItems, copiedW, handleEntryW, viewEntryW, entryW, entriesW, refuseSpentR, openedR, itemsR, transferR, transferAt}
+use Rattle.parcel.specs.Ops.{raiseRefusal}
+use Rattle.transfer.specs.Preparing.{viewLink, copyLink, Tried, tried, raisedItem, loweredItem, loweredItems, raisedItems, copiedW, handleEntryW, viewEntryW, entryW, entriesW, refuseSpentR, openedR, itemsR, transferR, transferAt}
 
 -- ---- what is read
 
@@ -155,23 +156,11 @@ module _ (held : ℕ) (op : Operation) (t : Bool) (e : t ≡ isCopy op) where
 
 -- `rights_offered`, `banned`, `differs`
 module _ (o : Optional) where
-  pub offered-word : (w d : ℕ) → o ≡ Word w → w ≡ orElse (asOption o) d
-  offered-word w d e = rw e
-
-  pub offered-none : (d : ℕ) → o ≡ Absent → d ≡ orElse (asOption o) d
-  offered-none d e = rw e
-
   pub banned-word : (w x : ℕ) (r : Bool) → o ≡ Word w → r ≡ eqb w x → r ≡ bans (asOption o) x
   banned-word w x r e a = rw e a
 
-  pub banned-none : (x : ℕ) → o ≡ Absent → false ≡ bans (asOption o) x
-  banned-none x e = rw e
-
   pub differs-word : (w x : ℕ) (r : Bool) → o ≡ Word w → r ≡ not (eqb w x) → r ≡ not (agrees (asOption o) x)
   differs-word w x r e a = rw e a
-
-  pub differs-none : (x : ℕ) → o ≡ Absent → false ≡ not (agrees (asOption o) x)
-  differs-none x e = rw e
 
 -- `route_bars`
 module _ (route class : ℕ) (t : Bool) (e : t ≡ eqb class 0) where
@@ -355,29 +344,6 @@ module _ (m : Mem) (b : ℕ) (q : HandleTransferRequest) (t : Bool) (e : t ≡ i
   pub link-view : (x y : View) (r : ℕ) → t ≡ true → x ≡ viewOf m b (q .value .0) → x ≡ y → r ≡ viewLink y → r ≡ copyLink m b (itemBy q)
   unfolding copyLink itemBy
   link-view x y r z d i a = yes-is _ _ _ _ (sym e ∙ z) (a ∙ ap viewLink (sym i ∙ d))
-
--- `raise_refusal`
-module _ (m : Mem) (o stage : ℕ) (d : stage ≡ m (object o 5)) (t₁ : Bool) (e₁ : t₁ ≡ eqb stage 2) where
-  stage-tells : eqb (recordAt m o .stage) 2 ≡ t₁
-  unfolding recordAt
-  stage-tells = sym (e₁ ∙ ap (λ (z : ℕ). eqb z 2) d)
-
-  pub raise-retired : t₁ ≡ true → 9 ≡ raiseRefusal m o
-  unfolding raiseRefusal
-  raise-retired y = yes-is _ _ _ _ (stage-tells ∙ y) refl
-
-  module _ (n₁ : t₁ ≡ false) (count limit : ℕ) (f : count ≡ m (object o 6)) (g : limit ≡ m (object o 7)) (t₂ : Bool) (e₂ : t₂ ≡ eqb count limit) where
-    count-tells : eqb (recordAt m o .count) (recordAt m o .limit) ≡ t₂
-    unfolding recordAt
-    count-tells = sym (e₂ ∙ ap (λ (z : ℕ). eqb z limit) f ∙ ap (eqb (m (object o 6))) g)
-
-    pub raise-full : t₂ ≡ true → 11 ≡ raiseRefusal m o
-    unfolding raiseRefusal
-    raise-full y = no-is _ _ _ _ (stage-tells ∙ n₁) (yes-is _ _ _ _ (count-tells ∙ y) refl)
-
-    pub raise-free : t₂ ≡ false → 0 ≡ raiseRefusal m o
-    unfolding raiseRefusal
-    raise-free y = no-is _ _ _ _ (stage-tells ∙ n₁) (no-is _ _ _ _ (count-tells ∙ y) refl)
 
 -- `raise_item` and `lower_item`
 module _ (ws : List ℕ) (sh : Shape) (b : ℕ) (q : Item) (l : ℕ) (e : l ≡ copyLink (load ws sh) b q) (t : Bool) (d : t ≡ eqb l 0) where

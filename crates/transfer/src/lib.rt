@@ -21,7 +21,7 @@ ghost use Rattle.answer.specs.Does.{both};
 ghost use Rattle.transfer.specs.Ops.{movedW, markItemW, markedW, claimW, consumeRefusal, consumedR, consumptionR};
 ghost use Rattle.transfer.specs.Checks.{asOption, itemBy, lookedAt, RulesAt, itemsAt, earlierAt, transferRefusal, copyDenied, routeBars, rightsRefusal, objectRefusal, handleRefusal, itemRefusal, itemsRefusal};
 ghost use Rattle.transfer.specs.Seen.{bitOf, Seen};
-ghost use Rattle.transfer.specs.Preparing.{copyLink, raiseRefusal, tried, raisedItem, raisedItems, loweredItem, loweredItems, copiedW, handleEntryW, entryW, entriesW, refuseSpentR, itemsR, transferAt};
+ghost use Rattle.transfer.specs.Preparing.{copyLink, tried, raisedItem, raisedItems, loweredItem, loweredItems, copiedW, handleEntryW, entryW, entriesW, refuseSpentR, itemsR, transferAt};
 use authority::Rights;
 use codec::HandleValue;
 use codec::Koid;
@@ -567,22 +567,6 @@ fn copied_object(s: &[u64], sh: Shape, b: u64, q: HandleTransferRequest) -> u64
     0
 }
 
-// "then copies 9, 11": object o gets no handle more; 0 where it can.
-fn raise_refusal(s: &[u64], sh: Shape, o: u64) -> u64
-    ensures { λ r. ⌜ r ≡ raiseRefusal (loadAt (now (s .entry)) sh) o ⌝ }
-{
-    let stage = layout::object_word(s, sh, o, 5);
-    if words::eq(stage, object::NOW_RETIRED) {
-        return format::refusal::OBJECT_RETIRED;
-    }
-    let count = layout::object_word(s, sh, o, 6);
-    let limit = layout::object_word(s, sh, o, 7);
-    if words::eq(count, limit) {
-        return format::refusal::ACTIVE_HANDLE_LIMIT;
-    }
-    format::refusal::DONE
-}
-
 // The object of an item that copies gets one handle more, or refuses.
 fn raise_item(s: &mut [u64], sh: Shape, b: u64, q: HandleTransferRequest) -> u64
     ensures { λ r. ⌜ tried r (now (s .exit)) ≡ raisedItem (now (s .entry)) sh b (itemBy q) ⌝ }
@@ -592,7 +576,7 @@ fn raise_item(s: &mut [u64], sh: Shape, b: u64, q: HandleTransferRequest) -> u64
         return format::refusal::DONE;
     }
     let o = words::dec(link);
-    let n = raise_refusal(s, sh, o);
+    let n = parcel::raise_refusal(s, sh, o);
     if words::ne(n, 0) {
         return n;
     }

@@ -2,12 +2,6 @@ use Rattle.claim.specs.Code.{committed-is}
 use borrow.Author.Needs.{needs}
 use Rattle.claim.proofs.commit_row.Statement.{statement}
 use Rattle.claim.proofs.commit_row.Tie as tie
-use Rattle.claim.proofs.commit_row.Reads as reads
-use Rattle.claim.proofs.commit_row.Lts as lts
-use Rattle.claim.proofs.leave_entries.Reads as leave-entries-reads
-use Rattle.claim.proofs.send_entries.Reads as send-entries-reads
-use Rattle.layout.proofs.put_row.Reads as put-row-reads
-use Rattle.layout.proofs.row_word.Reads as row-word-reads
 
 -- src/lib.rt:128:9
 row-word-requires : tie.Need-row-word-requires

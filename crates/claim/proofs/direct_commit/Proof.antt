@@ -2,15 +2,6 @@ use Rattle.claim.specs.Code.{direct-none, direct-done}
 use borrow.Author.Needs.{needs}
 use Rattle.claim.proofs.direct_commit.Statement.{statement}
 use Rattle.claim.proofs.direct_commit.Tie as tie
-use Rattle.claim.proofs.direct_commit.Reads as reads
-use Rattle.claim.proofs.direct_commit.Lts as lts
-use Rattle.answer.proofs.refuse.Reads as refuse-reads
-use Rattle.answer.proofs.say.Reads as say-reads
-use Rattle.claim.proofs.claim_of.Reads as claim-of-reads
-use Rattle.claim.proofs.direct_rows.Reads as direct-rows-reads
-use Rattle.claim.proofs.paired.Reads as paired-reads
-use Rattle.reserve.proofs.reservation_of.Reads as reservation-of-reads
-use Rattle.words.proofs.dec.Reads as dec-reads
 
 -- src/lib.rt:202:9
 claim-of-requires : tie.Need-claim-of-requires

@@ -2,15 +2,6 @@ use Rattle.claim.specs.Code.{undirect-none, undirect-done}
 use borrow.Author.Needs.{needs}
 use Rattle.claim.proofs.direct_rollback.Statement.{statement}
 use Rattle.claim.proofs.direct_rollback.Tie as tie
-use Rattle.claim.proofs.direct_rollback.Reads as reads
-use Rattle.claim.proofs.direct_rollback.Lts as lts
-use Rattle.answer.proofs.refuse.Reads as refuse-reads
-use Rattle.claim.proofs.claim_of.Reads as claim-of-reads
-use Rattle.claim.proofs.paired.Reads as paired-reads
-use Rattle.claim.proofs.rollback_row.Reads as rollback-row-reads
-use Rattle.reserve.proofs.abort.Reads as abort-reads
-use Rattle.reserve.proofs.reservation_of.Reads as reservation-of-reads
-use Rattle.words.proofs.dec.Reads as dec-reads
 
 -- src/lib.rt:223:9
 claim-of-requires : tie.Need-claim-of-requires

@@ -2,12 +2,6 @@ use Rattle.claim.specs.Code.{direct-is}
 use borrow.Author.Needs.{needs}
 use Rattle.claim.proofs.direct_rows.Statement.{statement}
 use Rattle.claim.proofs.direct_rows.Tie as tie
-use Rattle.claim.proofs.direct_rows.Reads as reads
-use Rattle.claim.proofs.direct_rows.Lts as lts
-use Rattle.book.proofs.close_row.Reads as close-row-reads
-use Rattle.claim.proofs.fill_slots.Reads as fill-slots-reads
-use Rattle.claim.proofs.leave_entries.Reads as leave-entries-reads
-use Rattle.layout.proofs.row_word.Reads as row-word-reads
 
 -- src/lib.rt:182:9
 row-word-requires : tie.Need-row-word-requires

@@ -7,11 +7,6 @@ use mathlib.Core.List.{List}
 use mathlib.Core.Path.{_≡_, refl}
 use Rattle.claim.proofs.fill_slots.Statement.{statement}
 use Rattle.claim.proofs.fill_slots.Tie as tie
-use Rattle.claim.proofs.fill_slots.Reads as reads
-use Rattle.claim.proofs.fill_slots.Lts as lts
-use Rattle.claim.proofs.sent_rights.Reads as sent-rights-reads
-use Rattle.layout.proofs.item_word.Reads as item-word-reads
-use Rattle.storage.proofs.occupy.Reads as occupy-reads
 
 abbrev Inv-loop : tie.InvT-loop
 Inv-loop s₀ sh c to from n j₀ s j = (length s ≡ length s₀) × (each (λ (vs : List ℕ) (i : ℕ). fillW vs sh c to from i) s₀ 0 n ≡ each (λ (vs : List ℕ) (i : ℕ). fillW vs sh c to from i) s j (n - j))

@@ -2,11 +2,6 @@ use Rattle.claim.specs.Code.{leave-move, leave-copy}
 use borrow.Author.Needs.{needs}
 use Rattle.claim.proofs.leave_entry.Statement.{statement}
 use Rattle.claim.proofs.leave_entry.Tie as tie
-use Rattle.claim.proofs.leave_entry.Reads as reads
-use Rattle.claim.proofs.leave_entry.Lts as lts
-use Rattle.layout.proofs.item_word.Reads as item-word-reads
-use Rattle.storage.proofs.vacate.Reads as vacate-reads
-use Rattle.words.proofs.eq.Reads as eq-reads
 
 -- src/lib.rt:95:18
 item-word-requires : tie.Need-item-word-requires

@@ -2,11 +2,6 @@ use Rattle.claim.specs.Code.{unpaired-claim, unpaired-reservation, paire
 use Rattle.layout.specs.Layout.{load}
 use Rattle.claim.proofs.paired.Statement.{statement}
 use Rattle.claim.proofs.paired.Tie as tie
-use Rattle.claim.proofs.paired.Reads as reads
-use Rattle.claim.proofs.paired.Lts as lts
-use Rattle.layout.proofs.row_word.Reads as row-word-reads
-use Rattle.words.proofs.dec.Reads as dec-reads
-use Rattle.words.proofs.eq.Reads as eq-reads
 
 -- src/lib.rt:152:8
 eq-requires : tie.Need-eq-requires

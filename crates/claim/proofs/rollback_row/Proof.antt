@@ -2,11 +2,6 @@ use Rattle.claim.specs.Code.{rolled-is}
 use borrow.Author.Needs.{needs}
 use Rattle.claim.proofs.rollback_row.Statement.{statement}
 use Rattle.claim.proofs.rollback_row.Tie as tie
-use Rattle.claim.proofs.rollback_row.Reads as reads
-use Rattle.claim.proofs.rollback_row.Lts as lts
-use Rattle.book.proofs.close_row.Reads as close-row-reads
-use Rattle.claim.proofs.undo_entries.Reads as undo-entries-reads
-use Rattle.layout.proofs.row_word.Reads as row-word-reads
 
 -- src/lib.rt:62:9
 row-word-requires : tie.Need-row-word-requires

@@ -1,5 +1,5 @@
 use borrow.Author.Needs.{needs}
-use Rattle.claim.specs.Code.{each-start, each-turn, each-end, send-is}
+use Rattle.claim.specs.Code.{each-start, each-turn, each-end}
 use Rattle.claim.specs.Ops.{each, sendW}
 use lib.ListN.{length}
 use Prim.Native.Nat.{ℕ, _-_}
@@ -7,10 +7,6 @@ use mathlib.Core.List.{List}
 use mathlib.Core.Path.{_≡_, refl}
 use Rattle.claim.proofs.send_entries.Statement.{statement}
 use Rattle.claim.proofs.send_entries.Tie as tie
-use Rattle.claim.proofs.send_entries.Reads as reads
-use Rattle.claim.proofs.send_entries.Lts as lts
-use Rattle.claim.proofs.sent_rights.Reads as sent-rights-reads
-use Rattle.layout.proofs.put_item.Reads as put-item-reads
 
 abbrev Inv-loop : tie.InvT-loop
 Inv-loop s₀ sh x n j₀ s j = (length s ≡ length s₀) × (each (λ (vs : List ℕ) (i : ℕ). sendW vs sh x i) s₀ 0 n ≡ each (λ (vs : List ℕ) (i : ℕ). sendW vs sh x i) s j (n - j))
@@ -18,35 +14,31 @@ Inv-loop s₀ sh x n j₀ s j = (length s ≡ length s₀) × (each (λ (vs : Li
 abbrev μ-loop : tie.MeasureT-loop
 μ-loop s₀ sh x n j₀ s j = n - j
 
--- src/lib.rt:117:5
+-- src/lib.rt:106:5
 loop-holds : tie.Need-loop-holds Inv-loop μ-loop
 loop-holds c = (refl, each-start _ (c .before .args .s .now) (c .before .args .n))
 
--- src/lib.rt:118:13
-sent-rights-requires : tie.Need-sent-rights-requires Inv-loop μ-loop
-sent-rights-requires c κs = tt
+-- src/lib.rt:107:9
+send-entry-requires : tie.Need-send-entry-requires Inv-loop μ-loop
+send-entry-requires c κs = tt
 
--- src/lib.rt:119:9
-put-item-requires : tie.Need-put-item-requires Inv-loop μ-loop
-put-item-requires c κs = tt
-
--- src/lib.rt:120:9
+-- src/lib.rt:108:9
 add-j : tie.Need-add-j Inv-loop μ-loop
 add-j c = search needs
 
--- src/lib.rt:117:5
+-- src/lib.rt:106:5
 loop-less : tie.Need-loop-less Inv-loop μ-loop
 loop-less c = search needs
 
--- src/lib.rt:117:5
+-- src/lib.rt:106:5
 loop-again : tie.Need-loop-again Inv-loop μ-loop
-loop-again c = (search needs, each-turn _ (c .before .before .before .before .before .before .before .before .before .args .s .now) (c .before .before .before .before .before .before .before .before .before .args .n) _ _ _ (c .before .before .before .before .before .before .loop-test .taken) (c .before .before .before .before .before .before .before .loop .inv .1) (send-is _ _ (c .before .before .before .before .before .before .before .before .before .args .sh) (c .before .before .before .before .before .before .before .before .before .args .x) _ _ (c .before .before .before .before .sent-rights .ensures) (c .before .before .put-item .ensures)))
+loop-again c = (search needs, each-turn _ (c .before .before .before .before .before .before .before .args .s .now) (c .before .before .before .before .before .before .before .args .n) _ _ _ (c .before .before .before .before .loop-test .taken) (c .before .before .before .before .before .loop .inv .1) (c .before .before .send-entry .ensures))
 
--- src/lib.rt:113:1
+-- src/lib.rt:102:1
 same-length : tie.Need-same-length Inv-loop μ-loop
 same-length c = search needs
 
--- src/lib.rt:113:1
+-- src/lib.rt:102:1
 returns : tie.Need-returns Inv-loop μ-loop
 returns c = each-end _ (c .before .before .before .args .s .now) (c .before .before .before .args .n) _ _ (c .loop-test .left) (c .before .loop .inv .1)
 
@@ -57,8 +49,7 @@ send-entries-spec =
     Inv-loop
     μ-loop
     loop-holds
-    sent-rights-requires
-    put-item-requires
+    send-entry-requires
     add-j
     loop-less
     loop-again

@@ -2,10 +2,6 @@ use Rattle.claim.specs.Code.{sent-move, sent-copy}
 use Rattle.layout.specs.Layout.{load}
 use Rattle.claim.proofs.sent_rights.Statement.{statement}
 use Rattle.claim.proofs.sent_rights.Tie as tie
-use Rattle.claim.proofs.sent_rights.Reads as reads
-use Rattle.claim.proofs.sent_rights.Lts as lts
-use Rattle.layout.proofs.item_word.Reads as item-word-reads
-use Rattle.words.proofs.eq.Reads as eq-reads
 
 -- src/lib.rt:85:18
 item-word-requires : tie.Need-item-word-requires

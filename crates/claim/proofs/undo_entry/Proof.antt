@@ -2,12 +2,6 @@ use Rattle.claim.specs.Code.{undo-move, undo-copy}
 use borrow.Author.Needs.{needs}
 use Rattle.claim.proofs.undo_entry.Statement.{statement}
 use Rattle.claim.proofs.undo_entry.Tie as tie
-use Rattle.claim.proofs.undo_entry.Reads as reads
-use Rattle.claim.proofs.undo_entry.Lts as lts
-use Rattle.layout.proofs.item_word.Reads as item-word-reads
-use Rattle.object.proofs.lower_object.Reads as lower-object-reads
-use Rattle.storage.proofs.occupy.Reads as occupy-reads
-use Rattle.words.proofs.eq.Reads as eq-reads
 
 -- src/lib.rt:36:9
 item-word-requires : tie.Need-item-word-requires

@@ -1,11 +1,6 @@
 use Rattle.detach.specs.Code.{first-yes, first-no}
-use borrow.Author.Needs.{needs}
 use Rattle.detach.proofs.first_empty.Statement.{statement}
 use Rattle.detach.proofs.first_empty.Tie as tie
-use Rattle.detach.proofs.first_empty.Reads as reads
-use Rattle.detach.proofs.first_empty.Lts as lts
-use Rattle.layout.proofs.head_word.Reads as head-word-reads
-use Rattle.words.proofs.eq.Reads as eq-reads
 
 -- src/lib.rt:108:18
 head-word-requires : tie.Need-head-word-requires

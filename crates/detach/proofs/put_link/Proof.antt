@@ -3,9 +3,6 @@ use Rattle.detach.specs.Code.{link-none, link-some}
 use borrow.Author.Needs.{needs}
 use Rattle.detach.proofs.put_link.Statement.{statement}
 use Rattle.detach.proofs.put_link.Tie as tie
-use Rattle.detach.proofs.put_link.Reads as reads
-use Rattle.detach.proofs.put_link.Lts as lts
-use Rattle.storage.proofs.put_slot_word.Reads as put-slot-word-reads
 
 -- src/lib.rt:19:9
 returns : tie.Need-returns

@@ -2,16 +2,6 @@ use Rattle.detach.specs.Code.{take-unknown, take-none, take-page}
 use borrow.Author.Needs.{needs}
 use Rattle.detach.proofs.take_empty_page.Statement.{statement}
 use Rattle.detach.proofs.take_empty_page.Tie as tie
-use Rattle.detach.proofs.take_empty_page.Reads as reads
-use Rattle.detach.proofs.take_empty_page.Lts as lts
-use Rattle.answer.proofs.refuse.Reads as refuse-reads
-use Rattle.answer.proofs.say1.Reads as say1-reads
-use Rattle.answer.proofs.say2.Reads as say2-reads
-use Rattle.detach.proofs.detach_page.Reads as detach-page-reads
-use Rattle.detach.proofs.first_empty.Reads as first-empty-reads
-use Rattle.words.proofs.dec.Reads as dec-reads
-use Rattle.words.proofs.eq.Reads as eq-reads
-use Rattle.words.proofs.lt.Reads as lt-reads
 
 -- src/lib.rt:118:21
 cast-lt : tie.Need-cast-lt

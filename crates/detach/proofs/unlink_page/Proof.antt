@@ -7,10 +7,6 @@ use native.Mathlib.Omega.{arith}
 use Rattle.detach.specs.Code.{slots-low, unlink-start, unlink-more, unlink-end}
 use Rattle.detach.proofs.unlink_page.Statement.{statement}
 use Rattle.detach.proofs.unlink_page.Tie as tie
-use Rattle.detach.proofs.unlink_page.Reads as reads
-use Rattle.detach.proofs.unlink_page.Lts as lts
-use Rattle.detach.proofs.page_slots.Reads as page-slots-reads
-use Rattle.detach.proofs.unlink_slot.Reads as unlink-slot-reads
 
 abbrev Inv-loop : tie.InvT-loop
 Inv-loop s₀ sh b p n j₀ s j = (j ≤ n) × (length s ≡ length s₀) × (s ≡ unlinkAll s₀ sh b (p * 64) j)
@@ -19,8 +15,11 @@ abbrev μ-loop : tie.MeasureT-loop
 μ-loop s₀ sh b p n j₀ s j = n - j
 
 -- src/lib.rt:63:9
-page-slots-requires : tie.Need-page-slots-requires Inv-loop μ-loop
-page-slots-requires c κs = tt
+slots-of-requires : tie.Need-slots-of-requires Inv-loop μ-loop
+slots-of-requires c κs = tt
+
+cast-n : tie.Need-cast-n Inv-loop μ-loop
+cast-n c = search needs
 
 -- src/lib.rt:65:5
 loop-holds : tie.Need-loop-holds Inv-loop μ-loop
@@ -28,11 +27,11 @@ loop-holds c = (search needs, refl, unlink-start _ _ _ _)
 
 -- src/lib.rt:66:31
 mul-unlink-slot : tie.Need-mul-unlink-slot Inv-loop μ-loop
-mul-unlink-slot c = let q = slots-low (c .before .before .before .before .before .args .p) _ _ (c .before .before .before .page-slots .ensures) (c .before .loop-test .taken) in omega (arith, q .0)
+mul-unlink-slot c = let q = slots-low (c .before .before .before .before .before .args .p) _ _ (c .before .before .before .slots-of .ensures) (c .before .loop-test .taken) in omega (arith, q .0)
 
 -- src/lib.rt:66:31
 add-unlink-slot : tie.Need-add-unlink-slot Inv-loop μ-loop
-add-unlink-slot c = let q = slots-low (c .before .before .before .before .before .args .p) _ _ (c .before .before .before .page-slots .ensures) (c .before .loop-test .taken) in omega (arith, q .0, q .1)
+add-unlink-slot c = let q = slots-low (c .before .before .before .before .before .args .p) _ _ (c .before .before .before .slots-of .ensures) (c .before .loop-test .taken) in omega (arith, q .0, q .1)
 
 -- src/lib.rt:66:9
 unlink-slot-requires : tie.Need-unlink-slot-requires Inv-loop μ-loop
@@ -56,7 +55,7 @@ same-length c = search needs
 
 -- src/lib.rt:60:1
 returns : tie.Need-returns Inv-loop μ-loop
-returns c = unlink-end _ _ _ _ (c .before .before .before .before .args .p) _ _ (c .before .loop .inv .2) (omega arith) (c .before .before .page-slots .ensures)
+returns c = unlink-end _ _ _ _ (c .before .before .before .before .args .p) _ _ (c .before .loop .inv .2) (omega arith) (c .before .before .slots-of .ensures)
 
 pub unlink-page-spec : {M : Type 1} → statement M
 unlink-page-spec =
@@ -64,7 +63,8 @@ unlink-page-spec =
     (tie.spec
     Inv-loop
     μ-loop
-    page-slots-requires
+    slots-of-requires
+    cast-n
     loop-holds
     mul-unlink-slot
     add-unlink-slot

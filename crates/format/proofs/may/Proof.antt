@@ -1,31 +1,68 @@
--- `format::may` meets its contract.
+-- `format::may` meets its contract: each arm reads its own entry, and past the last there is none.
 -- Assumes nothing.
-use lib.ListN.{List·getD-eq-default}
-use mathlib.Core.Path.{refl, sym}
-use native.Mathlib.Omega.{arith}
-use Rattle.format.specs.Laws.{may-below}
 use Rattle.format.specs.Format.{mays}
+use Rattle.format.specs.Laws.{none-at}
 use borrow.Author.Needs.{needs}
 use Rattle.format.proofs.may.Statement.{statement}
 use Rattle.format.proofs.may.Tie as tie
 
-mul-result : tie.Need-mul-result
-mul-result c = search needs
-
-array-read-result : tie.Need-array-read-result
-array-read-result c = search needs
-
-cast-result : tie.Need-cast-result
+returns-26 : tie.Need-returns-26
 unfolding mays
-cast-result c = record { fits = omega (arith, may-below (c .before .args .op)) }
-
-returns : tie.Need-returns
-unfolding mays
-returns c = refl
-
-returns-2 : tie.Need-returns-2
-unfolding mays
-returns-2 c = sym (List·getD-eq-default mays 0 (c .if1 .left))
+returns-26 c = none-at _ mays (c .before .args .op) (c .match .rest)
 
 pub may-spec : {M : Type 1} → statement M
-may-spec = tie.close (tie.spec mul-result array-read-result cast-result returns returns-2)
+unfolding mays
+may-spec =
+    tie.close
+    (tie.spec
+    (λ c. search needs)
+    (λ c. search needs)
+    (λ c. search needs)
+    (λ c. search needs)
+    (λ c. search needs)
+    (λ c. search needs)
+    (λ c. search needs)
+    (λ c. search needs)
+    (λ c. search needs)
+    (λ c. search needs)
+    (λ c. search needs)
+    (λ c. search needs)
+    (λ c. search needs)
+    (λ c. search needs)
+    (λ c. search needs)
+    (λ c. search needs)
+    (λ c. search needs)
+    (λ c. search needs)
+    (λ c. search needs)
+    (λ c. search needs)
+    (λ c. search needs)
+    (λ c. search needs)
+    (λ c. search needs)
+    (λ c. search needs)
+    (λ c. search needs)
+    (λ c. search needs)
+    (λ c. search needs)
+    (λ c. search needs)
+    (λ c. search needs)
+    (λ c. search needs)
+    (λ c. search needs)
+    (λ c. search needs)
+    (λ c. search needs)
+    (λ c. search needs)
+    (λ c. search needs)
+    (λ c. search needs)
+    (λ c. search needs)
+    (λ c. search needs)
+    (λ c. search needs)
+    (λ c. search needs)
+    (λ c. search needs)
+    (λ c. search needs)
+    (λ c. search needs)
+    (λ c. search needs)
+    (λ c. search needs)
+    (λ c. search needs)
+    (λ c. search needs)
+    (λ c. search needs)
+    (λ c. search needs)
+    (λ c. search needs)
+    returns-26)

@@ -2,8 +2,6 @@ use Rattle.lookup.specs.Code.{ended-by}
 use borrow.Author.Needs.{needs}
 use Rattle.lookup.proofs.ended.Statement.{statement}
 use Rattle.lookup.proofs.ended.Tie as tie
-use Rattle.lookup.proofs.ended.Reads as reads
-use Rattle.lookup.proofs.ended.Lts as lts
 
 next-cursor-requires : tie.Need-next-cursor-requires
 next-cursor-requires c κs = tt

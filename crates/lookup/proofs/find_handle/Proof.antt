@@ -1,11 +1,7 @@
-use Rattle.lookup.specs.View.{viewOf}
 use Rattle.lookup.specs.Code.{view-found, view-busy, view-none}
-use Rattle.layout.specs.Layout.{load}
 use borrow.Author.Needs.{needs}
 use Rattle.lookup.proofs.find_handle.Statement.{statement}
 use Rattle.lookup.proofs.find_handle.Tie as tie
-use Rattle.lookup.proofs.find_handle.Reads as reads
-use Rattle.lookup.proofs.find_handle.Lts as lts
 
 open-value-requires : tie.Need-open-value-requires
 open-value-requires c κs = tt

@@ -1,8 +1,6 @@
 use native.Mathlib.Omega.{arith}
 use Rattle.lookup.proofs.frame_on.Statement.{statement}
 use Rattle.lookup.proofs.frame_on.Tie as tie
-use Rattle.lookup.proofs.frame_on.Reads as reads
-use Rattle.lookup.proofs.frame_on.Lts as lts
 
 frame-link-requires : tie.Need-frame-link-requires
 frame-link-requires c κs = tt

@@ -2,12 +2,6 @@ use Rattle.lookup.specs.Code.{info-refused, info-said}
 use borrow.Author.Needs.{needs}
 use Rattle.lookup.proofs.get_info.Statement.{statement}
 use Rattle.lookup.proofs.get_info.Tie as tie
-use Rattle.lookup.proofs.get_info.Reads as reads
-use Rattle.lookup.proofs.get_info.Lts as lts
-use Rattle.answer.proofs.refuse.Reads as refuse-reads
-use Rattle.answer.proofs.say4.Reads as say4-reads
-use Rattle.lookup.proofs.info_of.Reads as info-of-reads
-use Rattle.lookup.proofs.open_handle.Reads as open-handle-reads
 
 -- src/lib.rt:138:11
 open-handle-requires : tie.Need-open-handle-requires

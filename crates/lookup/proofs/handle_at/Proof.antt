@@ -1,10 +1,7 @@
 use Rattle.lookup.specs.View.{handleBy}
-use mathlib.Core.Path.{_∙_, sym, ap, refl}
-use borrow.Author.Needs.{needs}
+use mathlib.Core.Path.{_∙_, ap}
 use Rattle.lookup.proofs.handle_at.Statement.{statement}
 use Rattle.lookup.proofs.handle_at.Tie as tie
-use Rattle.lookup.proofs.handle_at.Reads as reads
-use Rattle.lookup.proofs.handle_at.Lts as lts
 
 slot-at-requires : tie.Need-slot-at-requires
 slot-at-requires c κs = tt

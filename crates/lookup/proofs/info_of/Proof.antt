@@ -2,9 +2,6 @@ use Rattle.lookup.specs.Code.{info-by}
 use Rattle.layout.specs.Layout.{load}
 use Rattle.lookup.proofs.info_of.Statement.{statement}
 use Rattle.lookup.proofs.info_of.Tie as tie
-use Rattle.lookup.proofs.info_of.Reads as reads
-use Rattle.lookup.proofs.info_of.Lts as lts
-use Rattle.layout.proofs.object_word.Reads as object-word-reads
 
 -- src/lib.rt:127:20
 object-word-requires : tie.Need-object-word-requires

@@ -1,9 +1,6 @@
 use Rattle.lookup.specs.Code.{next-more, next-none}
 use Rattle.lookup.proofs.next_cursor.Statement.{statement}
 use Rattle.lookup.proofs.next_cursor.Tie as tie
-use Rattle.lookup.proofs.next_cursor.Reads as reads
-use Rattle.lookup.proofs.next_cursor.Lts as lts
-use Rattle.words.proofs.lt.Reads as lt-reads
 
 -- src/lib.rt:288:8
 lt-requires : tie.Need-lt-requires

@@ -1,10 +1,7 @@
 use Rattle.lookup.specs.Code.{open-refused, open-view}
 use Rattle.layout.specs.Layout.{load}
-use borrow.Author.Needs.{needs}
 use Rattle.lookup.proofs.open_handle.Statement.{statement}
 use Rattle.lookup.proofs.open_handle.Tie as tie
-use Rattle.lookup.proofs.open_handle.Reads as reads
-use Rattle.lookup.proofs.open_handle.Lts as lts
 
 table-refusal-requires : tie.Need-table-refusal-requires
 table-refusal-requires c κs = tt

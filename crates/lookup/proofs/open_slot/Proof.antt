@@ -2,8 +2,6 @@ use Rattle.lookup.specs.Code.{words-of, open-holds, open-not}
 use Rattle.layout.specs.Layout.{load}
 use Rattle.lookup.proofs.open_slot.Statement.{statement}
 use Rattle.lookup.proofs.open_slot.Tie as tie
-use Rattle.lookup.proofs.open_slot.Reads as reads
-use Rattle.lookup.proofs.open_slot.Lts as lts
 
 slot-frame-requires : tie.Need-slot-frame-requires
 slot-frame-requires c κs = tt

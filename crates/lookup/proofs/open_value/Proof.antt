@@ -1,12 +1,10 @@
 use Rattle.lookup.specs.View.{viewOpened}
 use Rattle.lookup.specs.Code.{view-at, view-at-none}
-use mathlib.Core.Path.{_∙_, sym, ap, refl}
+use mathlib.Core.Path.{_∙_, ap}
 use Rattle.layout.specs.Layout.{load}
 use borrow.Author.Needs.{needs}
 use Rattle.lookup.proofs.open_value.Statement.{statement}
 use Rattle.lookup.proofs.open_value.Tie as tie
-use Rattle.lookup.proofs.open_value.Reads as reads
-use Rattle.lookup.proofs.open_value.Lts as lts
 
 head-word-requires : tie.Need-head-word-requires
 head-word-requires c κs = tt

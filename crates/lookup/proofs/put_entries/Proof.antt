@@ -8,9 +8,6 @@ use Rattle.request.specs.Answers.{puts}
 use Rattle.lookup.specs.Pages.{entries-none, entries-more, entries-len, entries-all, length-mapped}
 use Rattle.lookup.proofs.put_entries.Statement.{statement}
 use Rattle.lookup.proofs.put_entries.Tie as tie
-use Rattle.lookup.proofs.put_entries.Reads as reads
-use Rattle.lookup.proofs.put_entries.Lts as lts
-use Rattle.lookup.proofs.put_entry.Reads as put-entry-reads
 
 abbrev Inv-loop : tie.InvT-loop
 Inv-loop out₀ base entries len k₀ out k = (k ≤ 8) × (k ≤ len) × (length entries ≡ 8) × (length out ≡ length out₀) × (out ≡ puts out₀ base 5 (entryList (take k entries)))

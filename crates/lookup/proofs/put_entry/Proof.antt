@@ -2,9 +2,6 @@ use Rattle.lookup.specs.Pages.{entry-put}
 use borrow.Author.Needs.{needs}
 use Rattle.lookup.proofs.put_entry.Statement.{statement}
 use Rattle.lookup.proofs.put_entry.Tie as tie
-use Rattle.lookup.proofs.put_entry.Reads as reads
-use Rattle.lookup.proofs.put_entry.Lts as lts
-use Rattle.request.proofs.answer_put.Reads as answer-put-reads
 
 -- src/lib.rt:357:5
 answer-put-requires : tie.Need-answer-put-requires

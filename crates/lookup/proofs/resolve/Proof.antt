@@ -2,11 +2,6 @@ use Rattle.lookup.specs.Code.{resolve-refused, resolve-found}
 use borrow.Author.Needs.{needs}
 use Rattle.lookup.proofs.resolve.Statement.{statement}
 use Rattle.lookup.proofs.resolve.Tie as tie
-use Rattle.lookup.proofs.resolve.Reads as reads
-use Rattle.lookup.proofs.resolve.Lts as lts
-use Rattle.answer.proofs.refuse.Reads as refuse-reads
-use Rattle.lookup.proofs.open_handle.Reads as open-handle-reads
-use Rattle.lookup.proofs.resolve_handle.Reads as resolve-handle-reads
 
 -- src/lib.rt:170:11
 open-handle-requires : tie.Need-open-handle-requires

@@ -2,13 +2,6 @@ use Rattle.lookup.specs.Code.{resolve-denied, resolve-other, resolve-sai
 use borrow.Author.Needs.{needs}
 use Rattle.lookup.proofs.resolve_handle.Statement.{statement}
 use Rattle.lookup.proofs.resolve_handle.Tie as tie
-use Rattle.lookup.proofs.resolve_handle.Reads as reads
-use Rattle.lookup.proofs.resolve_handle.Lts as lts
-use Rattle.answer.proofs.refuse.Reads as refuse-reads
-use Rattle.answer.proofs.say3.Reads as say3-reads
-use Rattle.authority.proofs.Rights.contains.Reads as contains-reads
-use Rattle.lookup.proofs.info_of.Reads as info-of-reads
-use Rattle.words.proofs.eq.Reads as eq-reads
 
 -- src/lib.rt:154:8
 contains-requires : tie.Need-contains-requires

@@ -3,12 +3,6 @@ use Rattle.lookup.specs.Pages.{page-said}
 use borrow.Author.Needs.{needs}
 use Rattle.lookup.proofs.say_page.Statement.{statement}
 use Rattle.lookup.proofs.say_page.Tie as tie
-use Rattle.lookup.proofs.say_page.Reads as reads
-use Rattle.lookup.proofs.say_page.Lts as lts
-use Rattle.answer.proofs.say4.Reads as say4-reads
-use Rattle.lookup.proofs.has_next.Reads as has-next-reads
-use Rattle.lookup.proofs.next_word.Reads as next-word-reads
-use Rattle.lookup.proofs.put_entries.Reads as put-entries-reads
 
 -- src/lib.rt:387:34
 has-next-requires : tie.Need-has-next-requires

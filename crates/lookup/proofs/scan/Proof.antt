@@ -1,5 +1,4 @@
 use borrow.Author.Needs.{needs}
-use mathlib.Core.Path.{_≡_}
 use Prim.Native.Nat.{_+_, _≤_, _<_}
 use native.Mathlib.Omega.{arith}
 use Rattle.model.specs.State.{maxSlots}
@@ -9,8 +8,6 @@ use Rattle.lookup.specs.Code.{frame-next}
 use Rattle.lookup.specs.Walks.{Scanning, scan-first, scan-took, scan-past, scan-done}
 use Rattle.lookup.proofs.scan.Statement.{statement}
 use Rattle.lookup.proofs.scan.Tie as tie
-use Rattle.lookup.proofs.scan.Reads as reads
-use Rattle.lookup.proofs.scan.Lts as lts
 
 abbrev Inv-loop : tie.InvT-loop
 Inv-loop s sh b cursor long start mask entries₀ len₀ fr₀ at₀ left₀ entries len fr at left =

@@ -2,13 +2,6 @@ use Rattle.lookup.specs.Pages.{scan-refused, scan-said}
 use borrow.Author.Needs.{needs}
 use Rattle.lookup.proofs.scan_handles.Statement.{statement}
 use Rattle.lookup.proofs.scan_handles.Tie as tie
-use Rattle.lookup.proofs.scan_handles.Reads as reads
-use Rattle.lookup.proofs.scan_handles.Lts as lts
-use Rattle.answer.proofs.refuse.Reads as refuse-reads
-use Rattle.lookup.proofs.say_page.Reads as say-page-reads
-use Rattle.lookup.proofs.scan.Reads as scan-reads
-use Rattle.lookup.proofs.table_refusal.Reads as table-refusal-reads
-use Rattle.words.proofs.eq.Reads as eq-reads
 
 -- src/lib.rt:395:9
 table-refusal-requires : tie.Need-table-refusal-requires

@@ -1,13 +1,8 @@
 use native.Mathlib.Omega.{arith}
 use Rattle.layout.specs.Layout.{load}
 use Rattle.lookup.specs.Code.{frame-far, frame-past, frame-read}
-use borrow.Author.Needs.{needs}
 use Rattle.lookup.proofs.slot_frame.Statement.{statement}
 use Rattle.lookup.proofs.slot_frame.Tie as tie
-use Rattle.lookup.proofs.slot_frame.Reads as reads
-use Rattle.lookup.proofs.slot_frame.Lts as lts
-use Rattle.layout.proofs.head_word.Reads as head-word-reads
-use Rattle.storage.proofs.page_word.Reads as page-word-reads
 
 -- src/lib.rt:52:9
 returns : tie.Need-returns

@@ -1,10 +1,7 @@
 use Rattle.words.specs.Pick.{yes-is, no-is}
-use mathlib.Core.Path.{_∙_, sym, ap, refl}
-use borrow.Author.Needs.{needs}
+use mathlib.Core.Path.{_∙_, sym, refl}
 use Rattle.lookup.proofs.slot_refusal.Statement.{statement}
 use Rattle.lookup.proofs.slot_refusal.Tie as tie
-use Rattle.lookup.proofs.slot_refusal.Reads as reads
-use Rattle.lookup.proofs.slot_refusal.Lts as lts
 
 eq-requires : tie.Need-eq-requires
 eq-requires c κs = tt

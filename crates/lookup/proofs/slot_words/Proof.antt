@@ -7,8 +7,6 @@ use Rattle.storage.specs.Cells.{cell-none}
 use Rattle.lookup.specs.Code.{words-by}
 use Rattle.lookup.proofs.slot_words.Statement.{statement}
 use Rattle.lookup.proofs.slot_words.Tie as tie
-use Rattle.lookup.proofs.slot_words.Reads as reads
-use Rattle.lookup.proofs.slot_words.Lts as lts
 
 returns : tie.Need-returns
 returns c = cell-none (load (c .before .before .args .s .now) (c .before .before .args .sh)) (c .before .before .args .fr) (c .before .before .args .j) (c .if1 .taken)

@@ -1,10 +1,7 @@
 use Rattle.lookup.specs.Code.{entry-at}
 use Rattle.layout.specs.Layout.{load}
-use borrow.Author.Needs.{needs}
 use Rattle.lookup.proofs.snapshot_at.Statement.{statement}
 use Rattle.lookup.proofs.snapshot_at.Tie as tie
-use Rattle.lookup.proofs.snapshot_at.Reads as reads
-use Rattle.lookup.proofs.snapshot_at.Lts as lts
 
 head-word-requires : tie.Need-head-word-requires
 head-word-requires c κs = tt

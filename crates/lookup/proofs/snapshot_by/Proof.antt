@@ -1,10 +1,7 @@
 use Rattle.lookup.specs.Code.{entry-by}
 use Rattle.layout.specs.Layout.{load}
-use borrow.Author.Needs.{needs}
 use Rattle.lookup.proofs.snapshot_by.Statement.{statement}
 use Rattle.lookup.proofs.snapshot_by.Tie as tie
-use Rattle.lookup.proofs.snapshot_by.Reads as reads
-use Rattle.lookup.proofs.snapshot_by.Lts as lts
 
 encode-requires : tie.Need-encode-requires
 encode-requires c κs = tt

@@ -3,10 +3,6 @@ use Rattle.layout.specs.Layout.{load}
 use borrow.Author.Needs.{needs}
 use Rattle.lookup.proofs.table_length.Statement.{statement}
 use Rattle.lookup.proofs.table_length.Tie as tie
-use Rattle.lookup.proofs.table_length.Reads as reads
-use Rattle.lookup.proofs.table_length.Lts as lts
-use Rattle.layout.proofs.head_word.Reads as head-word-reads
-use Rattle.words.proofs.smaller.Reads as smaller-reads
 
 -- src/lib.rt:207:16
 add-most : tie.Need-add-most

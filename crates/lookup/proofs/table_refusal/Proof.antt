@@ -3,11 +3,6 @@ use Rattle.layout.specs.Layout.{load}
 use borrow.Author.Needs.{needs}
 use Rattle.lookup.proofs.table_refusal.Statement.{statement}
 use Rattle.lookup.proofs.table_refusal.Tie as tie
-use Rattle.lookup.proofs.table_refusal.Reads as reads
-use Rattle.lookup.proofs.table_refusal.Lts as lts
-use Rattle.layout.proofs.head_word.Reads as head-word-reads
-use Rattle.words.proofs.eq.Reads as eq-reads
-use Rattle.words.proofs.lt.Reads as lt-reads
 
 -- src/lib.rt:87:21
 cast-lt : tie.Need-cast-lt

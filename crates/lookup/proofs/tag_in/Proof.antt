@@ -6,8 +6,6 @@ use Rattle.representation.specs.Represents.{wordIn}
 use Rattle.lookup.specs.Code.{tag-by}
 use Rattle.lookup.proofs.tag_in.Statement.{statement}
 use Rattle.lookup.proofs.tag_in.Tie as tie
-use Rattle.lookup.proofs.tag_in.Reads as reads
-use Rattle.lookup.proofs.tag_in.Lts as lts
 
 returns : tie.Need-returns
 returns c = ap (λ (x : ℕ). wordIn (load (c .before .before .args .s .now) (c .before .before .args .sh)) x (c .before .before .args .j) 0) (sym (c .if1 .taken))

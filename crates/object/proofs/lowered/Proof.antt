@@ -2,9 +2,6 @@ use Rattle.object.specs.Record.{lowered-more, lowered-last}
 use borrow.Author.Needs.{needs}
 use Rattle.object.proofs.lowered.Statement.{statement}
 use Rattle.object.proofs.lowered.Tie as tie
-use Rattle.object.proofs.lowered.Reads as reads
-use Rattle.object.proofs.lowered.Lts as lts
-use Rattle.object.proofs.with_count.Reads as with-count-reads
 
 -- src/lib.rt:66:32
 sub-with-count : tie.Need-sub-with-count

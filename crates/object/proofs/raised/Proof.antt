@@ -1,10 +1,5 @@
-use borrow.Author.Needs.{needs}
 use Rattle.object.proofs.raised.Statement.{statement}
 use Rattle.object.proofs.raised.Tie as tie
-use Rattle.object.proofs.raised.Reads as reads
-use Rattle.object.proofs.raised.Lts as lts
-use Rattle.object.proofs.with_count.Reads as with-count-reads
-use Rattle.words.proofs.inc.Reads as inc-reads
 
 -- src/lib.rt:57:28
 inc-requires : tie.Need-inc-requires

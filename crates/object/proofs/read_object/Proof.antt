@@ -1,10 +1,6 @@
 use Rattle.object.specs.Words.{recordAt}
-use borrow.Author.Needs.{needs}
 use Rattle.object.proofs.read_object.Statement.{statement}
 use Rattle.object.proofs.read_object.Tie as tie
-use Rattle.object.proofs.read_object.Reads as reads
-use Rattle.object.proofs.read_object.Lts as lts
-use Rattle.layout.proofs.object_word.Reads as object-word-reads
 
 -- src/lib.rt:83:9
 object-word-requires : tie.Need-object-word-requires

@@ -1,9 +1,6 @@
 use borrow.Author.Needs.{needs}
 use Rattle.object.proofs.write_object.Statement.{statement}
 use Rattle.object.proofs.write_object.Tie as tie
-use Rattle.object.proofs.write_object.Reads as reads
-use Rattle.object.proofs.write_object.Lts as lts
-use Rattle.layout.proofs.put_object.Reads as put-object-reads
 
 -- src/lib.rt:107:5
 put-object-requires : tie.Need-put-object-requires

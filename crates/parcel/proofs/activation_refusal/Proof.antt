@@ -1,11 +1,6 @@
 use Rattle.parcel.specs.Code.{activation-kept, activation-retired, activation-active, activation-free, activation-full}
-use borrow.Author.Needs.{needs}
 use Rattle.parcel.proofs.activation_refusal.Statement.{statement}
 use Rattle.parcel.proofs.activation_refusal.Tie as tie
-use Rattle.parcel.proofs.activation_refusal.Reads as reads
-use Rattle.parcel.proofs.activation_refusal.Lts as lts
-use Rattle.words.proofs.eq.Reads as eq-reads
-use Rattle.words.proofs.lt.Reads as lt-reads
 
 -- src/lib.rt:68:8
 eq-requires : tie.Need-eq-requires
@@ -32,16 +27,16 @@ returns-3 : tie.Need-returns-3
 returns-3 c = activation-active (c .before .before .before .before .before .before .args .x) _ (c .before .before .before .before .before .eq .ensures) (c .before .before .before .before .if1 .left) _ (c .before .before .before .eq2 .ensures) (c .before .before .if2 .left) _ (c .before .eq3 .ensures) (c .if3 .taken)
 
 -- src/lib.rt:77:8
-lt-requires : tie.Need-lt-requires
-lt-requires c κs = tt
+eq-requires-4 : tie.Need-eq-requires-4
+eq-requires-4 c κs = tt
 
 -- src/lib.rt:78:9
 returns-4 : tie.Need-returns-4
-returns-4 c = activation-free (c .before .before .before .before .before .before .before .before .args .x) _ (c .before .before .before .before .before .before .before .eq .ensures) (c .before .before .before .before .before .before .if1 .left) _ (c .before .before .before .before .before .eq2 .ensures) (c .before .before .before .before .if2 .left) _ (c .before .before .before .eq3 .ensures) (c .before .before .if3 .left) _ (c .before .lt .ensures) (c .if4 .taken)
+returns-4 c = activation-full (c .before .before .before .before .before .before .before .before .args .x) _ (c .before .before .before .before .before .before .before .eq .ensures) (c .before .before .before .before .before .before .if1 .left) _ (c .before .before .before .before .before .eq2 .ensures) (c .before .before .before .before .if2 .left) _ (c .before .before .before .eq3 .ensures) (c .before .before .if3 .left) _ (c .before .eq4 .ensures) (c .if4 .taken)
 
 -- src/lib.rt:65:1
 returns-5 : tie.Need-returns-5
-returns-5 c = activation-full (c .before .before .before .before .before .before .before .before .args .x) _ (c .before .before .before .before .before .before .before .eq .ensures) (c .before .before .before .before .before .before .if1 .left) _ (c .before .before .before .before .before .eq2 .ensures) (c .before .before .before .before .if2 .left) _ (c .before .before .before .eq3 .ensures) (c .before .before .if3 .left) _ (c .before .lt .ensures) (c .if4 .left)
+returns-5 c = activation-free (c .before .before .before .before .before .before .before .before .args .x) _ (c .before .before .before .before .before .before .before .eq .ensures) (c .before .before .before .before .before .before .if1 .left) _ (c .before .before .before .before .before .eq2 .ensures) (c .before .before .before .before .if2 .left) _ (c .before .before .before .eq3 .ensures) (c .before .before .if3 .left) _ (c .before .eq4 .ensures) (c .if4 .left)
 
 pub activation-refusal-spec : {M : Type 1} → statement M
 activation-refusal-spec =
@@ -53,6 +48,6 @@ activation-refusal-spec =
     returns-2
     eq-requires-3
     returns-3
-    lt-requires
+    eq-requires-4
     returns-4
     returns-5)

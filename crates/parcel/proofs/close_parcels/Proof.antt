@@ -5,13 +5,6 @@ use Rattle.parcel.specs.Publishing.{idsAt, droppedW}
 use Rattle.parcel.specs.PublishCode.{dropped-turn, dropped-end}
 use Rattle.parcel.proofs.close_parcels.Statement.{statement}
 use Rattle.parcel.proofs.close_parcels.Tie as tie
-use Rattle.parcel.proofs.close_parcels.Reads as reads
-use Rattle.parcel.proofs.close_parcels.Lts as lts
-use Rattle.book.proofs.close_row.Reads as close-row-reads
-use Rattle.book.proofs.row_of.Reads as row-of-reads
-use Rattle.parcel.proofs.item_id.Reads as item-id-reads
-use Rattle.parcel.proofs.item_end.Reads as item-end-reads
-use Rattle.words.proofs.dec.Reads as dec-reads
 
 abbrev Inv-loop : tie.InvT-loop
 Inv-loop s₀ sh rq at count place₀ more₀ s place more = (length s ≡ length s₀) × (droppedW s₀ sh (idsAt rq at count) ≡ droppedW s sh (idsAt rq place more))

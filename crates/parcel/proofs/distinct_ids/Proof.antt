@@ -5,11 +5,6 @@ use Rattle.parcel.specs.Publishing.{idsAt}
 use Rattle.parcel.specs.PublishCode.{distinct-end, distinct-no, distinct-turn}
 use Rattle.parcel.proofs.distinct_ids.Statement.{statement}
 use Rattle.parcel.proofs.distinct_ids.Tie as tie
-use Rattle.parcel.proofs.distinct_ids.Reads as reads
-use Rattle.parcel.proofs.distinct_ids.Lts as lts
-use Rattle.parcel.proofs.named.Reads as named-reads
-use Rattle.parcel.proofs.item_id.Reads as item-id-reads
-use Rattle.parcel.proofs.item_end.Reads as item-end-reads
 
 abbrev Inv-loop : tie.InvT-loop
 Inv-loop rq at count place₀ more₀ place more = distinct (idsAt rq at count) ≡ distinct (idsAt rq place more)

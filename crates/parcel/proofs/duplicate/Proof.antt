@@ -2,14 +2,6 @@ use Rattle.parcel.specs.Code.{duplicate-refused, duplicate-found, duplic
 use borrow.Author.Needs.{needs}
 use Rattle.parcel.proofs.duplicate.Statement.{statement}
 use Rattle.parcel.proofs.duplicate.Tie as tie
-use Rattle.parcel.proofs.duplicate.Reads as reads
-use Rattle.parcel.proofs.duplicate.Lts as lts
-use Rattle.answer.proofs.refuse.Reads as refuse-reads
-use Rattle.lookup.proofs.open_handle.Reads as open-handle-reads
-use Rattle.lookup.proofs.table_refusal.Reads as table-refusal-reads
-use Rattle.parcel.proofs.duplicate_handle.Reads as duplicate-handle-reads
-use Rattle.parcel.proofs.row_left.Reads as row-left-reads
-use Rattle.words.proofs.eq.Reads as eq-reads
 
 -- src/lib.rt:179:9
 table-refusal-requires : tie.Need-table-refusal-requires

@@ -6,11 +6,6 @@ use Rattle.parcel.specs.Publishing.{filledW}
 use Rattle.parcel.specs.PublishCode.{filled-start, filled-turn, filled-end}
 use Rattle.parcel.proofs.fill_from.Statement.{statement}
 use Rattle.parcel.proofs.fill_from.Tie as tie
-use Rattle.parcel.proofs.fill_from.Reads as reads
-use Rattle.parcel.proofs.fill_from.Lts as lts
-use Rattle.layout.proofs.item_word.Reads as item-word-reads
-use Rattle.parcel.proofs.add.Reads as add-reads
-use Rattle.storage.proofs.occupy.Reads as occupy-reads
 
 abbrev Inv-loop : tie.InvT-loop
 Inv-loop s₀ sh b x p y n i₀ s i = (length s ≡ length s₀) × (filledW s₀ sh b x p y 0 n ≡ filledW s sh b x p y i (n - i))

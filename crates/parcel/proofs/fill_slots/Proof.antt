@@ -5,15 +5,6 @@ use Rattle.parcel.specs.Publishing.{idsAt, publishedW}
 use Rattle.parcel.specs.PublishCode.{published-turn, published-end}
 use Rattle.parcel.proofs.fill_slots.Statement.{statement}
 use Rattle.parcel.proofs.fill_slots.Tie as tie
-use Rattle.parcel.proofs.fill_slots.Reads as reads
-use Rattle.parcel.proofs.fill_slots.Lts as lts
-use Rattle.layout.proofs.row_word.Reads as row-word-reads
-use Rattle.parcel.proofs.add.Reads as add-reads
-use Rattle.parcel.proofs.fill_from.Reads as fill-from-reads
-use Rattle.parcel.proofs.parcel_of.Reads as parcel-of-reads
-use Rattle.parcel.proofs.item_id.Reads as item-id-reads
-use Rattle.parcel.proofs.item_end.Reads as item-end-reads
-use Rattle.words.proofs.dec.Reads as dec-reads
 
 abbrev Inv-loop : tie.InvT-loop
 Inv-loop s₀ sh b x rq at count place₀ more₀ p₀ s place more p = (length s ≡ length s₀) × (publishedW s₀ sh b x 0 (idsAt rq at count) ≡ publishedW s sh b x p (idsAt rq place more))

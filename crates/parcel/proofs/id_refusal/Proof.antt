@@ -1,12 +1,7 @@
 use Rattle.layout.specs.Layout.{load}
 use Rattle.parcel.specs.Code.{id-spent, id-left}
-use borrow.Author.Needs.{needs}
 use Rattle.parcel.proofs.id_refusal.Statement.{statement}
 use Rattle.parcel.proofs.id_refusal.Tie as tie
-use Rattle.parcel.proofs.id_refusal.Reads as reads
-use Rattle.parcel.proofs.id_refusal.Lts as lts
-use Rattle.layout.proofs.root_word.Reads as root-word-reads
-use Rattle.words.proofs.eq.Reads as eq-reads
 
 -- src/lib.rt:52:18
 root-word-requires : tie.Need-root-word-requires

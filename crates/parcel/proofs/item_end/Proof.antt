@@ -2,9 +2,6 @@ use Rattle.parcel.specs.Plain.{plain-end}
 use borrow.Author.Needs.{needs}
 use Rattle.parcel.proofs.item_end.Statement.{statement}
 use Rattle.parcel.proofs.item_end.Tie as tie
-use Rattle.parcel.proofs.item_end.Reads as reads
-use Rattle.parcel.proofs.item_end.Lts as lts
-use Rattle.request.proofs.record_end.Reads as record-end-reads
 
 mul-if2 : tie.Need-mul-if2
 mul-if2 c = search needs

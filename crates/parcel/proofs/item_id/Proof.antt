@@ -3,10 +3,6 @@ use Rattle.parcel.specs.Plain.{plain-id}
 use borrow.Author.Needs.{needs}
 use Rattle.parcel.proofs.item_id.Statement.{statement}
 use Rattle.parcel.proofs.item_id.Tie as tie
-use Rattle.parcel.proofs.item_id.Reads as reads
-use Rattle.parcel.proofs.item_id.Lts as lts
-use Rattle.request.proofs.field.Reads as field-reads
-use Rattle.words.proofs.word.Reads as word-reads
 
 mul-if2 : tie.Need-mul-if2
 mul-if2 c = search needs

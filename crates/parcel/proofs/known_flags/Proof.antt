@@ -3,8 +3,6 @@ use Rattle.authority.specs.Rights.{contains}
 use mathlib.Core.Path.{refl}
 use Rattle.parcel.proofs.known_flags.Statement.{statement}
 use Rattle.parcel.proofs.known_flags.Tie as tie
-use Rattle.parcel.proofs.known_flags.Reads as reads
-use Rattle.parcel.proofs.known_flags.Lts as lts
 
 -- src/lib.rt:58:1
 returns : tie.Need-returns

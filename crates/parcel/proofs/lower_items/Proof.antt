@@ -6,10 +6,6 @@ use Rattle.parcel.specs.Ops.{loweredW}
 use Rattle.parcel.specs.Code.{lowered-start, lowered-turn, lowered-end}
 use Rattle.parcel.proofs.lower_items.Statement.{statement}
 use Rattle.parcel.proofs.lower_items.Tie as tie
-use Rattle.parcel.proofs.lower_items.Reads as reads
-use Rattle.parcel.proofs.lower_items.Lts as lts
-use Rattle.layout.proofs.item_word.Reads as item-word-reads
-use Rattle.object.proofs.lower_object.Reads as lower-object-reads
 
 abbrev Inv-loop : tie.InvT-loop
 Inv-loop s₀ sh x n i₀ s i = (length s ≡ length s₀) × (loweredW s₀ sh x 0 n ≡ loweredW s sh x i (n - i))

@@ -5,11 +5,6 @@ use Rattle.parcel.specs.Publishing.{idsAt}
 use Rattle.parcel.specs.PublishCode.{named-end, named-yes, named-turn}
 use Rattle.parcel.proofs.named.Statement.{statement}
 use Rattle.parcel.proofs.named.Tie as tie
-use Rattle.parcel.proofs.named.Reads as reads
-use Rattle.parcel.proofs.named.Lts as lts
-use Rattle.parcel.proofs.item_id.Reads as item-id-reads
-use Rattle.parcel.proofs.item_end.Reads as item-end-reads
-use Rattle.words.proofs.eq.Reads as eq-reads
 
 abbrev Inv-loop : tie.InvT-loop
 Inv-loop rq at count id place₀ more₀ place more = member id (idsAt rq at count) ≡ member id (idsAt rq place more)

@@ -3,14 +3,6 @@ use Rattle.parcel.specs.Code.{new-unknown, new-full, new-rights, new-fla
 use borrow.Author.Needs.{needs}
 use Rattle.parcel.proofs.new_refusal.Statement.{statement}
 use Rattle.parcel.proofs.new_refusal.Tie as tie
-use Rattle.parcel.proofs.new_refusal.Reads as reads
-use Rattle.parcel.proofs.new_refusal.Lts as lts
-use Rattle.authority.proofs.Rights.contains.Reads as contains-reads
-use Rattle.object.proofs.read_object.Reads as read-object-reads
-use Rattle.parcel.proofs.known_flags.Reads as known-flags-reads
-use Rattle.parcel.proofs.row_left.Reads as row-left-reads
-use Rattle.parcel.proofs.row_refusal.Reads as row-refusal-reads
-use Rattle.words.proofs.lt.Reads as lt-reads
 
 -- src/lib.rt:98:21
 cast-lt : tie.Need-cast-lt

@@ -5,15 +5,6 @@ use Rattle.parcel.specs.Publishing.{idsAt, fits}
 use Rattle.parcel.specs.PublishCode.{fits-end, fits-unknown, fits-over, fits-turn, room-left}
 use Rattle.parcel.proofs.parcels_fit.Statement.{statement}
 use Rattle.parcel.proofs.parcels_fit.Tie as tie
-use Rattle.parcel.proofs.parcels_fit.Reads as reads
-use Rattle.parcel.proofs.parcels_fit.Lts as lts
-use Rattle.layout.proofs.row_word.Reads as row-word-reads
-use Rattle.parcel.proofs.parcel_of.Reads as parcel-of-reads
-use Rattle.parcel.proofs.item_id.Reads as item-id-reads
-use Rattle.parcel.proofs.item_end.Reads as item-end-reads
-use Rattle.words.proofs.dec.Reads as dec-reads
-use Rattle.words.proofs.eq.Reads as eq-reads
-use Rattle.words.proofs.lt.Reads as lt-reads
 
 abbrev Inv-loop : tie.InvT-loop
 Inv-loop s sh rq at count n place₀ more₀ left₀ place more left = fits (load s sh) sh (idsAt rq at count) n ≡ fits (load s sh) sh (idsAt rq place more) left

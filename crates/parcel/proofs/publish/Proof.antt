@@ -3,17 +3,6 @@ use Rattle.parcel.specs.PublishCode.{publish-none, publish-unfit, publis
 use borrow.Author.Needs.{needs}
 use Rattle.parcel.proofs.publish.Statement.{statement}
 use Rattle.parcel.proofs.publish.Tie as tie
-use Rattle.parcel.proofs.publish.Reads as reads
-use Rattle.parcel.proofs.publish.Lts as lts
-use Rattle.answer.proofs.refuse.Reads as refuse-reads
-use Rattle.answer.proofs.say.Reads as say-reads
-use Rattle.layout.proofs.row_word.Reads as row-word-reads
-use Rattle.parcel.proofs.distinct_ids.Reads as distinct-ids-reads
-use Rattle.parcel.proofs.parcels_fit.Reads as parcels-fit-reads
-use Rattle.parcel.proofs.publish_row.Reads as publish-row-reads
-use Rattle.reserve.proofs.reservation_of.Reads as reservation-of-reads
-use Rattle.words.proofs.dec.Reads as dec-reads
-use Rattle.words.proofs.eq.Reads as eq-reads
 
 -- src/lib.rt:375:9
 reservation-of-requires : tie.Need-reservation-of-requires

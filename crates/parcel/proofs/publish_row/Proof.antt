@@ -3,12 +3,6 @@ use Rattle.parcel.specs.PublishCode.{spent-is}
 use borrow.Author.Needs.{needs}
 use Rattle.parcel.proofs.publish_row.Statement.{statement}
 use Rattle.parcel.proofs.publish_row.Tie as tie
-use Rattle.parcel.proofs.publish_row.Reads as reads
-use Rattle.parcel.proofs.publish_row.Lts as lts
-use Rattle.book.proofs.close_row.Reads as close-row-reads
-use Rattle.layout.proofs.row_word.Reads as row-word-reads
-use Rattle.parcel.proofs.close_parcels.Reads as close-parcels-reads
-use Rattle.parcel.proofs.fill_slots.Reads as fill-slots-reads
 
 -- src/lib.rt:364:9
 row-word-requires : tie.Need-row-word-requires

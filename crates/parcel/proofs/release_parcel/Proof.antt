@@ -1,15 +1,7 @@
-use Rattle.parcel.specs.Code.{release-none, release-done}
+use Rattle.reserve.specs.Code.{on-row-none, on-row-done}
 use borrow.Author.Needs.{needs}
 use Rattle.parcel.proofs.release_parcel.Statement.{statement}
 use Rattle.parcel.proofs.release_parcel.Tie as tie
-use Rattle.parcel.proofs.release_parcel.Reads as reads
-use Rattle.parcel.proofs.release_parcel.Lts as lts
-use Rattle.answer.proofs.refuse.Reads as refuse-reads
-use Rattle.answer.proofs.say.Reads as say-reads
-use Rattle.parcel.proofs.parcel_of.Reads as parcel-of-reads
-use Rattle.parcel.proofs.release_row.Reads as release-row-reads
-use Rattle.words.proofs.dec.Reads as dec-reads
-use Rattle.words.proofs.eq.Reads as eq-reads
 
 -- src/lib.rt:234:9
 parcel-of-requires : tie.Need-parcel-of-requires
@@ -33,7 +25,7 @@ same-length-2 c = search needs
 
 -- src/lib.rt:237:9
 returns : tie.Need-returns
-returns c = release-none (c .before .before .before .before .before .before .before .before .before .before .args .s .now) (c .before .before .before .before .before .before .before .before .before .before .args .out .now) _ (c .before .before .before .before .before .before .before .before .before .before .args .sh) (c .before .before .before .before .before .before .before .before .before .before .args .base) (c .before .before .before .before .before .before .before .before .before .before .args .id .0) _ _ (c .before .before .before .before .before .before .parcel-of .ensures) (c .before .before .before .before .before .eq .ensures) (c .before .before .before .before .if1 .taken) (c .before .before .refuse .ensures)
+returns c = on-row-none _ (c .before .before .before .before .before .before .before .before .before .before .args .s .now) (c .before .before .before .before .before .before .before .before .before .before .args .out .now) _ (c .before .before .before .before .before .before .before .before .before .before .args .base) _ _ _ (c .before .before .before .before .before .before .parcel-of .ensures) (c .before .before .before .before .before .eq .ensures) (c .before .before .before .before .if1 .taken) (c .before .before .refuse .ensures)
 
 -- src/lib.rt:239:24
 dec-requires : tie.Need-dec-requires
@@ -57,7 +49,7 @@ same-length-4 c = search needs
 
 -- src/lib.rt:231:1
 returns-2 : tie.Need-returns-2
-returns-2 c = release-done (c .before .before .before .before .before .before .before .before .before .before .before .before .before .before .before .args .s .now) (c .before .before .before .before .before .before .before .before .before .before .before .before .before .before .before .args .out .now) _ (c .before .before .before .before .before .before .before .before .before .before .before .before .before .before .before .args .sh) (c .before .before .before .before .before .before .before .before .before .before .before .before .before .before .before .args .base) (c .before .before .before .before .before .before .before .before .before .before .before .before .before .before .before .args .id .0) _ _ (c .before .before .before .before .before .before .before .before .before .before .before .parcel-of .ensures) (c .before .before .before .before .before .before .before .before .before .before .eq .ensures) _ _ (c .before .before .before .before .before .before .before .before .before .if1 .left) (c .before .before .before .before .before .before .before .dec .ensures) (c .before .before .before .before .before .before .release-row .ensures) (c .before .before .say .ensures)
+returns-2 c = on-row-done _ (c .before .before .before .before .before .before .before .before .before .before .before .before .before .before .before .args .s .now) (c .before .before .before .before .before .before .before .before .before .before .before .before .before .before .before .args .out .now) _ (c .before .before .before .before .before .before .before .before .before .before .before .before .before .before .before .args .base) _ _ _ (c .before .before .before .before .before .before .before .before .before .before .before .parcel-of .ensures) (c .before .before .before .before .before .before .before .before .before .before .eq .ensures) _ _ (c .before .before .before .before .before .before .before .before .before .if1 .left) (c .before .before .before .before .before .before .before .dec .ensures) (c .before .before .before .before .before .before .release-row .ensures) (c .before .before .say .ensures)
 
 pub release-parcel-spec : {M : Type 1} → statement M
 release-parcel-spec =

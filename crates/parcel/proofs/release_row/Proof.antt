@@ -2,11 +2,6 @@ use Rattle.parcel.specs.Code.{released-is}
 use borrow.Author.Needs.{needs}
 use Rattle.parcel.proofs.release_row.Statement.{statement}
 use Rattle.parcel.proofs.release_row.Tie as tie
-use Rattle.parcel.proofs.release_row.Reads as reads
-use Rattle.parcel.proofs.release_row.Lts as lts
-use Rattle.book.proofs.close_row.Reads as close-row-reads
-use Rattle.layout.proofs.row_word.Reads as row-word-reads
-use Rattle.parcel.proofs.lower_items.Reads as lower-items-reads
 
 -- src/lib.rt:225:9
 row-word-requires : tie.Need-row-word-requires

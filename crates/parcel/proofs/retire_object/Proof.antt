@@ -2,12 +2,6 @@ use Rattle.parcel.specs.Code.{retire-done, retire-unknown}
 use borrow.Author.Needs.{needs}
 use Rattle.parcel.proofs.retire_object.Statement.{statement}
 use Rattle.parcel.proofs.retire_object.Tie as tie
-use Rattle.parcel.proofs.retire_object.Reads as reads
-use Rattle.parcel.proofs.retire_object.Lts as lts
-use Rattle.answer.proofs.refuse.Reads as refuse-reads
-use Rattle.answer.proofs.say.Reads as say-reads
-use Rattle.object.proofs.retire_object.Reads as retire-object-reads
-use Rattle.words.proofs.lt.Reads as lt-reads
 
 -- src/lib.rt:33:21
 cast-lt : tie.Need-cast-lt

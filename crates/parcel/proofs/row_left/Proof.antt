@@ -3,10 +3,6 @@ use Rattle.parcel.specs.Code.{row-left}
 use borrow.Author.Needs.{needs}
 use Rattle.parcel.proofs.row_left.Statement.{statement}
 use Rattle.parcel.proofs.row_left.Tie as tie
-use Rattle.parcel.proofs.row_left.Reads as reads
-use Rattle.parcel.proofs.row_left.Lts as lts
-use Rattle.layout.proofs.root_word.Reads as root-word-reads
-use Rattle.words.proofs.lt.Reads as lt-reads
 
 -- src/lib.rt:45:15
 root-word-requires : tie.Need-root-word-requires

@@ -1,13 +1,7 @@
 use Rattle.layout.specs.Layout.{load}
 use Rattle.parcel.specs.Code.{row-id, row-activation}
-use borrow.Author.Needs.{needs}
 use Rattle.parcel.proofs.row_refusal.Statement.{statement}
 use Rattle.parcel.proofs.row_refusal.Tie as tie
-use Rattle.parcel.proofs.row_refusal.Reads as reads
-use Rattle.parcel.proofs.row_refusal.Lts as lts
-use Rattle.parcel.proofs.activation_refusal.Reads as activation-refusal-reads
-use Rattle.parcel.proofs.id_refusal.Reads as id-refusal-reads
-use Rattle.words.proofs.eq.Reads as eq-reads
 
 -- src/lib.rt:87:9
 activation-refusal-requires : tie.Need-activation-refusal-requires

@@ -1,14 +1,11 @@
 use borrow.Author.Needs.{needs}
 use mathlib.Core.Path.{_≡_, sym, _∙_}
 use lib.ListN.{getD}
-use Prim.Native.Nat.{ℕ, _-_, _≤_, _<_}
+use Prim.Native.Nat.{ℕ, _≤_, _<_}
 use native.Mathlib.Omega.{arith}
 use Rattle.replay.specs.Runs.{down-more}
 use Rattle.replay.proofs.cut.Statement.{statement}
 use Rattle.replay.proofs.cut.Tie as tie
-use Rattle.replay.proofs.cut.Reads as reads
-use Rattle.replay.proofs.cut.Lts as lts
-use Rattle.words.proofs.word.Reads as word-reads
 
 abbrev Inv-loop : tie.InvT-loop
 Inv-loop s n v k₀ k = (k ≤ n) × ((j : ℕ) → k ≤ j → j < n → getD s j 0 ≡ v)

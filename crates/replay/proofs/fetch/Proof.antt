@@ -5,10 +5,6 @@ use Prim.Native.Nat.{_-_, _≤_}
 use Rattle.replay.specs.Runs.{Past, past-more}
 use Rattle.replay.proofs.fetch.Statement.{statement}
 use Rattle.replay.proofs.fetch.Tie as tie
-use Rattle.replay.proofs.fetch.Reads as reads
-use Rattle.replay.proofs.fetch.Lts as lts
-use Rattle.replay.proofs.read_word.Reads as read-word-reads
-use Rattle.words.proofs.put.Reads as put-reads
 
 abbrev Inv-loop : tie.InvT-loop
 Inv-loop s₀ n i₀ s i = (i ≤ n) × (length s ≡ length s₀) × Past n s₀ s

@@ -7,8 +7,6 @@ use native.Mathlib.Omega.{arith}
 use Rattle.replay.specs.Runs.{Filling, filling-more, filling-end}
 use Rattle.replay.proofs.fill.Statement.{statement}
 use Rattle.replay.proofs.fill.Tie as tie
-use Rattle.replay.proofs.fill.Reads as reads
-use Rattle.replay.proofs.fill.Lts as lts
 
 abbrev Inv-loop : tie.InvT-loop
 Inv-loop s₀ v i₀ s i = Filling s₀ v s i

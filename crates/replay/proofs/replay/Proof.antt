@@ -3,9 +3,6 @@ use mathlib.Core.Path.{_≡_, refl}
 use lib.ListN.{length}
 use Rattle.replay.proofs.replay.Statement.{statement}
 use Rattle.replay.proofs.replay.Tie as tie
-use Rattle.replay.proofs.replay.Reads as reads
-use Rattle.replay.proofs.replay.Lts as lts
-use Rattle.replay.proofs.record.Reads as record-reads
 
 abbrev Inv-loop : tie.InvT-loop
 Inv-loop state₀ list₀ answers₀ len₀ turns₀ state list answers len turns = (length state ≡ length state₀) × (length list ≡ length list₀) × (length answers ≡ length answers₀)

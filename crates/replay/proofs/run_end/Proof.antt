@@ -6,9 +6,6 @@ use native.Mathlib.Omega.{arith}
 use Rattle.replay.specs.Runs.{run-one, up-more}
 use Rattle.replay.proofs.run_end.Statement.{statement}
 use Rattle.replay.proofs.run_end.Tie as tie
-use Rattle.replay.proofs.run_end.Reads as reads
-use Rattle.replay.proofs.run_end.Lts as lts
-use Rattle.words.proofs.word.Reads as word-reads
 
 abbrev Inv-loop : tie.InvT-loop
 Inv-loop s at n v i₀ i = (at < i) × (i ≤ n) × ((k : ℕ) → at ≤ k → k < i → getD s k 0 ≡ getD s at 0)

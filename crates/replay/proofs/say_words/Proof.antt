@@ -3,11 +3,6 @@ use Prim.Native.Nat.{_-_}
 use native.Mathlib.Omega.{arith}
 use Rattle.replay.proofs.say_words.Statement.{statement}
 use Rattle.replay.proofs.say_words.Tie as tie
-use Rattle.replay.proofs.say_words.Reads as reads
-use Rattle.replay.proofs.say_words.Lts as lts
-use Rattle.replay.proofs.run_end.Reads as run-end-reads
-use Rattle.replay.proofs.say_run.Reads as say-run-reads
-use Rattle.words.proofs.word.Reads as word-reads
 
 abbrev Inv-loop : tie.InvT-loop
 Inv-loop s n i₀ i = Unit {0}

@@ -5,8 +5,6 @@ use lib.ListN.{length}
 use native.Mathlib.Omega.{arith}
 use Rattle.replay.proofs.within.Statement.{statement}
 use Rattle.replay.proofs.within.Tie as tie
-use Rattle.replay.proofs.within.Reads as reads
-use Rattle.replay.proofs.within.Lts as lts
 
 returns : tie.Need-returns
 returns c = (search needs, sym (length-take-le (c .before .args .n) (c .before .args .s .now) (omega arith)))

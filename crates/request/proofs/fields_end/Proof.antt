@@ -3,7 +3,6 @@
 use Rattle.request.specs.Counted.{fields-fit, fields-unfit, fields-short}
 use borrow.Author.Needs.{needs}
 use native.Mathlib.Omega.{arith}
-use mathlib.Core.Path.{ap, _∙_}
 use Rattle.request.proofs.fields_end.Statement.{statement}
 use Rattle.request.proofs.fields_end.Tie as tie
 

@@ -1,7 +1,6 @@
 -- `request::read_three` meets its contract.
 -- Assumes nothing.
 use Rattle.request.specs.Counted.{map-is, three-there}
-use borrow.Author.Needs.{needs}
 use native.Mathlib.Omega.{arith}
 use Rattle.request.proofs.read_three.Statement.{statement}
 use Rattle.request.proofs.read_three.Tie as tie

@@ -1,15 +1,11 @@
 use borrow.Author.Tests.{ltb-false}
-use mathlib.Core.Path.{_≡_, refl, sym, _∙_}
+use mathlib.Core.Path.{sym, _∙_}
 use Rattle.wellformed.specs.Whole.{wellB}
 use Rattle.runner.specs.Serve.{oneR}
-use Rattle.contract.specs.Call.{answers-short, answers-long, check-bad, check-good}
+use Rattle.contract.specs.Call.{answers-short, answers-long}
 use borrow.Author.Needs.{needs}
 use Rattle.runner.proofs.answer_all.Statement.{statement}
 use Rattle.runner.proofs.answer_all.Tie as tie
-use Rattle.runner.proofs.answer_all.Reads as reads
-use Rattle.runner.proofs.answer_all.Lts as lts
-use Rattle.request.proofs.answers_short.Reads as answers-short-reads
-use Rattle.runner.proofs.run_all.Reads as run-all-reads
 
 -- src/lib.rt:124:8
 answers-short-requires : tie.Need-answers-short-requires

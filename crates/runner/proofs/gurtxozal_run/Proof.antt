@@ -4,15 +4,9 @@ use Rattle.runner.specs.Steps.{run-both}
 use Rattle.runner.specs.Serve.{oneR}
 use Rattle.layout.specs.ShapeOf.{shape-found}
 use Rattle.wellformed.specs.Whole.{wellB}
-use native.Mathlib.Omega.{arith}
-use mathlib.Core.Path.{_≡_, refl, sym, _∙_}
+use mathlib.Core.Path.{refl, sym, _∙_}
 use Rattle.runner.proofs.gurtxozal_run.Statement.{statement}
 use Rattle.runner.proofs.gurtxozal_run.Tie as tie
-use Rattle.runner.proofs.gurtxozal_run.Reads as reads
-use Rattle.runner.proofs.gurtxozal_run.Lts as lts
-use Rattle.layout.proofs.shape_of.Reads as shape-of-reads
-use Rattle.runner.proofs.run_within.Reads as run-within-reads
-use Rattle.wellformed.proofs.are_words.Reads as are-words-reads
 
 -- src/lib.rt:271:5
 are-words-requires : tie.Need-are-words-requires

@@ -8,10 +8,6 @@ use Rattle.contract.specs.Run.{listR, list-turn, list-end}
 use Rattle.runner.specs.Serve.{oneR}
 use Rattle.runner.proofs.run_all.Statement.{statement}
 use Rattle.runner.proofs.run_all.Tie as tie
-use Rattle.runner.proofs.run_all.Reads as reads
-use Rattle.runner.proofs.run_all.Lts as lts
-use Rattle.request.proofs.next_request.Reads as next-request-reads
-use Rattle.runner.proofs.run_one.Reads as run-one-reads
 
 abbrev Inv-loop : tie.InvT-loop
 Inv-loop s₀ sh rq n out₀ at₀ base₀ left₀ s out at base left = (length s ≡ length s₀) × (length out ≡ length out₀) × (base + answerWords * left ≤ length out₀) × (listR oneR left s out sh rq at base ≡ listR oneR n s₀ out₀ sh rq 0 0)

@@ -1,15 +1,9 @@
-use borrow.Author.Tests.{ltb-false}
-use mathlib.Core.Path.{_≡_, refl, sym, _∙_}
 use Rattle.wellformed.specs.Whole.{wellB}
 use Rattle.runner.specs.Serve.{oneR}
-use Rattle.contract.specs.Call.{answers-short, answers-long, check-bad, check-good}
+use Rattle.contract.specs.Call.{check-bad, check-good}
 use borrow.Author.Needs.{needs}
 use Rattle.runner.proofs.run_checked.Statement.{statement}
 use Rattle.runner.proofs.run_checked.Tie as tie
-use Rattle.runner.proofs.run_checked.Reads as reads
-use Rattle.runner.proofs.run_checked.Lts as lts
-use Rattle.runner.proofs.run_list.Reads as run-list-reads
-use Rattle.wellformed.proofs.check.Reads as check-reads
 
 -- src/lib.rt:150:8
 check-requires : tie.Need-check-requires

@@ -2,13 +2,9 @@ use borrow.Author.Needs.{needs}
 use Rattle.contract.specs.Call.{list-malformed, list-read}
 use Rattle.runner.specs.Serve.{oneR}
 use Rattle.wellformed.specs.Whole.{wellB}
-use mathlib.Core.Path.{_≡_, refl, sym, _∙_}
+use mathlib.Core.Path.{sym, _∙_}
 use Rattle.runner.proofs.run_list.Statement.{statement}
 use Rattle.runner.proofs.run_list.Tie as tie
-use Rattle.runner.proofs.run_list.Reads as reads
-use Rattle.runner.proofs.run_list.Lts as lts
-use Rattle.request.proofs.list_ok.Reads as list-ok-reads
-use Rattle.runner.proofs.answer_all.Reads as answer-all-reads
 
 -- src/lib.rt:240:11
 list-ok-requires : tie.Need-list-ok-requires

@@ -1,11 +1,6 @@
 use borrow.Author.Needs.{needs}
 use Rattle.runner.proofs.run_one.Statement.{statement}
 use Rattle.runner.proofs.run_one.Tie as tie
-use Rattle.runner.proofs.run_one.Reads as reads
-use Rattle.runner.proofs.run_one.Lts as lts
-use Rattle.request.proofs.clear_answer.Reads as clear-answer-reads
-use Rattle.request.proofs.field.Reads as field-reads
-use Rattle.runner.proofs.serve.Reads as serve-reads
 
 -- src/lib.rt:93:5
 clear-answer-requires : tie.Need-clear-answer-requires

@@ -4,10 +4,6 @@ use Rattle.wellformed.specs.Whole.{wellB}
 use borrow.Author.Needs.{needs}
 use Rattle.runner.proofs.run_within.Statement.{statement}
 use Rattle.runner.proofs.run_within.Tie as tie
-use Rattle.runner.proofs.run_within.Reads as reads
-use Rattle.runner.proofs.run_within.Lts as lts
-use Rattle.layout.proofs.total_of.Reads as total-of-reads
-use Rattle.runner.proofs.run_checked.Reads as run-checked-reads
 
 -- src/lib.rt:261:15
 total-of-requires : tie.Need-total-of-requires

@@ -1,10 +1,6 @@
 use borrow.Author.Needs.{needs}
 use Rattle.runner.proofs.serve_abort.Statement.{statement}
 use Rattle.runner.proofs.serve_abort.Tie as tie
-use Rattle.runner.proofs.serve_abort.Reads as reads
-use Rattle.runner.proofs.serve_abort.Lts as lts
-use Rattle.request.proofs.field.Reads as field-reads
-use Rattle.reserve.proofs.abort.Reads as abort-reads
 
 -- src/lib.rt:106:9
 field-requires : tie.Need-field-requires

@@ -1,10 +1,6 @@
 use borrow.Author.Needs.{needs}
 use Rattle.runner.proofs.serve_commit.Statement.{statement}
 use Rattle.runner.proofs.serve_commit.Tie as tie
-use Rattle.runner.proofs.serve_commit.Reads as reads
-use Rattle.runner.proofs.serve_commit.Lts as lts
-use Rattle.claim.proofs.commit.Reads as commit-reads
-use Rattle.request.proofs.field.Reads as field-reads
 
 -- src/lib.rt:206:9
 field-requires : tie.Need-field-requires

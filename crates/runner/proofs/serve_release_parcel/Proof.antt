@@ -1,10 +1,6 @@
 use borrow.Author.Needs.{needs}
 use Rattle.runner.proofs.serve_release_parcel.Statement.{statement}
 use Rattle.runner.proofs.serve_release_parcel.Tie as tie
-use Rattle.runner.proofs.serve_release_parcel.Reads as reads
-use Rattle.runner.proofs.serve_release_parcel.Lts as lts
-use Rattle.parcel.proofs.release_parcel.Reads as release-parcel-reads
-use Rattle.request.proofs.field.Reads as field-reads
 
 -- src/lib.rt:76:9
 field-requires : tie.Need-field-requires

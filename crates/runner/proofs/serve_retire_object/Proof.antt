@@ -1,10 +1,6 @@
 use borrow.Author.Needs.{needs}
 use Rattle.runner.proofs.serve_retire_object.Statement.{statement}
 use Rattle.runner.proofs.serve_retire_object.Tie as tie
-use Rattle.runner.proofs.serve_retire_object.Reads as reads
-use Rattle.runner.proofs.serve_retire_object.Lts as lts
-use Rattle.parcel.proofs.retire_object.Reads as retire-object-reads
-use Rattle.request.proofs.field.Reads as field-reads
 
 -- src/lib.rt:83:9
 field-requires : tie.Need-field-requires

@@ -1,10 +1,6 @@
 use borrow.Author.Needs.{needs}
 use Rattle.runner.proofs.serve_rollback.Statement.{statement}
 use Rattle.runner.proofs.serve_rollback.Tie as tie
-use Rattle.runner.proofs.serve_rollback.Reads as reads
-use Rattle.runner.proofs.serve_rollback.Lts as lts
-use Rattle.claim.proofs.rollback.Reads as rollback-reads
-use Rattle.request.proofs.field.Reads as field-reads
 
 -- src/lib.rt:199:9
 field-requires : tie.Need-field-requires

@@ -1,10 +1,6 @@
 use borrow.Author.Needs.{needs}
 use Rattle.runner.proofs.serve_take_empty_page.Statement.{statement}
 use Rattle.runner.proofs.serve_take_empty_page.Tie as tie
-use Rattle.runner.proofs.serve_take_empty_page.Reads as reads
-use Rattle.runner.proofs.serve_take_empty_page.Lts as lts
-use Rattle.detach.proofs.take_empty_page.Reads as take-empty-page-reads
-use Rattle.request.proofs.field.Reads as field-reads
 
 -- src/lib.rt:72:9
 field-requires : tie.Need-field-requires

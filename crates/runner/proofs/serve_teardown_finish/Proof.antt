@@ -1,10 +1,6 @@
 use borrow.Author.Needs.{needs}
 use Rattle.runner.proofs.serve_teardown_finish.Statement.{statement}
 use Rattle.runner.proofs.serve_teardown_finish.Tie as tie
-use Rattle.runner.proofs.serve_teardown_finish.Reads as reads
-use Rattle.runner.proofs.serve_teardown_finish.Lts as lts
-use Rattle.request.proofs.field.Reads as field-reads
-use Rattle.teardown.proofs.finish_teardown.Reads as finish-teardown-reads
 
 -- src/lib.rt:307:9
 field-requires : tie.Need-field-requires

@@ -1,10 +1,6 @@
 use borrow.Author.Needs.{needs}
 use Rattle.runner.proofs.serve_teardown_start.Statement.{statement}
 use Rattle.runner.proofs.serve_teardown_start.Tie as tie
-use Rattle.runner.proofs.serve_teardown_start.Reads as reads
-use Rattle.runner.proofs.serve_teardown_start.Lts as lts
-use Rattle.request.proofs.field.Reads as field-reads
-use Rattle.teardown.proofs.begin_teardown.Reads as begin-teardown-reads
 
 -- src/lib.rt:279:9
 field-requires : tie.Need-field-requires

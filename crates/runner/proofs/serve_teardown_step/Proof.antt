@@ -1,10 +1,6 @@
 use borrow.Author.Needs.{needs}
 use Rattle.runner.proofs.serve_teardown_step.Statement.{statement}
 use Rattle.runner.proofs.serve_teardown_step.Tie as tie
-use Rattle.runner.proofs.serve_teardown_step.Reads as reads
-use Rattle.runner.proofs.serve_teardown_step.Lts as lts
-use Rattle.request.proofs.field.Reads as field-reads
-use Rattle.teardown.proofs.remove_next.Reads as remove-next-reads
 
 -- src/lib.rt:293:9
 field-requires : tie.Need-field-requires

@@ -1,10 +1,6 @@
 use Rattle.transfer.specs.TransferCode.{item-is}
 use Rattle.transfer.proofs.any_item.Statement.{statement}
 use Rattle.transfer.proofs.any_item.Tie as tie
-use Rattle.transfer.proofs.any_item.Reads as reads
-use Rattle.transfer.proofs.any_item.Lts as lts
-use Rattle.request.proofs.field.Reads as field-reads
-use Rattle.request.proofs.find.Reads as find-reads
 
 -- src/lib.rt:205:9
 field-requires : tie.Need-field-requires

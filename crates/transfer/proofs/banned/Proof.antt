@@ -2,9 +2,6 @@ use Rattle.transfer.specs.TransferCode.{banned-word}
 use borrow.Author.Needs.{needs}
 use Rattle.transfer.proofs.banned.Statement.{statement}
 use Rattle.transfer.proofs.banned.Tie as tie
-use Rattle.transfer.proofs.banned.Reads as reads
-use Rattle.transfer.proofs.banned.Lts as lts
-use Rattle.words.proofs.eq.Reads as eq-reads
 
 -- src/lib.rt:283:24
 enum-known-ban : tie.Need-enum-known-ban

@@ -2,16 +2,6 @@ use Rattle.transfer.specs.Code.{consumed-done, consumed-refused}
 use borrow.Author.Needs.{needs}
 use Rattle.transfer.proofs.consume_handle.Statement.{statement}
 use Rattle.transfer.proofs.consume_handle.Tie as tie
-use Rattle.transfer.proofs.consume_handle.Reads as reads
-use Rattle.transfer.proofs.consume_handle.Lts as lts
-use Rattle.answer.proofs.refuse.Reads as refuse-reads
-use Rattle.answer.proofs.say1.Reads as say1-reads
-use Rattle.book.proofs.spare_place.Reads as spare-place-reads
-use Rattle.layout.proofs.root_word.Reads as root-word-reads
-use Rattle.transfer.proofs.consume_refusal.Reads as consume-refusal-reads
-use Rattle.transfer.proofs.open_claim.Reads as open-claim-reads
-use Rattle.transfer.proofs.put_moved.Reads as put-moved-reads
-use Rattle.words.proofs.eq.Reads as eq-reads
 
 -- src/lib.rt:125:9
 consume-refusal-requires : tie.Need-consume-refusal-requires

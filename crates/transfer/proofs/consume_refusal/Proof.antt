@@ -2,12 +2,6 @@ use Rattle.transfer.specs.Code.{consume-id, consume-koid, consume-kind, 
 use Rattle.layout.specs.Layout.{load}
 use Rattle.transfer.proofs.consume_refusal.Statement.{statement}
 use Rattle.transfer.proofs.consume_refusal.Tie as tie
-use Rattle.transfer.proofs.consume_refusal.Reads as reads
-use Rattle.transfer.proofs.consume_refusal.Lts as lts
-use Rattle.authority.proofs.Rights.contains.Reads as contains-reads
-use Rattle.lookup.proofs.info_of.Reads as info-of-reads
-use Rattle.parcel.proofs.id_refusal.Reads as id-refusal-reads
-use Rattle.words.proofs.eq.Reads as eq-reads
 
 -- src/lib.rt:78:8
 contains-requires : tie.Need-contains-requires

@@ -5,11 +5,6 @@ use Rattle.layout.specs.Layout.{load}
 use borrow.Author.Needs.{needs}
 use Rattle.transfer.proofs.copied_object.Statement.{statement}
 use Rattle.transfer.proofs.copied_object.Tie as tie
-use Rattle.transfer.proofs.copied_object.Reads as reads
-use Rattle.transfer.proofs.copied_object.Lts as lts
-use Rattle.lookup.proofs.find_handle.Reads as find-handle-reads
-use Rattle.transfer.proofs.copies.Reads as copies-reads
-use Rattle.words.proofs.inc.Reads as inc-reads
 
 -- src/lib.rt:448:8
 copies-requires : tie.Need-copies-requires

@@ -1,9 +1,6 @@
 use Rattle.transfer.specs.TransferCode.{copies-is}
 use Rattle.transfer.proofs.copies.Statement.{statement}
 use Rattle.transfer.proofs.copies.Tie as tie
-use Rattle.transfer.proofs.copies.Reads as reads
-use Rattle.transfer.proofs.copies.Lts as lts
-use Rattle.words.proofs.ne.Reads as ne-reads
 
 -- src/lib.rt:255:5
 ne-requires : tie.Need-ne-requires

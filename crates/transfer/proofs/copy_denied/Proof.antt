@@ -2,10 +2,6 @@ use Rattle.transfer.specs.TransferCode.{denied-copy, denied-move}
 use Rattle.model.specs.Words.{operationOf}
 use Rattle.transfer.proofs.copy_denied.Statement.{statement}
 use Rattle.transfer.proofs.copy_denied.Tie as tie
-use Rattle.transfer.proofs.copy_denied.Reads as reads
-use Rattle.transfer.proofs.copy_denied.Lts as lts
-use Rattle.transfer.proofs.copies.Reads as copies-reads
-use Rattle.transfer.proofs.lacks.Reads as lacks-reads
 
 -- src/lib.rt:262:8
 copies-requires : tie.Need-copies-requires

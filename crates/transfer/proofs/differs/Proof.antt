@@ -2,9 +2,6 @@ use Rattle.transfer.specs.TransferCode.{differs-word}
 use borrow.Author.Needs.{needs}
 use Rattle.transfer.proofs.differs.Statement.{statement}
 use Rattle.transfer.proofs.differs.Tie as tie
-use Rattle.transfer.proofs.differs.Reads as reads
-use Rattle.transfer.proofs.differs.Lts as lts
-use Rattle.words.proofs.ne.Reads as ne-reads
 
 -- src/lib.rt:293:24
 enum-known-kind : tie.Need-enum-known-kind

@@ -3,12 +3,6 @@ use Rattle.transfer.specs.Checks.{asOption, itemBy}
 use Rattle.layout.specs.Layout.{load}
 use Rattle.transfer.proofs.handle_refusal.Statement.{statement}
 use Rattle.transfer.proofs.handle_refusal.Tie as tie
-use Rattle.transfer.proofs.handle_refusal.Reads as reads
-use Rattle.transfer.proofs.handle_refusal.Lts as lts
-use Rattle.transfer.proofs.look_at.Reads as look-at-reads
-use Rattle.transfer.proofs.object_refusal.Reads as object-refusal-reads
-use Rattle.transfer.proofs.rights_refusal.Reads as rights-refusal-reads
-use Rattle.words.proofs.ne.Reads as ne-reads
 
 -- src/lib.rt:369:9
 rights-refusal-requires : tie.Need-rights-refusal-requires

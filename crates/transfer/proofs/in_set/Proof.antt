@@ -2,9 +2,6 @@ use Rattle.transfer.specs.Seen.{bitOf}
 use borrow.Author.Needs.{needs}
 use Rattle.transfer.proofs.in_set.Statement.{statement}
 use Rattle.transfer.proofs.in_set.Tie as tie
-use Rattle.transfer.proofs.in_set.Reads as reads
-use Rattle.transfer.proofs.in_set.Lts as lts
-use Rattle.words.proofs.eq.Reads as eq-reads
 
 -- src/lib.rt:470:16
 shr-eq : tie.Need-shr-eq

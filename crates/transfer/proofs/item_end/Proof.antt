@@ -2,9 +2,6 @@ use Rattle.transfer.specs.Plain.{plain-end}
 use borrow.Author.Needs.{needs}
 use Rattle.transfer.proofs.item_end.Statement.{statement}
 use Rattle.transfer.proofs.item_end.Tie as tie
-use Rattle.transfer.proofs.item_end.Reads as reads
-use Rattle.transfer.proofs.item_end.Lts as lts
-use Rattle.request.proofs.record_end.Reads as record-end-reads
 
 -- src/lib.rt:263:12
 mul-if2 : tie.Need-mul-if2

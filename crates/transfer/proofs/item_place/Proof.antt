@@ -4,9 +4,6 @@ use Rattle.transfer.specs.Stored.{item-stands, item-none, rows-low}
 use borrow.Author.Needs.{needs}
 use Rattle.transfer.proofs.item_place.Statement.{statement}
 use Rattle.transfer.proofs.item_place.Tie as tie
-use Rattle.transfer.proofs.item_place.Reads as reads
-use Rattle.transfer.proofs.item_place.Lts as lts
-use Rattle.layout.proofs.region_of.Reads as region-of-reads
 
 -- src/lib.rt:60:16
 cast-if2 : tie.Need-cast-if2

@@ -6,11 +6,6 @@ use Rattle.layout.specs.Layout.{load}
 use borrow.Author.Needs.{needs}
 use Rattle.transfer.proofs.item_refusal.Statement.{statement}
 use Rattle.transfer.proofs.item_refusal.Tie as tie
-use Rattle.transfer.proofs.item_refusal.Reads as reads
-use Rattle.transfer.proofs.item_refusal.Lts as lts
-use Rattle.lookup.proofs.find_handle.Reads as find-handle-reads
-use Rattle.transfer.proofs.handle_refusal.Reads as handle-refusal-reads
-use Rattle.transfer.proofs.twice.Reads as twice-reads
 
 -- src/lib.rt:408:8
 twice-requires : tie.Need-twice-requires

@@ -3,10 +3,6 @@ use Rattle.transfer.specs.Plain.{plain-value}
 use borrow.Author.Needs.{needs}
 use Rattle.transfer.proofs.item_value.Statement.{statement}
 use Rattle.transfer.proofs.item_value.Tie as tie
-use Rattle.transfer.proofs.item_value.Reads as reads
-use Rattle.transfer.proofs.item_value.Lts as lts
-use Rattle.request.proofs.field.Reads as field-reads
-use Rattle.words.proofs.word.Reads as word-reads
 
 -- src/lib.rt:251:12
 mul-if2 : tie.Need-mul-if2

@@ -9,13 +9,6 @@ use Rattle.layout.specs.Layout.{load}
 use mathlib.Core.Path.{_≡_}
 use Rattle.transfer.proofs.items_refusal.Statement.{statement}
 use Rattle.transfer.proofs.items_refusal.Tie as tie
-use Rattle.transfer.proofs.items_refusal.Reads as reads
-use Rattle.transfer.proofs.items_refusal.Lts as lts
-use Rattle.transfer.proofs.item_end.Reads as item-end-reads
-use Rattle.transfer.proofs.item_refusal.Reads as item-refusal-reads
-use Rattle.transfer.proofs.joined.Reads as joined-reads
-use Rattle.transfer.proofs.read_item.Reads as read-item-reads
-use Rattle.words.proofs.ne.Reads as ne-reads
 
 abbrev Inv-loop : tie.InvT-loop
 Inv-loop s sh rq at count b t place₀ i₀ seen₀ place i seen = (place ≡ placeOf i rq at) × (itemsRefusal (load s sh) b (t .route) (asOption (t .«forbidden_object»)) (asOption (t .«forbidden_kind»)) [] (itemsAt rq at count) ≡ itemsRefusal (load s sh) b (t .route) (asOption (t .«forbidden_object»)) (asOption (t .«forbidden_kind»)) (earlierAt rq at i) (itemsAt rq place (count - i))) × Seen rq at i seen

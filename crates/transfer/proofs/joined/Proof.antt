@@ -2,8 +2,6 @@ use Rattle.transfer.specs.Seen.{joined-is}
 use borrow.Author.Needs.{needs}
 use Rattle.transfer.proofs.joined.Statement.{statement}
 use Rattle.transfer.proofs.joined.Tie as tie
-use Rattle.transfer.proofs.joined.Reads as reads
-use Rattle.transfer.proofs.joined.Lts as lts
 
 -- src/lib.rt:479:13
 shl-result : tie.Need-shl-result

@@ -1,9 +1,6 @@
 use Rattle.transfer.specs.TransferCode.{lacks-none, lacks-some}
 use Rattle.transfer.proofs.lacks.Statement.{statement}
 use Rattle.transfer.proofs.lacks.Tie as tie
-use Rattle.transfer.proofs.lacks.Reads as reads
-use Rattle.transfer.proofs.lacks.Lts as lts
-use Rattle.authority.proofs.Rights.contains.Reads as contains-reads
 
 -- src/lib.rt:245:8
 contains-requires : tie.Need-contains-requires

@@ -9,11 +9,6 @@ use Rattle.transfer.specs.Checks.{earlierAt}
 use mathlib.Core.Path.{_≡_}
 use Rattle.transfer.proofs.listed.Statement.{statement}
 use Rattle.transfer.proofs.listed.Tie as tie
-use Rattle.transfer.proofs.listed.Reads as reads
-use Rattle.transfer.proofs.listed.Lts as lts
-use Rattle.transfer.proofs.item_value.Reads as item-value-reads
-use Rattle.transfer.proofs.item_end.Reads as item-end-reads
-use Rattle.words.proofs.eq.Reads as eq-reads
 
 abbrev Inv-loop : tie.InvT-loop
 Inv-loop rq at n v place₀ i₀ place i = (i ≤ n) × (place ≡ placeOf i rq at) × (member v (earlierAt rq at i) ≡ false)

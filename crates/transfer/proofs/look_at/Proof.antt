@@ -1,11 +1,7 @@
 use Rattle.layout.specs.Layout.{load}
 use Rattle.transfer.specs.TransferCode.{looked-is}
-use borrow.Author.Needs.{needs}
 use Rattle.transfer.proofs.look_at.Statement.{statement}
 use Rattle.transfer.proofs.look_at.Tie as tie
-use Rattle.transfer.proofs.look_at.Reads as reads
-use Rattle.transfer.proofs.look_at.Lts as lts
-use Rattle.layout.proofs.object_word.Reads as object-word-reads
 
 -- src/lib.rt:431:9
 object-word-requires : tie.Need-object-word-requires

@@ -3,12 +3,6 @@ use Rattle.transfer.specs.Checks.{itemBy}
 use borrow.Author.Needs.{needs}
 use Rattle.transfer.proofs.lower_item.Statement.{statement}
 use Rattle.transfer.proofs.lower_item.Tie as tie
-use Rattle.transfer.proofs.lower_item.Reads as reads
-use Rattle.transfer.proofs.lower_item.Lts as lts
-use Rattle.object.proofs.lower_object.Reads as lower-object-reads
-use Rattle.transfer.proofs.copied_object.Reads as copied-object-reads
-use Rattle.words.proofs.dec.Reads as dec-reads
-use Rattle.words.proofs.eq.Reads as eq-reads
 
 -- src/lib.rt:494:9
 copied-object-requires : tie.Need-copied-object-requires

@@ -6,11 +6,6 @@ use lib.ListN.{length}
 use mathlib.Core.Path.{_≡_, refl}
 use Rattle.transfer.proofs.lower_items.Statement.{statement}
 use Rattle.transfer.proofs.lower_items.Tie as tie
-use Rattle.transfer.proofs.lower_items.Reads as reads
-use Rattle.transfer.proofs.lower_items.Lts as lts
-use Rattle.transfer.proofs.item_end.Reads as item-end-reads
-use Rattle.transfer.proofs.lower_item.Reads as lower-item-reads
-use Rattle.transfer.proofs.read_item.Reads as read-item-reads
 
 abbrev Inv-loop : tie.InvT-loop
 Inv-loop s₀ sh rq at n b place₀ more₀ s place more = (length s ≡ length s₀) × (loweredItems s₀ sh b (itemsAt rq at n) ≡ loweredItems s sh b (itemsAt rq place more))

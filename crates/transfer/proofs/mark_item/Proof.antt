@@ -2,11 +2,6 @@ use Rattle.transfer.specs.Code.{mark-moved, mark-copied}
 use borrow.Author.Needs.{needs}
 use Rattle.transfer.proofs.mark_item.Statement.{statement}
 use Rattle.transfer.proofs.mark_item.Tie as tie
-use Rattle.transfer.proofs.mark_item.Reads as reads
-use Rattle.transfer.proofs.mark_item.Lts as lts
-use Rattle.layout.proofs.item_word.Reads as item-word-reads
-use Rattle.storage.proofs.mark_moving.Reads as mark-moving-reads
-use Rattle.words.proofs.eq.Reads as eq-reads
 
 -- src/lib.rt:40:18
 item-word-requires : tie.Need-item-word-requires

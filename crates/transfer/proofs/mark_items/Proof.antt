@@ -6,9 +6,6 @@ use lib.ListN.{length}
 use mathlib.Core.Path.{_≡_, refl}
 use Rattle.transfer.proofs.mark_items.Statement.{statement}
 use Rattle.transfer.proofs.mark_items.Tie as tie
-use Rattle.transfer.proofs.mark_items.Reads as reads
-use Rattle.transfer.proofs.mark_items.Lts as lts
-use Rattle.transfer.proofs.mark_item.Reads as mark-item-reads
 
 abbrev Inv-loop : tie.InvT-loop
 Inv-loop s₀ sh b x n j₀ s j = (length s ≡ length s₀) × (markedW s₀ sh b x 0 n ≡ markedW s sh b x j (n - j))

@@ -2,11 +2,6 @@ use Rattle.transfer.specs.TransferCode.{object-kind, object-koid, object
 use Rattle.transfer.specs.Checks.{asOption}
 use Rattle.transfer.proofs.object_refusal.Statement.{statement}
 use Rattle.transfer.proofs.object_refusal.Tie as tie
-use Rattle.transfer.proofs.object_refusal.Reads as reads
-use Rattle.transfer.proofs.object_refusal.Lts as lts
-use Rattle.transfer.proofs.banned.Reads as banned-reads
-use Rattle.transfer.proofs.differs.Reads as differs-reads
-use Rattle.transfer.proofs.route_bars.Reads as route-bars-reads
 
 -- src/lib.rt:338:8
 banned-requires : tie.Need-banned-requires

@@ -2,11 +2,6 @@ use Rattle.transfer.specs.Code.{claim-is}
 use borrow.Author.Needs.{needs}
 use Rattle.transfer.proofs.open_claim.Statement.{statement}
 use Rattle.transfer.proofs.open_claim.Tie as tie
-use Rattle.transfer.proofs.open_claim.Reads as reads
-use Rattle.transfer.proofs.open_claim.Lts as lts
-use Rattle.book.proofs.open_row.Reads as open-row-reads
-use Rattle.book.proofs.spare_place.Reads as spare-place-reads
-use Rattle.transfer.proofs.mark_items.Reads as mark-items-reads
 
 -- src/lib.rt:81:9
 spare-place-requires : tie.Need-spare-place-requires

@@ -2,14 +2,6 @@ use Rattle.transfer.specs.Code.{consumption-refused, consumption-found, 
 use borrow.Author.Needs.{needs}
 use Rattle.transfer.proofs.prepare_consumption.Statement.{statement}
 use Rattle.transfer.proofs.prepare_consumption.Tie as tie
-use Rattle.transfer.proofs.prepare_consumption.Reads as reads
-use Rattle.transfer.proofs.prepare_consumption.Lts as lts
-use Rattle.answer.proofs.refuse.Reads as refuse-reads
-use Rattle.lookup.proofs.open_handle.Reads as open-handle-reads
-use Rattle.lookup.proofs.table_refusal.Reads as table-refusal-reads
-use Rattle.parcel.proofs.row_left.Reads as row-left-reads
-use Rattle.transfer.proofs.consume_handle.Reads as consume-handle-reads
-use Rattle.words.proofs.eq.Reads as eq-reads
 
 -- src/lib.rt:151:9
 table-refusal-requires : tie.Need-table-refusal-requires

@@ -3,16 +3,6 @@ use Rattle.transfer.specs.Checks.{asOption}
 use borrow.Author.Needs.{needs}
 use Rattle.transfer.proofs.prepare_items.Statement.{statement}
 use Rattle.transfer.proofs.prepare_items.Tie as tie
-use Rattle.transfer.proofs.prepare_items.Reads as reads
-use Rattle.transfer.proofs.prepare_items.Lts as lts
-use Rattle.answer.proofs.say1.Reads as say1-reads
-use Rattle.layout.proofs.root_word.Reads as root-word-reads
-use Rattle.transfer.proofs.items_refusal.Reads as items-refusal-reads
-use Rattle.transfer.proofs.open_claim.Reads as open-claim-reads
-use Rattle.transfer.proofs.put_entries.Reads as put-entries-reads
-use Rattle.transfer.proofs.raise_items.Reads as raise-items-reads
-use Rattle.transfer.proofs.refuse_spent.Reads as refuse-spent-reads
-use Rattle.words.proofs.ne.Reads as ne-reads
 
 -- src/lib.rt:603:9
 items-refusal-requires : tie.Need-items-refusal-requires

@@ -2,15 +2,6 @@ use Rattle.transfer.specs.TransferCode.{transfer-refused, transfer-goes}
 use borrow.Author.Needs.{needs}
 use Rattle.transfer.proofs.prepare_transfer.Statement.{statement}
 use Rattle.transfer.proofs.prepare_transfer.Tie as tie
-use Rattle.transfer.proofs.prepare_transfer.Reads as reads
-use Rattle.transfer.proofs.prepare_transfer.Lts as lts
-use Rattle.answer.proofs.refuse.Reads as refuse-reads
-use Rattle.request.proofs.field.Reads as field-reads
-use Rattle.request.proofs.record_end.Reads as record-end-reads
-use Rattle.transfer.proofs.prepare_items.Reads as prepare-items-reads
-use Rattle.transfer.proofs.read_rules.Reads as read-rules-reads
-use Rattle.transfer.proofs.transfer_refusal.Reads as transfer-refusal-reads
-use Rattle.words.proofs.ne.Reads as ne-reads
 
 -- src/lib.rt:631:9
 field-requires : tie.Need-field-requires

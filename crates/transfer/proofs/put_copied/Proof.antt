@@ -2,10 +2,6 @@ use Rattle.transfer.specs.Stored.{copied-by}
 use borrow.Author.Needs.{needs}
 use Rattle.transfer.proofs.put_copied.Statement.{statement}
 use Rattle.transfer.proofs.put_copied.Tie as tie
-use Rattle.transfer.proofs.put_copied.Reads as reads
-use Rattle.transfer.proofs.put_copied.Lts as lts
-use Rattle.transfer.proofs.item_place.Reads as item-place-reads
-use Rattle.words.proofs.put.Reads as put-reads
 
 -- src/lib.rt:641:9
 item-place-requires : tie.Need-item-place-requires

@@ -9,12 +9,6 @@ use lib.ListN.{length}
 use mathlib.Core.Path.{_≡_, refl}
 use Rattle.transfer.proofs.put_entries.Statement.{statement}
 use Rattle.transfer.proofs.put_entries.Tie as tie
-use Rattle.transfer.proofs.put_entries.Reads as reads
-use Rattle.transfer.proofs.put_entries.Lts as lts
-use Rattle.book.proofs.spare_place.Reads as spare-place-reads
-use Rattle.transfer.proofs.item_end.Reads as item-end-reads
-use Rattle.transfer.proofs.put_entry.Reads as put-entry-reads
-use Rattle.transfer.proofs.read_item.Reads as read-item-reads
 
 abbrev Inv-loop : tie.InvT-loop
 Inv-loop s₀ sh rq at count b x place₀ j₀ s place j = (length s ≡ length s₀) × (entriesW s₀ sh b (spare (load s₀ sh)) 0 (itemsAt rq at count) ≡ entriesW s sh b x j (itemsAt rq place (count - j)))

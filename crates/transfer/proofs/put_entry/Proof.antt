@@ -4,10 +4,6 @@ use mathlib.Core.Path.{refl}
 use borrow.Author.Needs.{needs}
 use Rattle.transfer.proofs.put_entry.Statement.{statement}
 use Rattle.transfer.proofs.put_entry.Tie as tie
-use Rattle.transfer.proofs.put_entry.Reads as reads
-use Rattle.transfer.proofs.put_entry.Lts as lts
-use Rattle.lookup.proofs.find_handle.Reads as find-handle-reads
-use Rattle.transfer.proofs.put_handle_entry.Reads as put-handle-entry-reads
 
 -- src/lib.rt:557:11
 find-handle-requires : tie.Need-find-handle-requires

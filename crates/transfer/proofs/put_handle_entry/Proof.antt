@@ -2,11 +2,6 @@ use Rattle.transfer.specs.TransferCode.{entry-copied, entry-moved}
 use borrow.Author.Needs.{needs}
 use Rattle.transfer.proofs.put_handle_entry.Statement.{statement}
 use Rattle.transfer.proofs.put_handle_entry.Tie as tie
-use Rattle.transfer.proofs.put_handle_entry.Reads as reads
-use Rattle.transfer.proofs.put_handle_entry.Lts as lts
-use Rattle.transfer.proofs.copies.Reads as copies-reads
-use Rattle.transfer.proofs.put_copied.Reads as put-copied-reads
-use Rattle.transfer.proofs.put_moved.Reads as put-moved-reads
 
 -- src/lib.rt:546:8
 copies-requires : tie.Need-copies-requires

@@ -2,10 +2,6 @@ use Rattle.transfer.specs.Stored.{moved-by}
 use borrow.Author.Needs.{needs}
 use Rattle.transfer.proofs.put_moved.Statement.{statement}
 use Rattle.transfer.proofs.put_moved.Tie as tie
-use Rattle.transfer.proofs.put_moved.Reads as reads
-use Rattle.transfer.proofs.put_moved.Lts as lts
-use Rattle.transfer.proofs.item_place.Reads as item-place-reads
-use Rattle.words.proofs.put.Reads as put-reads
 
 -- src/lib.rt:72:9
 item-place-requires : tie.Need-item-place-requires

@@ -3,14 +3,6 @@ use Rattle.transfer.specs.Checks.{itemBy}
 use borrow.Author.Needs.{needs}
 use Rattle.transfer.proofs.raise_item.Statement.{statement}
 use Rattle.transfer.proofs.raise_item.Tie as tie
-use Rattle.transfer.proofs.raise_item.Reads as reads
-use Rattle.transfer.proofs.raise_item.Lts as lts
-use Rattle.object.proofs.raise_object.Reads as raise-object-reads
-use Rattle.transfer.proofs.copied_object.Reads as copied-object-reads
-use Rattle.transfer.proofs.raise_refusal.Reads as raise-refusal-reads
-use Rattle.words.proofs.dec.Reads as dec-reads
-use Rattle.words.proofs.eq.Reads as eq-reads
-use Rattle.words.proofs.ne.Reads as ne-reads
 
 -- src/lib.rt:477:9
 copied-object-requires : tie.Need-copied-object-requires

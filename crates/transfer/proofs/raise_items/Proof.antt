@@ -9,13 +9,6 @@ use lib.ListN.{length}
 use mathlib.Core.Path.{_≡_, refl}
 use Rattle.transfer.proofs.raise_items.Statement.{statement}
 use Rattle.transfer.proofs.raise_items.Tie as tie
-use Rattle.transfer.proofs.raise_items.Reads as reads
-use Rattle.transfer.proofs.raise_items.Lts as lts
-use Rattle.transfer.proofs.item_end.Reads as item-end-reads
-use Rattle.transfer.proofs.lower_items.Reads as lower-items-reads
-use Rattle.transfer.proofs.raise_item.Reads as raise-item-reads
-use Rattle.transfer.proofs.read_item.Reads as read-item-reads
-use Rattle.words.proofs.ne.Reads as ne-reads
 
 abbrev Inv-loop : tie.InvT-loop
 Inv-loop s₀ sh rq at count b place₀ i₀ s place i = (length s ≡ length s₀) × (place ≡ placeOf i rq at) × (raisedItems s₀ sh b [] (itemsAt rq at count) ≡ raisedItems s sh b (itemsAt rq at i) (itemsAt rq place (count - i)))

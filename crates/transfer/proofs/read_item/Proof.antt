@@ -3,10 +3,6 @@ use Rattle.transfer.specs.Plain.{plain-item}
 use borrow.Author.Needs.{needs}
 use Rattle.transfer.proofs.read_item.Statement.{statement}
 use Rattle.transfer.proofs.read_item.Tie as tie
-use Rattle.transfer.proofs.read_item.Reads as reads
-use Rattle.transfer.proofs.read_item.Lts as lts
-use Rattle.transfer.proofs.any_item.Reads as any-item-reads
-use Rattle.words.proofs.word.Reads as word-reads
 
 -- src/lib.rt:229:12
 mul-if2 : tie.Need-mul-if2

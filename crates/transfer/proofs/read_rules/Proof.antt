@@ -1,10 +1,6 @@
 use Rattle.transfer.specs.TransferCode.{rules-are}
 use Rattle.transfer.proofs.read_rules.Statement.{statement}
 use Rattle.transfer.proofs.read_rules.Tie as tie
-use Rattle.transfer.proofs.read_rules.Reads as reads
-use Rattle.transfer.proofs.read_rules.Lts as lts
-use Rattle.request.proofs.field.Reads as field-reads
-use Rattle.request.proofs.find.Reads as find-reads
 
 -- src/lib.rt:191:9
 field-requires : tie.Need-field-requires

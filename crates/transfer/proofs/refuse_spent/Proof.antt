@@ -2,10 +2,6 @@ use Rattle.transfer.specs.TransferCode.{spent-is}
 use borrow.Author.Needs.{needs}
 use Rattle.transfer.proofs.refuse_spent.Statement.{statement}
 use Rattle.transfer.proofs.refuse_spent.Tie as tie
-use Rattle.transfer.proofs.refuse_spent.Reads as reads
-use Rattle.transfer.proofs.refuse_spent.Lts as lts
-use Rattle.answer.proofs.refuse.Reads as refuse-reads
-use Rattle.book.proofs.spend_id.Reads as spend-id-reads
 
 -- src/lib.rt:585:5
 spend-id-requires : tie.Need-spend-id-requires

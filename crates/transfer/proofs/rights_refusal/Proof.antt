@@ -1,11 +1,6 @@
 use Rattle.transfer.specs.TransferCode.{rights-transfer, rights-copy, rights-source, rights-asked, rights-held}
 use Rattle.transfer.proofs.rights_refusal.Statement.{statement}
 use Rattle.transfer.proofs.rights_refusal.Tie as tie
-use Rattle.transfer.proofs.rights_refusal.Reads as reads
-use Rattle.transfer.proofs.rights_refusal.Lts as lts
-use Rattle.transfer.proofs.copy_denied.Reads as copy-denied-reads
-use Rattle.transfer.proofs.lacks.Reads as lacks-reads
-use Rattle.transfer.proofs.rights_offered.Reads as rights-offered-reads
 
 -- src/lib.rt:315:8
 lacks-requires : tie.Need-lacks-requires

@@ -1,9 +1,6 @@
 use Rattle.transfer.specs.TransferCode.{bars-leaf, bars-rendezvous, bars-never}
 use Rattle.transfer.proofs.route_bars.Statement.{statement}
 use Rattle.transfer.proofs.route_bars.Tie as tie
-use Rattle.transfer.proofs.route_bars.Reads as reads
-use Rattle.transfer.proofs.route_bars.Lts as lts
-use Rattle.words.proofs.eq.Reads as eq-reads
 
 -- src/lib.rt:302:8
 eq-requires : tie.Need-eq-requires

@@ -2,14 +2,6 @@ use Rattle.transfer.specs.TransferCode.{transfer-table, transfer-empty, 
 use Rattle.layout.specs.Layout.{load}
 use Rattle.transfer.proofs.transfer_refusal.Statement.{statement}
 use Rattle.transfer.proofs.transfer_refusal.Tie as tie
-use Rattle.transfer.proofs.transfer_refusal.Reads as reads
-use Rattle.transfer.proofs.transfer_refusal.Lts as lts
-use Rattle.lookup.proofs.table_refusal.Reads as table-refusal-reads
-use Rattle.parcel.proofs.id_refusal.Reads as id-refusal-reads
-use Rattle.parcel.proofs.row_left.Reads as row-left-reads
-use Rattle.words.proofs.eq.Reads as eq-reads
-use Rattle.words.proofs.lt.Reads as lt-reads
-use Rattle.words.proofs.ne.Reads as ne-reads
 
 -- src/lib.rt:225:9
 table-refusal-requires : tie.Need-table-refusal-requires

@@ -2,10 +2,6 @@ use Rattle.transfer.specs.Seen.{seen-not}
 use borrow.Author.Needs.{needs}
 use Rattle.transfer.proofs.twice.Statement.{statement}
 use Rattle.transfer.proofs.twice.Tie as tie
-use Rattle.transfer.proofs.twice.Reads as reads
-use Rattle.transfer.proofs.twice.Lts as lts
-use Rattle.transfer.proofs.in_set.Reads as in-set-reads
-use Rattle.transfer.proofs.listed.Reads as listed-reads
 
 -- src/lib.rt:487:8
 in-set-requires : tie.Need-in-set-requires

@@ -1,12 +1,8 @@
 use Rattle.layout.specs.Layout.{load}
-use Rattle.transfer.specs.TransferCode.{raise-retired, raise-full, raise-free}
+use Rattle.parcel.specs.Code.{raise-retired, raise-full, raise-free}
 use borrow.Author.Needs.{needs}
-use Rattle.transfer.proofs.raise_refusal.Statement.{statement}
-use Rattle.transfer.proofs.raise_refusal.Tie as tie
-use Rattle.transfer.proofs.raise_refusal.Reads as reads
-use Rattle.transfer.proofs.raise_refusal.Lts as lts
-use Rattle.layout.proofs.object_word.Reads as object-word-reads
-use Rattle.words.proofs.eq.Reads as eq-reads
+use Rattle.parcel.proofs.raise_refusal.Statement.{statement}
+use Rattle.parcel.proofs.raise_refusal.Tie as tie
 
 -- src/lib.rt:582:9
 object-word-requires : tie.Need-object-word-requires
