@@ -1,31 +1,12 @@
 """A copy of the crates for tests that change something or add a crate."""
 import os
-import re
 import shutil
+import sys
 from pathlib import Path
 
 root = Path(__file__).resolve().parent.parent
-
-
-def dependencies():
-    """The crates of crates.txt, each with those of the repository that it builds on."""
-    out = {}
-    for line in (root / "crates.txt").read_text().split("\n"):
-        name, colon, rest = re.sub(r"#.*", "", line).partition(":")
-        if colon:
-            out[name.strip()] = rest.split()
-    return {name: [d for d in rest if d in out] for name, rest in out.items()}
-
-
-def below(crate):
-    """A crate and all that it builds on."""
-    deps, out, left = dependencies(), set(), [crate]
-    while left:
-        name = left.pop()
-        if name not in out:
-            out.add(name)
-            left += deps[name]
-    return out
+sys.path.insert(0, str(root))
+from viewer.crates import below, dependencies  # noqa: E402
 
 
 def copied(scratch, top=None, changed=None):

@@ -4,6 +4,7 @@ written as text again. And the comparison of the two runs (viewer/held.py) must 
 Status 3 where there is no cargo, since the oracle is needed."""
 import contextlib
 import io
+import os
 import shutil
 import sys
 import tempfile
@@ -15,7 +16,8 @@ from recorded import cases  # noqa: E402
 from viewer import state as states  # noqa: E402
 from viewer.engines import Oracle, uncoded  # noqa: E402
 from viewer.held import Held  # noqa: E402
-from viewer.lists import parse  # noqa: E402
+from viewer.lists import Fault, parse  # noqa: E402
+from viewer.proofs import Proofs  # noqa: E402
 
 faults = []
 
@@ -189,10 +191,46 @@ def two_runs(oracle):
     print(f"{2 * len(BROKEN) + 2} broken conditions, {2 * len(KEPT)} pairs of runs that agree and 6 that are made to differ")
 
 
+RT = """#!/bin/sh
+case "$1" in
+check) echo "fn words::eq: proved"; echo "rt: words proved (2 s)"; echo "rt: codec proved (unchanged since it was last proved)" ;;
+*) echo "rt: words proved (unchanged since it was last proved)"; [ "$2" != broken ] || { echo "rt: broken NOT PROVED"; exit 1; } ;;
+esac
+"""
+SHOWN = """4 crates are proved and the C calls compiled, once; this takes some minutes
+  words: proved in 2 s; 3 left, 0:00 so far
+  1 were proved before; 2 left, 0:00 so far
+  create: proved and compiled now ..
+  create: done; 1 left, 0:00 so far
+  broken: proved and compiled now ..
+rt: broken NOT PROVED
+"""
+
+
+def proving():
+    """What is shown while crates are proved, by an `rt` that proves two, makes one library and fails at another."""
+    said = io.StringIO()
+    with tempfile.TemporaryDirectory() as work:
+        rt, path = Path(work) / "rt", os.environ["PATH"]
+        rt.write_text(RT)
+        rt.chmod(0o755)
+        os.environ["PATH"] = f"{work}:{path}"
+        try:
+            with contextlib.redirect_stderr(said):
+                Proofs({"words", "codec"}, ["create", "broken"]).all()
+        except Fault as fault:
+            said.write(str(fault).split("\n", 1)[1])
+        finally:
+            os.environ["PATH"] = path
+    if said.getvalue() != SHOWN:
+        faults.append(f"while crates are proved this is shown:\n{said.getvalue()}")
+
+
 def main():
+    proving()
     if shutil.which("cargo") is None:
-        print("there is no cargo here, and the oracle is built with it")
-        sys.exit(3)
+        print(*faults, "there is no cargo here, and the oracle is built with it", sep="\n")
+        sys.exit(1 if faults else 3)
     oracle = Oracle([1, 0, 1, 1, 1, 0, 1, 0, 0, 0, 0, 0])
     readings(oracle)
     two_runs(oracle)

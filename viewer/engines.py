@@ -6,11 +6,11 @@ import os
 import re
 import shutil
 import subprocess
-import sys
 import tempfile
 from pathlib import Path
 
 from viewer.lists import Fault
+from viewer.proofs import LIBRARIES, made
 
 root = Path(__file__).resolve().parent.parent
 NOT_CREATED = "creation gives 18: a parameter is outside its limits (docs/formats.md)"
@@ -22,20 +22,10 @@ class Port:
     name = "the proved code"
 
     def __init__(self, create):
-        folder = root / "target" / "staticlib"
-        newest = max(path.stat().st_mtime for path in root.glob("crates/*/src/**/*.rt"))
-        for crate in ("create", "runner"):
-            library = folder / f"lib{crate}.a"
-            if not library.is_file() or library.stat().st_mtime < newest:
-                if shutil.which("rt") is None:
-                    raise Fault(f"{folder}/lib{crate}.a is not there, and the Rattle toolchain's command 'rt', which makes it, is not on the PATH")
-                print(f"proving and compiling the crate {crate}, once; this takes some minutes", file=sys.stderr)
-                made = subprocess.run(["rt", "staticlib", crate], cwd=root, capture_output=True, text=True)
-                if made.returncode != 0:
-                    raise Fault(made.stdout[-2000:] + made.stderr[-2000:])
+        folder = made()
         with tempfile.TemporaryDirectory() as work:
             shared = f"{work}/gurtxozal.so"
-            parts = [str(folder / f"lib{crate}.a") for crate in ("create", "runner")]
+            parts = [str(folder / f"lib{crate}.a") for crate in LIBRARIES]
             linked = subprocess.run(["cc", "-shared", "-o", shared, "-Wl,--whole-archive", *parts, "-Wl,--no-whole-archive"], capture_output=True, text=True)
             if linked.returncode != 0:
                 raise Fault(linked.stderr)
