@@ -105,6 +105,8 @@ check "what is promised is what docs/statements/ has" tests/statements.py
 check "the layout of every file (rt fmt --check)" rt fmt --check
 check "the tables of docs/formats.md are those of the code" tests/formats.py
 check "what the documents cite is there" tests/trace.py
+check "what docs/reading.md quotes and docs/working.md lists is there" tests/quotes.py
+check "docs/map.md is drawn from crates.txt and the sources as they are" tests/map.py
 check "every public function has a contract that speaks of all it gives and demands nothing" tests/contracts.py
 echo "with what is read of them: $((SECONDS - start)) s"
 
@@ -126,6 +128,7 @@ ended tests/embedding.py "docs/embedding.md is what the libraries are"
 echo "with both lanes: $((SECONDS - start)) s"
 check "the examples print what they should" tests/example.sh
 check "what run.py shows: states read from their words, the two runs" tests/viewer.py
+check "every command that README.md and docs/ give can be given" tests/commands.py
 
 echo "the whole test: $((SECONDS - start)) s"
 if [ "${#unrun[@]}" -eq 0 ]; then echo "nothing was left out"; else

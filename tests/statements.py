@@ -38,6 +38,9 @@ PROMISES = [
     ("model", "WordCases", ["readings-hold"]),
     ("wellformed", "Whole", ["check-sound", "check-complete"]),
     ("representation", "Unique", ["rep-unique"]),
+    ("written", "Whole", ["has-words"]),
+    ("written", "Limits", ["written-small"]),
+    ("reach", "Every", ["Words", "every-state", "accepted", "shown-again", "not-misuse", "Starts", "any-two"]),
     ("invariant", "Kept", ["run-kept", "reached"]),
 ]
 # the outside calls: crate and function. Their clauses are recorded as they stand, and the names of `meets` are followed
@@ -50,6 +53,7 @@ SAID = {
     ("wellformed", "View", "objectsView"): "by rep-unique the words represent one state",
     ("structure", "Frames", "freeFrames"): "by rep-unique the words represent one state",
     ("ledger", "View", "rowsView"): "by rep-unique the words represent one state",
+    ("written", "Whole", "written"): "has-words says which state they represent, and by rep-unique it is the only one",
 }
 FOLDER = root / "docs" / "statements"
 
