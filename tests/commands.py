@@ -3,7 +3,7 @@
 
 A command is a span in backticks, or an indented line, that begins with a program of PROGRAMS. FILE, CRATE and NAME stand for an example and the crate `basket`. A
 command for which there is no rule is a fault. It prints what it ran, with the seconds, and what it only looked at, with the reason. docs/landings, which tells what was, is left
-to its time. The crates must be proved, and the port's libraries made (c/test.sh); where they are not, the commands that need them are only looked at.
+to its time. The crates must be proved; where the port's libraries are missing (c/test.sh makes them), `./run.py` is only looked at.
 """
 import os
 import re
@@ -15,7 +15,7 @@ import time
 from pathlib import Path
 
 root = Path(__file__).resolve().parent.parent
-PROGRAMS = r"(?:\./[\w.]+|rt [a-z]|(?:tests|docs|c|oracle|\.ci)/[\w/-]+(?:\.py|\.sh)\b|\.ci/run|oracle/target/release/\w+|oracle [a-z]|cargo |grep |python3 |[A-Z_]+=\S+ )"
+PROGRAMS = r"(?:\./[\w.]+|rt [a-z]|(?:tests|docs|c|oracle|\.ci)/[\w/-]+(?:\.py|\.sh)\b|\.ci/run|oracle/target/release/\w+|oracle [a-z]|cargo |grep |[A-Z_]+=\S+ )"
 WRITES = ("--write", "--record", "record recorded", "rt fmt", "tests/wrong.py", "docs/two-runs.py")
 LONG = ("rt staticlib", "cargo ", "oracle ", "oracle/target/release/", "ORACLE_PORT=")
 SELF = "tests/commands.py"
@@ -51,6 +51,7 @@ def looked(command, known):
         yield from (f"there is no crate {word}" for word in rest[1:] if not word.startswith("-") and not (root / "crates" / word).is_dir())
     elif program in ("oracle", "oracle/target/release/oracle"):
         yield from (f"the oracle has no command {word}" for word in rest[:1] if not re.search(rf"^  {re.escape(word)}\b", known["oracle"], flags=re.M))
+        yield from (f"the oracle has no {word}" for word in rest if word.startswith("--") and not re.search(rf"(?<![\w-]){re.escape(word)}(?![\w-])", (root / "oracle/src/main.rs").read_text() + known["oracle"]))
     elif program == "cargo":
         yield from (f"{word} is not there" for flag, word in zip(rest, rest[1:]) if flag == "--manifest-path" and not (root / word).is_file())
         if "--" in rest:
@@ -62,7 +63,7 @@ def looked(command, known):
         elif not os.access(script, os.X_OK):
             yield f"{program} can't be run"
         else:
-            yield from (f"{program} has no {word}" for word in rest if word.startswith("--") and word not in script.read_text())
+            yield from (f"{program} has no {word}" for word in rest if word.startswith("--") and not re.search(rf"(?<![\w-]){re.escape(word)}(?![\w-])", script.read_text()))
 
 
 def reason(command):
@@ -93,6 +94,8 @@ WRONG = [  # commands in which something must be missing
     "rt check nothing",
     "rt dev basket --nothing",
     "tests/nothing.py",
+    "tests/wrong.py --gat",
+    "oracle bench --nothing",
     "tests/map.py --nothing",
     "./nothing.sh",
     "oracle nothing",

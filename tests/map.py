@@ -21,7 +21,7 @@ DEPS = dependencies()
 START, OP, FOLLOWED = ("runner", "gurtxozal_run"), "serve_close", ("runner", "close")  # the request whose way is drawn, and the crates whose functions are followed
 SMALL = ("words", "layout")  # reads of lent words: left out of the way, but for what START calls
 
-# The way of the proof: file, name that stands there, what it says, and a file and name of an earlier line that it cites
+# The way of the proof: file, name that stands there, what it says, and a name that the file must have
 PROOF = [
     ("model/specs/Step.antt", "step", "the definition: the state that a request leaves, and its answer", None),
     ("close/src/lib.rt", "close", "the code's contract: it leaves the words that `closeR` gives", "closeR"),
@@ -163,8 +163,8 @@ def page():
             *layers(),
             "```",
             "",
-            "On the left stands what a reader must understand: `model` is document 01 as definitions, `representation` says which words stand for which state, `contract` what a call must do,",
-            "`promises` what follows for the caller. On the right stands the code. It is ordered from reads of single words, at the bottom, to the call of a whole list.",
+            "On the left stands what a reader must understand (but for `walks`, which is for proofs alone): `model` is document 01 as definitions, `representation` says which words stand for which state, `contract` what a call must do,",
+            "`promises` what follows for the caller. On the right stands the code. It is ordered from reads of single words, at the bottom, to the call of a whole list; `authority`, `codec` and `format` have definitions of document 01 too.",
             "",
             "## The way of one request",
             "",
@@ -176,7 +176,7 @@ def page():
             "",
             "## The way of one proof",
             "",
-            "What is proved of that request, from the definition to the demands. Each line rests on lines above it; the path is from crates/.",
+            "What is proved of that request, from the definition to the demands. The path is from crates/; `closeR` and `Meets` are definitions that the lines share.",
             "",
             "```",
             *steps()[0],

@@ -40,6 +40,8 @@ def places():
             for place in first.split(", "):
                 listed.append(place)
                 at = root / place
+                if not at.exists():
+                    faults.append(f"docs/working.md: {place} is not there")
                 texts = [path.read_text() for path in ([at] if at.is_file() else at.rglob("*")) if path.is_file() and "__pycache__" not in path.parts]
                 faults += [f"docs/working.md: `{name}` does not stand in {place}" for name in re.findall(r"`([^`]+)`", names) if not any(re.search(rf"(?<![\w-]){re.escape(name)}(?![\w-])", text) for text in texts)]
         found = subprocess.run(shlex.split(command.group(1)) + ["--exclude-dir=__pycache__"], cwd=root, capture_output=True, text=True).stdout.split()

@@ -1,7 +1,7 @@
 #!/usr/bin/env python3
 """Wrong versions of the crates, tried by hand: each edit of tests/wrong/CRATE is made in a copy of the crates, and the prover must refuse it.
 
-They are must-fail edits that are that would cost the gate too much time (docs/budget.md): there each would cost a check of its whole crate. Here a crate is checked once as it stands, which must pass, and
+They are must-fail edits that would cost the gate too much time (docs/budget.md): there each would cost a check of its whole crate. Here a crate is checked once as it stands, which must pass, and
 then with each edit over what that check has kept, so that only what the edit touches is checked again. A refusal counts if its first error has a class (tests/reasons.py). The crates must be
 proved before (`rt check`). The logs go to target/wrong/CRATE/LABEL.log. The rows of the crates whose edits were all tried are written to docs/wrong-programs.md; the gate
 compares its numbers with tests/wrong.

@@ -2,6 +2,7 @@
 //
 // The counts are checked with no memory beside the state's: every handle is counted in the upper half of its object's count word, which is 0 where the
 // fields are in range; then the halves are compared, and the lower ones are left. Whichever handles were counted, every word is then as it was.
+// Bounds that are taken here again hold where the parts before have passed; they make each contract true of any words.
 ghost use mathlib.Core.Path.{_≡_};
 ghost use mathlib.Core.Bool.{_&&_};
 ghost use mathlib.Core.List.{[], _∷_};

@@ -28,13 +28,14 @@ unless_refuse_then_ true n d = d
 unless_refuse_then_ false n d = refusal n
 
 infixr 5 unless_leaving_answering_then_
--- "answer none, not a refusal": go on if the test holds, else the state stays as it is
+-- not a refusal: go on if the test holds, else leave the state and answer
 abbrev pub unless_leaving_answering_then_ : Bool → State → Answer → Decision → Decision
 unless_leaving_answering_then_ b s a d = pick b d (accept s a)
 
 -- what a check finds is passed on to those behind it
 
 infixr 5 given_refuse_then_
+-- what may be absent: go on with it, else refuse
 abbrev pub given_refuse_then_ {ℓ} : {A : Type ℓ} → Option A → ℕ → (A → Decision) → Decision
 given_refuse_then_ none n f = refusal n
 given_refuse_then_ (some a) n f = f a

@@ -23,7 +23,7 @@ _changing_by_ s o f = withObjects s (change f (s .objects) o)
 abbrev pub _raising_ : State → List Handle → State
 _raising_ s hs = withObjects s (changeAll raise hs (s .objects))
 
--- the objects of these handles count one fewer for each
+-- the objects of these handles count one fewer for each: "Falling to count 0 retires the object"
 abbrev pub _releasing_ : State → List Handle → State
 _releasing_ s hs = release s hs
 

@@ -118,6 +118,7 @@ module _ (z : Sizes) where
       turning i into reservation b (take n ks)
       answer done
 
+  -- a reservation ends: its slots fall vacant
   unfoldable pub abortOf : State → ℕ → Decision
   abortOf s i =
       reservationRow i of s refuse 18 then λ b ks.
@@ -178,7 +179,7 @@ module _ (z : Sizes) where
       unless eqb (s .objects (h .object) .kind) kind refuse 4 then
       leave s answer resolved (h .object) (s .objects (h .object) .koid) (h .rights)
 
-  -- "examined, the number of slots looked at: the slot where the scan stopped minus where it started, the lesser of cursor and length"
+  -- "`examined`, the number of slots looked at: the slot where the scan stopped minus where it started, the lesser of cursor and length"
   abbrev pub snapshotPage : State → Table → ℕ → SnapshotPage
   snapshotPage s t c =
       let start : ℕ = min c (lengthOf z t) in
@@ -189,6 +190,7 @@ module _ (z : Sizes) where
         examined = w .stop - start;
       }
 
+  -- 16 as in the Rust: document 01's orders leave it out
   unfoldable pub scanHandlesOf : State → ℕ → ℕ → Decision
   scanHandlesOf s b c =
       table b of s refuse 18 then λ t.
@@ -289,8 +291,8 @@ module _ (z : Sizes) where
       releasing (handleOr (t .slots j) ∷ [])
       answer removed (some (snapshotAt s t j)) (j + 1)
 
-  -- "On an inactive table `remove_stopping_owner` and `take_empty_page` answer none, not a refusal; so do the end of a walk and a table
-  -- with no empty page". "The cursor is a request field, and the answer gives it as left"
+  -- "On an inactive table `remove_stopping_owner` and `take_empty_page` answer "none", not a refusal; so do the end of a walk and a table
+  -- with no empty page". "The cursor of `remove_stopping_owner` is a request field, and the answer gives it as left"
   unfoldable pub removeStoppingOwnerOf : State → ℕ → ℕ → Decision
   removeStoppingOwnerOf s b c =
       table b of s refuse 18 then λ t.
@@ -322,7 +324,7 @@ module _ (z : Sizes) where
       teardownCursor t .life refuse 18 then λ c.
       tearAt s b t (nextOccupied t c)
 
-  -- "finish with an occupied slot": 18
+  -- "finish with an occupied slot": 18, and out of turn as a step
   unfoldable pub teardownFinishOf : State → ℕ → Decision
   teardownFinishOf s b =
       table b of s refuse 18 then λ t.

@@ -37,7 +37,7 @@ abbrev pub isCopy : Operation → Bool
 isCopy asMove = false
 isCopy asCopy = true
 
--- a lookup finds something; what it finds is not busy
+-- whether a lookup finds something; whether what it finds is busy
 abbrev pub isKnown : View → Bool
 isKnown invalid = false
 isKnown busy = true

@@ -1,4 +1,4 @@
--- What a request names, in one table. Which lists the two runs may have, ids one lower and what a row's want means follow from it; a new request adds its line to `namesOf`.
+-- What a request names, in one table. Which lists the two runs may have, the ids one lower and the pages that a request needs follow from it; a new request adds its line to `namesOf`.
 use mathlib.Core.Path.{_≡_, refl}
 use mathlib.Core.List.{List, [], _∷_, map}
 use mathlib.Core.Option.{Option, none, some}
@@ -11,7 +11,7 @@ pub record Names (r : Request) : Type 0 where
   pub ids : List ℕ
   pub renamed : List ℕ → Request
   pub itself : renamed ids ≡ r
-  -- handle values, in a table
+  -- handle values, in a table (0 where it names none)
   pub table : ℕ
   pub values : List ℕ
   -- a table that it scans, starts to tear down or removes from for a stopping owner

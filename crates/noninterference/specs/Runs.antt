@@ -19,7 +19,7 @@ use Rattle.noninterference.specs.Names.{namesOf, requestBy}
 abbrev pub isMove : Item → Bool
 isMove q = not (isCopy (q .operation))
 
--- what a request names, by the model's table
+-- what a request names, by the table `namesOf`
 
 -- a reservation id
 abbrev pub namesId : ℕ → Request → Bool

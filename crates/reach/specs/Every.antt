@@ -36,7 +36,7 @@ module _ (s : State) (w : WellFormed till s) where
   pub shown-again : viewOf (shapeFor s) (load (written s) (shapeFor s)) ≡ s
   shown-again = sym (shown (written s) (shapeFor s) (written-small s w) s (has-words s w))
 
-  -- "18 .. state not well formed", and for no other state: a call on them gives what the definitions say of the state, and never 18
+  -- "18 .. state not well formed", and for no other state: the result of a call on them is what the definitions give for the state, and never 18
   pub not-misuse : (list os : List ℕ) (x : Called) → Meets (written s) list os x → (x .result ≡ call till (some s) list os .result) × (x .result ≡ 18 → ⊥)
   not-misuse list os x m = (m .result (shapeFor s) s (has-words s w), λ e. demand-1 (written s) list os x m .misuse .0 e (shapeFor s) s (has-words s w))
 

@@ -83,7 +83,7 @@ fn note_slot(s: &mut [u64], sh: Shape, c: CellWords)
     }
 }
 
-// The first n slots of frame f, which is page p of table b; w of them are busy.
+// The first n slots of frame f, which is page p of table b: whether each is right and w of them are busy.
 fn walk_frame(
     s: &mut [u64],
     sh: Shape,

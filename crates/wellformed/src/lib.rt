@@ -8,7 +8,7 @@ ghost use Rattle.wellformed.specs.Whole.{wellB};
 ghost use Rattle.wellformed.specs.Code.{quietB};
 use layout::Shape;
 
-// Lent words are words: the hypothesis of `sound`.
+// Does nothing: its contract says that lent words are below 2^64, which `sound` asks for.
 pub fn are_words(s: &[u64])
     ensures { λ _. ⌜ Small (now (s .entry)) ⌝ }
 {
