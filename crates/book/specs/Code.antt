@@ -6,10 +6,11 @@ use Prim.Native.Nat.{ℕ, zero, suc, _+_, _-_, _/_, _≤_, _<_, min}
 use native.Mathlib.Omega.{arith}
 use lib.Dec.{eqb, ltb}
 use Rattle.words.specs.Pick.{pick, yes-is, no-is}
+use Rattle.model.specs.State.{lastId}
 use Rattle.layout.specs.declared.Shape.{Shape}
 use Rattle.layout.specs.Layout.{Mem, root, index, rank, row, item, load, save}
 use Rattle.storage.specs.Ops.{up, vacateW}
-use Rattle.book.specs.Ops.{idAt, linkFrom, rowLink, kindLink, spare, openP, openW, shiftW, closeW, vacateItemsW}
+use Rattle.book.specs.Ops.{idAt, linkFrom, rowLink, kindLink, rowLeft, idRefusal, spare, openP, openW, shiftW, closeW, vacateItemsW}
 
 -- the row of a kind with an id
 module _ (what : ℕ) (m : Mem) (sh : Shape) (i l x w : ℕ) (t : Bool) (e₁ : l ≡ rowLink m sh i) (e₂ : x ≡ l - 1) (e₃ : w ≡ m (row x 1)) (e₄ : t ≡ eqb w what) where
@@ -23,6 +24,22 @@ module _ (what : ℕ) (m : Mem) (sh : Shape) (i l x w : ℕ) (t : Bool) (e₁ : 
   pub kind-no : t ≡ false → 0 ≡ kindLink what m sh i
   unfolding kindLink
   kind-no y = no-is _ _ _ _ (tested ∙ y) refl
+
+-- `row_left`
+pub row-left : (m : Mem) (sh : Shape) (w : ℕ) (t : Bool) → w ≡ m (root 6) → t ≡ ltb w (sh .rows) → t ≡ rowLeft m sh
+row-left m sh w t e q = q ∙ ap (λ (n : ℕ). ltb n (sh .rows)) e
+
+-- `id_refusal`
+module _ (m : Mem) (w : ℕ) (t : Bool) (e : w ≡ m (root 5)) (q : t ≡ eqb w 18446744073709551615) where
+  last-id : eqb (m (root 5)) lastId ≡ t
+  unfolding lastId
+  last-id = sym (q ∙ ap (λ (n : ℕ). eqb n 18446744073709551615) e)
+
+  pub id-spent : t ≡ true → 12 ≡ idRefusal m
+  id-spent y = yes-is _ _ _ _ (last-id ∙ y) refl
+
+  pub id-left : t ≡ false → 0 ≡ idRefusal m
+  id-left y = no-is _ _ _ _ (last-id ∙ y) refl
 
 -- ---- `row_of`
 

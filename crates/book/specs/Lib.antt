@@ -2,13 +2,16 @@ pub mod Lists
 pub mod Places
 pub mod Whole
 pub mod Ops
+pub mod Decided
 pub mod Find
+pub mod Found
 pub mod Swap
 pub mod Open
 pub mod Shift
 pub mod Close
 pub mod Marks
 pub mod Fades
+pub mod Keeps
 pub mod Shrink
 pub mod Code
 pub mod Vacated

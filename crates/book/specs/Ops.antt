@@ -1,12 +1,13 @@
 -- The operations on rows: the stores that each makes, and the words that it leaves. Assumes nothing.
 use mathlib.Core.Path.{_≡_, refl, _∙_}
-use mathlib.Core.Bool.{and-false}
+use mathlib.Core.Bool.{Bool, and-false}
 use mathlib.Core.List.{List, [], _∷_}
 use Prim.Native.Nat.{ℕ, zero, suc, _+_, _-_, _/_, _≤_, min}
 use native.Mathlib.Omega.{arith}
 use lib.ListN.{length}
 use lib.Dec.{eqb, ltb}
 use Rattle.words.specs.Pick.{pick, bool}
+use Rattle.model.specs.State.{lastId}
 use Rattle.layout.specs.declared.Shape.{Shape}
 use Rattle.layout.specs.Layout.{Addr.reg, Mem, total, root, index, rank, row, item, load, save, same, same-is, isIn, length-save, load-save-any, Write, Write.at, writes}
 use Rattle.storage.specs.Ops.{up, vacateW}
@@ -33,6 +34,18 @@ rowLink m sh id = linkFrom m id (usedOf m sh) 0 (usedOf m sh)
 -- if word 1 of that row says what it is; 1 is a reservation, 2 a claim, 3 a parcel
 unfoldable pub kindLink : ℕ → Mem → Shape → ℕ → ℕ
 kindLink what m sh id = pick (eqb (m (row (rowLink m sh id - 1) 1)) what) (rowLink m sh id) 0
+
+-- the open reservation with an id: its place plus 1, 0 if there is none
+abbrev pub reservationLink : Mem → Shape → ℕ → ℕ
+reservationLink = kindLink 1
+
+-- "Allocation": a row is left
+abbrev pub rowLeft : Mem → Shape → Bool
+rowLeft m sh = ltb (m (root 6)) (sh .rows)
+
+-- "ReservationIdExhausted: next id is 2^64 - 1": 12, else 0
+abbrev pub idRefusal : Mem → ℕ
+idRefusal m = pick (eqb (m (root 5)) lastId) 12 0
 
 -- the place of the next row: that of the first rank out of use
 abbrev pub spare : Mem → ℕ

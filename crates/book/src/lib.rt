@@ -3,7 +3,8 @@
 ghost use mathlib.Core.Path.{_≡_};
 ghost use Prim.Native.Nat.{ℕ, _-_, min};
 ghost use Rattle.layout.specs.Layout.{load as loadAt};
-ghost use Rattle.book.specs.Ops.{rowLink, spare, openW, handleW, shiftW, closeW, shrinkW, vacateItemsW, spendW};
+ghost use Rattle.book.specs.Ops.{rowLink, reservationLink, rowLeft, idRefusal, spare, openW, handleW, shiftW, closeW, shrinkW, vacateItemsW, spendW};
+use codec::ReservationId;
 use layout::Shape;
 
 // Word 1 of a row.
@@ -12,6 +13,9 @@ pub const RESERVATION: u64 = 1;
 pub const CLAIM: u64 = 2;
 
 pub const PARCEL: u64 = 3;
+
+// The most slots of a batch.
+pub const MAX_BATCH: u64 = 64;
 
 // The id that is never given out.
 pub const LAST_ID: u64 = 0xffff_ffff_ffff_ffff;
@@ -43,6 +47,34 @@ pub fn row_of(s: &[u64], sh: Shape, id: u64) -> u64
         n = half;
     }
     0
+}
+
+// The place of the open reservation with an id, plus 1; 0 if there is none.
+pub fn reservation_of(s: &[u64], sh: Shape, id: ReservationId) -> u64
+    ensures { λ r. ⌜ r ≡ reservationLink (loadAt (now (s .entry)) sh) sh (id .0) ⌝ }
+{
+    let link = row_of(s, sh, id.0);
+    if words::eq(layout::row_word(s, sh, words::dec(link), 1), RESERVATION) {
+        return link;
+    }
+    0
+}
+
+// Whether a row is left.
+pub fn row_left(s: &[u64], sh: Shape) -> bool
+    ensures { λ r. ⌜ r ≡ rowLeft (loadAt (now (s .entry)) sh) sh ⌝ }
+{
+    words::lt(layout::root_word(s, sh, 6), sh.rows as u64)
+}
+
+// "ReservationIdExhausted: next id is 2^64 - 1": 12, else 0.
+pub fn id_refusal(s: &[u64], sh: Shape) -> u64
+    ensures { λ r. ⌜ r ≡ idRefusal (loadAt (now (s .entry)) sh) ⌝ }
+{
+    if words::eq(layout::root_word(s, sh, 5), LAST_ID) {
+        return format::refusal::RESERVATION_ID_EXHAUSTED;
+    }
+    format::refusal::DONE
 }
 
 // The place of the next row to open.

@@ -10,9 +10,9 @@ use Rattle.layout.specs.declared.Shape.{Shape}
 use Rattle.layout.specs.Layout.{Mem, row, item, load, save, save-load}
 use Rattle.storage.specs.Ops.{vacateW, occupyW}
 use Rattle.object.specs.Words.{lowerW}
-use Rattle.book.specs.Ops.{closeW}
+use Rattle.book.specs.Ops.{reservationLink, closeW}
 use Rattle.answer.specs.Does.{Both, both, answered}
-use Rattle.reserve.specs.Ops.{reservationLink, abortR}
+use Rattle.reserve.specs.Ops.{abortR}
 use Rattle.claim.specs.Ops.{claimLink, each, undoW, undoneW, rolledW, sentRights, leaveW, leftW, sendW, sentW, committedW, paired, fillW, filledW, directW, directCommitR, directRollbackR}
 
 -- the loops: at number j what is left is still to do

@@ -27,7 +27,7 @@ use Rattle.book.specs.Marks.{Unnamed}
 use Rattle.book.specs.Swap.{swap-held}
 use Rattle.book.specs.Vacated.{with-table-at as table-at}
 use Rattle.answer.specs.Does.{Does, does-on-row}
-use Rattle.parcel.specs.Keeps.{Keeps}
+use Rattle.book.specs.Keeps.{Keeps}
 use Rattle.claim.specs.Ops.{claimLink, leftW, sentW, committedW, commitR}
 use Rattle.claim.specs.Found.{Claimed, claim-none, claim-some, own, range, freed}
 use Rattle.claim.specs.Entries.{left-keeps}

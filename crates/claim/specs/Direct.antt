@@ -40,10 +40,9 @@ use Rattle.book.specs.Fades.{named-fades, unnamed-fades, close-fades, fits-drop
 use Rattle.book.specs.Close.{close-held, close-other, ids-places}
 use Rattle.book.specs.Vacated.{with-table-at as table-at}
 use Rattle.answer.specs.Does.{Both, Does, does-refused, does-accepted}
-use Rattle.reserve.specs.Found.{Open}
+use Rattle.book.specs.Found.{Open}
 use Rattle.reserve.specs.Ends.{abort-does}
-use Rattle.parcel.specs.Keeps.{Keeps, keeps-then}
-use Rattle.parcel.specs.Published.{bare-given}
+use Rattle.book.specs.Keeps.{Keeps, keeps-then, bare-given}
 use Rattle.claim.specs.Ops.{rolledW, leftW, filledW, directW, directCommitR, directRollbackR}
 use Rattle.claim.specs.Found.{Claimed, own}
 use Rattle.claim.specs.Entries.{Busy, undone, filled-keeps}

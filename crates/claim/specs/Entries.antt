@@ -27,10 +27,12 @@ use Rattle.storage.specs.Turns.{vacate-turns}
 use Rattle.storage.specs.Whole.{off-table}
 use Rattle.storage.specs.Kept.{entries-kept, slots-kept}
 use Rattle.storage.specs.Reps.{Held, ready-of, vacate-held}
+use Rattle.object.specs.Record.{loweredBy}
 use Rattle.object.specs.Words.{lowerW}
+use Rattle.object.specs.Reps.{step-stays, step-rows, lower-held}
 use Rattle.book.specs.Fades.{vacate-fades, row-turned}
 use Rattle.book.specs.Vacated.{with-table-at as table-at, with-own as table-same, with-over as table-twice}
-use Rattle.parcel.specs.Keeps.{Keeps, keeps-none, keeps-then, lower-keeps, occupy-keeps}
+use Rattle.book.specs.Keeps.{Keeps, keeps-none, keeps-then, objects-keep, occupy-keeps}
 use Rattle.claim.specs.Ops.{each, undoW, sentRights, leaveW, fillW}
 
 -- ---- loops, in their definition's terms
@@ -125,7 +127,8 @@ module _ (sh : Shape) (b x : ℕ) where
   undone-keeps (copied g ∷ es) ws s j h l busy known its =
       let v : List ℕ = lowerW ws sh (g .object) in
       let u : State = withObjects s (change lower (s .objects) (g .object)) in
-      let one = lower-keeps sh ws s h (g .object) (known .0) in
+      let one = objects-keep sh ws s v (change lower (s .objects) (g .object)) (lower-held ws sh s h (g .object) (known .0)) (step-stays loweredBy ws sh (g .object) (h .reps .shaped .room))
+      (step-rows loweredBy ws sh (g .object) (h .reps .shaped .room)) in
       let rest = undone-keeps es v u (suc j) (one .held) l busy (known .1) (entries-kept (load ws sh) (load v sh) x (one .items x) (suc j) es (its .1)) in
       rw (each-more undo ws v j (length es) (undo-copied ws sh b x j g (its .0)))
       (keeps-then sh ws s v u (each undo v (suc j) (length es)) (undone s b (copied g ∷ es)) one rest)

@@ -8,9 +8,9 @@ use Rattle.layout.specs.declared.Shape.{Shape}
 use Rattle.layout.specs.Layout.{Mem, row, item, load, save}
 use Rattle.storage.specs.Ops.{vacateW, occupyW}
 use Rattle.object.specs.Words.{lowerW}
-use Rattle.book.specs.Ops.{kindLink, closeW}
+use Rattle.book.specs.Ops.{kindLink, reservationLink, closeW}
 use Rattle.answer.specs.Does.{Both, both, answered, refuseR, onRowR}
-use Rattle.reserve.specs.Ops.{reservationLink, abortR}
+use Rattle.reserve.specs.Ops.{abortR}
 
 -- the open claim with an id: its place plus 1, 0 if there is none
 abbrev pub claimLink : Mem → Shape → ℕ → ℕ

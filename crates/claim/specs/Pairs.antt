@@ -14,8 +14,8 @@ use Rattle.model.specs.Decision.{Decision, Decision.refusal, unless_refuse_then
 use Rattle.layout.specs.declared.Shape.{Shape}
 use Rattle.layout.specs.Layout.{Mem, row, load}
 use Rattle.representation.specs.Represents.{Rep}
-use Rattle.reserve.specs.Ops.{reservationLink}
-use Rattle.reserve.specs.Found.{Open, reservation-none, reservation-some}
+use Rattle.book.specs.Ops.{reservationLink}
+use Rattle.book.specs.Found.{Open, reservation-none, reservation-some}
 use Rattle.claim.specs.Ops.{claimLink, paired}
 use Rattle.claim.specs.Found.{Claimed, claim-none, claim-some}
 

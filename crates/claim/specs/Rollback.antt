@@ -21,8 +21,7 @@ use Rattle.book.specs.Find.{fits-of}
 use Rattle.book.specs.Close.{close-held}
 use Rattle.book.specs.Vacated.{with-table-at as table-at}
 use Rattle.answer.specs.Does.{Does, does-on-row}
-use Rattle.parcel.specs.Keeps.{Keeps}
-use Rattle.parcel.specs.Published.{bare-given}
+use Rattle.book.specs.Keeps.{Keeps, bare-given}
 use Rattle.claim.specs.Ops.{claimLink, undoneW, rolledW, rollbackR}
 use Rattle.claim.specs.Found.{Claimed, claim-none, claim-some, own, range, freed}
 use Rattle.claim.specs.Entries.{undone, undone-keeps}

@@ -203,7 +203,7 @@ pub fn direct_commit(
     ensures { λ _. ⌜ both (now (s .exit)) (now (out .exit)) ≡ directCommitR (now (s .entry)) (now (out .entry)) sh base (id .0) (destination .0) ⌝ }
 {
     let l = claim_of(s, sh, id);
-    let k = reserve::reservation_of(s, sh, destination);
+    let k = book::reservation_of(s, sh, destination);
     if paired(s, sh, l, k) {
         direct_rows(s, sh, words::dec(l), words::dec(k));
         answer::say(out, base);
@@ -224,7 +224,7 @@ pub fn direct_rollback(
     ensures { λ _. ⌜ both (now (s .exit)) (now (out .exit)) ≡ directRollbackR (now (s .entry)) (now (out .entry)) sh base (id .0) (destination .0) ⌝ }
 {
     let l = claim_of(s, sh, id);
-    let k = reserve::reservation_of(s, sh, destination);
+    let k = book::reservation_of(s, sh, destination);
     if paired(s, sh, l, k) {
         rollback_row(s, sh, words::dec(l));
         reserve::abort(s, sh, destination, out, base);

@@ -9,17 +9,18 @@ use lib.Dec.{ltb}
 use borrow.Author.Tests.{eq-eqb}
 use Rattle.words.specs.Pick.{bool}
 use Rattle.model.specs.Base.{put}
-use Rattle.model.specs.State.{Stage, Stage.nowActive, Stage.nowRetired, State, maxLimit}
+use Rattle.model.specs.State.{Stage, Stage.nowActive, Stage.nowRetired, Object, State, maxLimit}
 use Rattle.model.specs.Change.{withObjects}
 use Rattle.model.specs.Objects.{withCount, activated, raise, lower, retiredByOwner, change}
 use Rattle.layout.specs.declared.Shape.{Shape}
-use Rattle.layout.specs.Layout.{Addr, Addr.reg, total, object, load, save, same, same-is, isIn, length-save, load-save-any, Write, writes, upds, in-object, length-writes, load-writes}
-use Rattle.representation.specs.Represents.{stageWord}
+use Rattle.layout.specs.Layout.{Addr, Addr.reg, Mem, total, object, load, save, same, same-is, isIn, length-save, load-save-any, Write, writes, upds, in-object, length-writes, load-writes}
+use Rattle.representation.specs.Represents.{stageWord, ObjectIs}
+use Rattle.storage.specs.Kept.{Stays, RowsStay}
 use Rattle.storage.specs.Reps.{Held}
 use Rattle.object.specs.declared.ObjectRecord.{ObjectRecord}
 use Rattle.object.specs.Record.{activatedBy, raisedBy, loweredBy, retiredBy}
 use Rattle.object.specs.Words.{recordAt, recordP, stepW, activateW, raiseW, lowerW, retireW}
-use Rattle.object.specs.Whole.{OnlyObject, held-object}
+use Rattle.object.specs.Whole.{OnlyObject, object-stays, object-rows, held-object}
 
 -- ---- what a step shows, whatever the words
 
@@ -41,7 +42,33 @@ module _ (f : ObjectRecord → ObjectRecord) (ws : List ℕ) (sh : Shape) (o : �
       ∙ rw (apart-object o 6 k x y g n, and-false (isIn sh (object o 6)))
       (load-save-any ws sh h (object o 5) (r .stage) a ∙ rw (apart-object o 5 k x y g n, and-false (isIn sh (object o 5))))
 
+  -- so that tables and rows keep theirs
+  module _ (h : total sh ≤ length ws) where
+    pub step-stays : (b : ℕ) → Stays (load ws sh) (load (stepW f ws sh o) sh) b
+    step-stays = object-stays o (load ws sh) (load (stepW f ws sh o) sh) (step-only h)
+
+    pub step-rows : RowsStay (load ws sh) (load (stepW f ws sh o) sh)
+    step-rows = object-rows o (load ws sh) (load (stepW f ws sh o) sh) (step-only h)
+
 -- ---- in a represented state
+
+-- the record that the words show
+module _ (m : Mem) (o : ℕ) (x : Object) (q : ObjectIs m o x) where
+  pub supported-is : recordAt m o .supported ≡ x .supported
+  unfolding recordAt
+  supported-is = q .supported
+
+  pub stage-is : recordAt m o .stage ≡ stageWord (x .stage)
+  unfolding recordAt
+  stage-is = q .stage
+
+  pub count-is : recordAt m o .count ≡ x .count
+  unfolding recordAt
+  count-is = q .count
+
+  pub limit-is : recordAt m o .limit ≡ x .limit
+  unfolding recordAt
+  limit-is = q .limit
 
 module _ (ws : List ℕ) (sh : Shape) (s : State) (h : Held ws sh s) (o : ℕ) (l : o < s .objectCount) where
   -- a step that gives the stage g and the count n

@@ -1,7 +1,10 @@
 -- An object's record in the state's words, and the words that each step leaves. Assumes nothing.
-use mathlib.Core.Path.{_≡_, ap, _∙_}
+use mathlib.Core.Path.{_≡_, refl, sym, ap, _∙_}
+use mathlib.Core.Bool.{Bool, true, false}
 use mathlib.Core.List.{List, [], _∷_}
 use Prim.Native.Nat.{ℕ}
+use lib.Dec.{eqb}
+use Rattle.words.specs.Pick.{pick, yes-is, no-is}
 use Rattle.layout.specs.declared.Shape.{Shape}
 use Rattle.layout.specs.Layout.{Mem, object, load, Write, Write.at, writes}
 use Rattle.object.specs.declared.ObjectRecord.{ObjectRecord}
@@ -54,3 +57,35 @@ pub step-is : (f : ObjectRecord → ObjectRecord) (ws : List ℕ) (sh : Shape) (
     → x ≡ standingAt (load ws sh) o → y ≡ f x → vs ≡ writes ws sh (recordP o y) → vs ≡ stepW f ws sh o
 unfolding stepW
 step-is f ws sh o x y vs e a b c = c ∙ ap (λ (z : ObjectRecord). writes ws sh (recordP o z)) (b ∙ ap f a) ∙ ap (writes ws sh) e
+
+-- ---- refusals of one handle more
+
+-- "9, 11" of a copy, beside `copyChecks` of the model; 0 for none
+unfoldable pub raiseRefusal : Mem → ℕ → ℕ
+raiseRefusal m o =
+    pick (eqb (recordAt m o .stage) 2) 9
+    (pick (eqb (recordAt m o .count) (recordAt m o .limit)) 11
+    0)
+
+-- `raise_refusal`
+module _ (m : Mem) (o stage : ℕ) (d : stage ≡ m (object o 5)) (t₁ : Bool) (e₁ : t₁ ≡ eqb stage 2) where
+  stage-tells : eqb (recordAt m o .stage) 2 ≡ t₁
+  unfolding recordAt
+  stage-tells = sym (e₁ ∙ ap (λ (z : ℕ). eqb z 2) d)
+
+  pub raise-retired : t₁ ≡ true → 9 ≡ raiseRefusal m o
+  unfolding raiseRefusal
+  raise-retired y = yes-is _ _ _ _ (stage-tells ∙ y) refl
+
+  module _ (n₁ : t₁ ≡ false) (count limit : ℕ) (f : count ≡ m (object o 6)) (g : limit ≡ m (object o 7)) (t₂ : Bool) (e₂ : t₂ ≡ eqb count limit) where
+    count-tells : eqb (recordAt m o .count) (recordAt m o .limit) ≡ t₂
+    unfolding recordAt
+    count-tells = sym (e₂ ∙ ap (λ (z : ℕ). eqb z limit) f ∙ ap (eqb (m (object o 6))) g)
+
+    pub raise-full : t₂ ≡ true → 11 ≡ raiseRefusal m o
+    unfolding raiseRefusal
+    raise-full y = no-is _ _ _ _ (stage-tells ∙ n₁) (yes-is _ _ _ _ (count-tells ∙ y) refl)
+
+    pub raise-free : t₂ ≡ false → 0 ≡ raiseRefusal m o
+    unfolding raiseRefusal
+    raise-free y = no-is _ _ _ _ (stage-tells ∙ n₁) (no-is _ _ _ _ (count-tells ∙ y) refl)

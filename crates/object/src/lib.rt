@@ -2,7 +2,7 @@
 ghost use mathlib.Core.Path.{_≡_};
 ghost use Rattle.layout.specs.Layout.{load as loadAt, writes};
 ghost use Rattle.object.specs.Record.{noRecord, withCount, activatedBy, raisedBy, loweredBy, retiredBy, countIn, listBy, answerBy};
-ghost use Rattle.object.specs.Words.{recordAt, standingAt, recordP, activateW, raiseW, lowerW, retireW};
+ghost use Rattle.object.specs.Words.{recordAt, standingAt, recordP, activateW, raiseW, lowerW, retireW, raiseRefusal};
 use codec::Koid;
 use layout::Shape;
 
@@ -281,4 +281,20 @@ pub fn retire_object(s: &mut [u64], sh: Shape, o: u64)
     let step = retire_local(x);
     let y = step.object;
     write_object(s, sh, o, y);
+}
+
+// "9, 11" of a copy: object o gets no handle more; 0 where it can.
+pub fn raise_refusal(s: &[u64], sh: Shape, o: u64) -> u64
+    ensures { λ r. ⌜ r ≡ raiseRefusal (loadAt (now (s .entry)) sh) o ⌝ }
+{
+    let stage = layout::object_word(s, sh, o, 5);
+    if words::eq(stage, NOW_RETIRED) {
+        return format::refusal::OBJECT_RETIRED;
+    }
+    let count = layout::object_word(s, sh, o, 6);
+    let limit = layout::object_word(s, sh, o, 7);
+    if words::eq(count, limit) {
+        return format::refusal::ACTIVE_HANDLE_LIMIT;
+    }
+    format::refusal::DONE
 }

@@ -7,19 +7,19 @@ use native.Mathlib.Omega.{arith}
 use lib.Dec.{eqb, ltb}
 use Rattle.words.specs.Pick.{yes-is, no-is}
 use Rattle.authority.specs.Rights.{contains, duplicateRight}
-use Rattle.model.specs.State.{knownFlags, lastId}
+use Rattle.model.specs.State.{knownFlags}
 use Rattle.layout.specs.declared.Shape.{Shape}
 use Rattle.layout.specs.Layout.{Mem, root, object, row, item, load}
 use Rattle.object.specs.declared.ObjectRecord.{ObjectRecord}
-use Rattle.object.specs.Words.{recordAt, activateW, raiseW, lowerW, retireW}
-use Rattle.book.specs.Ops.{spare, openW, handleW, closeW}
+use Rattle.object.specs.Words.{recordAt, activateW, raiseW, lowerW, retireW, raiseRefusal}
+use Rattle.book.specs.Ops.{rowLeft, idRefusal, spare, openW, handleW, closeW}
 use Rattle.answer.specs.Does.{both, answered}
 use Rattle.lookup.specs.declared.PreparedHandle.{PreparedHandle}
 use Rattle.lookup.specs.declared.Opened.{Opened}
 use Rattle.lookup.specs.declared.Opened.the-variants.{Refused, Handle as Found}
 use Rattle.lookup.specs.View.{tableRefusal, openOf}
 use Rattle.lookup.specs.Code.{on-refused}
-use Rattle.parcel.specs.Ops.{retireR, rowLeft, idRefusal, parcelW, activationRefusal, rowRefusal, newRefusal, newObjectR, raiseRefusal, copyRefusal, copiedR, duplicateR, loweredW, releasedW}
+use Rattle.parcel.specs.Ops.{retireR, parcelW, activationRefusal, rowRefusal, newRefusal, newObjectR, copyRefusal, copiedR, duplicateR, loweredW, releasedW}
 
 -- `retire_object`
 module _ (ws ws′ os os′ : List ℕ) (sh : Shape) (base o : ℕ) (t : Bool) (e : t ≡ ltb o (sh .objects)) where
@@ -30,22 +30,6 @@ module _ (ws ws′ os os′ : List ℕ) (sh : Shape) (base o : ℕ) (t : Bool) (
   pub retire-unknown : t ≡ false → os′ ≡ answered os base (18 ∷ []) → both ws os′ ≡ retireR ws os sh base o
   unfolding retireR
   retire-unknown n c = no-is _ _ _ _ (sym e ∙ n) (rw c)
-
--- `row_left`
-pub row-left : (m : Mem) (sh : Shape) (w : ℕ) (t : Bool) → w ≡ m (root 6) → t ≡ ltb w (sh .rows) → t ≡ rowLeft m sh
-row-left m sh w t e q = q ∙ ap (λ (n : ℕ). ltb n (sh .rows)) e
-
--- `id_refusal`
-module _ (m : Mem) (w : ℕ) (t : Bool) (e : w ≡ m (root 5)) (q : t ≡ eqb w 18446744073709551615) where
-  last-id : eqb (m (root 5)) lastId ≡ t
-  unfolding lastId
-  last-id = sym (q ∙ ap (λ (n : ℕ). eqb n 18446744073709551615) e)
-
-  pub id-spent : t ≡ true → 12 ≡ idRefusal m
-  id-spent y = yes-is _ _ _ _ (last-id ∙ y) refl
-
-  pub id-left : t ≡ false → 0 ≡ idRefusal m
-  id-left y = no-is _ _ _ _ (last-id ∙ y) refl
 
 -- `activation_refusal`
 module _ (x : ObjectRecord) (t₁ : Bool) (e₁ : t₁ ≡ eqb (x .exportable) 0) where
@@ -134,29 +118,6 @@ module _ (ws os os′ : List ℕ) (sh : Shape) (base o r f n : ℕ) (t : Bool) (
       → both w₂ os′ ≡ newObjectR ws os sh base o r f
   unfolding newObjectR
   new-done w₁ w₂ id y i a₁ a₂ a₃ = yes-is _ _ _ _ (new-tested ∙ y) (rw (a₂, a₁, a₃, i))
-
--- `raise_refusal`
-module _ (m : Mem) (o stage : ℕ) (d : stage ≡ m (object o 5)) (t₁ : Bool) (e₁ : t₁ ≡ eqb stage 2) where
-  stage-tells : eqb (recordAt m o .stage) 2 ≡ t₁
-  unfolding recordAt
-  stage-tells = sym (e₁ ∙ ap (λ (z : ℕ). eqb z 2) d)
-
-  pub raise-retired : t₁ ≡ true → 9 ≡ raiseRefusal m o
-  unfolding raiseRefusal
-  raise-retired y = yes-is _ _ _ _ (stage-tells ∙ y) refl
-
-  module _ (n₁ : t₁ ≡ false) (count limit : ℕ) (f : count ≡ m (object o 6)) (g : limit ≡ m (object o 7)) (t₂ : Bool) (e₂ : t₂ ≡ eqb count limit) where
-    count-tells : eqb (recordAt m o .count) (recordAt m o .limit) ≡ t₂
-    unfolding recordAt
-    count-tells = sym (e₂ ∙ ap (λ (z : ℕ). eqb z limit) f ∙ ap (eqb (m (object o 6))) g)
-
-    pub raise-full : t₂ ≡ true → 11 ≡ raiseRefusal m o
-    unfolding raiseRefusal
-    raise-full y = no-is _ _ _ _ (stage-tells ∙ n₁) (yes-is _ _ _ _ (count-tells ∙ y) refl)
-
-    pub raise-free : t₂ ≡ false → 0 ≡ raiseRefusal m o
-    unfolding raiseRefusal
-    raise-free y = no-is _ _ _ _ (stage-tells ∙ n₁) (no-is _ _ _ _ (count-tells ∙ y) refl)
 
 -- `copy_refusal`
 module _ (m : Mem) (h : PreparedHandle) (r : ℕ) (t₁ : Bool) (e₁ : t₁ ≡ contains (h .rights) duplicateRight) where

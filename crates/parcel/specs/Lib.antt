@@ -1,9 +1,7 @@
 pub mod Ops
 pub mod Code
-pub mod Decided
 pub mod Opened
 pub mod Found
-pub mod Keeps
 pub mod Released
 pub mod Publishing
 pub mod Plain

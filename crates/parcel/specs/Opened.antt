@@ -25,9 +25,10 @@ use Rattle.layout.specs.Layout.{Mem, root, index, object, item, load, Write.at,
 use Rattle.representation.specs.Represents.{stageWord, HandleIs, ObjectIs, Represents, Rep}
 use Rattle.representation.specs.Told.{retired-tells}
 use Rattle.storage.specs.Reps.{Held, held-of}
-use Rattle.object.specs.Words.{recordAt, activateW, raiseW, retireW}
-use Rattle.object.specs.Reps.{activate-held, raise-held, retire-held, limit-room}
+use Rattle.object.specs.Words.{recordAt, activateW, raiseW, retireW, raiseRefusal}
+use Rattle.object.specs.Reps.{supported-is, stage-is, count-is, limit-is, activate-held, raise-held, retire-held, limit-room}
 use Rattle.book.specs.Ops.{spare, handleW, Fills, fills-handle}
+use Rattle.book.specs.Decided.{decidedBy, refused-when, accepted-when, left-is, free-place, next-after, spare-low}
 use Rattle.book.specs.Swap.{spare-held}
 use Rattle.book.specs.Open.{open-held}
 use Rattle.answer.specs.Does.{refuseR, Does, does-refused, does-accepted}
@@ -37,8 +38,7 @@ use Rattle.lookup.specs.declared.Opened.the-variants.{Refused, Handle as Found}
 use Rattle.lookup.specs.View.{tableRefusal, openOf}
 use Rattle.lookup.specs.Named.{Opens, Active, active-on, table-open, table-refused, open-refused-is, open-found-is}
 use Rattle.lookup.specs.Read.{onOpened, opened-known}
-use Rattle.parcel.specs.Ops.{retireR, parcelW, activationRefusal, rowRefusal, newRefusal, newObjectR, raiseRefusal, copyRefusal, copiedR, duplicateR}
-use Rattle.parcel.specs.Decided.{decidedBy, refused-when, accepted-when, left-is, free-place, next-after}
+use Rattle.parcel.specs.Ops.{retireR, parcelW, activationRefusal, rowRefusal, newRefusal, newObjectR, copyRefusal, copiedR, duplicateR}
 
 -- ---- the words of a parcel of one handle
 
@@ -46,20 +46,15 @@ module _ (ws : List ℕ) (sh : Shape) (s : State) (h : Held ws sh s) (free : len
   abbrev x : ℕ
   x = spare (load ws sh)
 
-  -- the place of the next row
-  pub spare-low : spare (load ws sh) < sh .rows
-  spare-low = let r = h .reps .memory in
-      let e : spare (load ws sh) ≡ load ws sh (index (length (s .book .rows))) = ap (λ (i : ℕ). load ws sh (index i)) (r .book .used) in
-      omega (arith, r .book .places (length (s .book .rows)) free .0, r .capacity)
-
   module _ (o r f : ℕ) where
     fills : Fills ws (handleW ws sh (spare (load ws sh)) 0 o r f) sh (spare (load ws sh))
     fills = fills-handle ws sh (h .reps .shaped .room) (spare (load ws sh)) 0 o r f
 
     handle-in : HandleIs (load (handleW ws sh (spare (load ws sh)) 0 o r f) sh) (spare (load ws sh)) 0 (record { object = o; rights = r; flags = f })
     unfolding handleW
-    handle-in = let e = load-writes ws sh (h .reps .shaped .room) (at (item x 0 2) o ∷ at (item x 0 3) r ∷ at (item x 0 4) f ∷ [])
-        (in-item sh x 0 2 spare-low (omega arith) (omega arith), (in-item sh x 0 3 spare-low (omega arith) (omega arith), (in-item sh x 0 4 spare-low (omega arith) (omega arith), tt))) in
+    handle-in = let low = spare-low ws sh s h free in
+        let e = load-writes ws sh (h .reps .shaped .room) (at (item x 0 2) o ∷ at (item x 0 3) r ∷ at (item x 0 4) f ∷ [])
+        (in-item sh x 0 2 low (omega arith) (omega arith), (in-item sh x 0 3 low (omega arith) (omega arith), (in-item sh x 0 4 low (omega arith) (omega arith), tt))) in
         rw (e, eq-eqb (spare (load ws sh)) (spare (load ws sh)) refl) (refl, refl, refl)
 
     same-place : spare (load (handleW ws sh (spare (load ws sh)) 0 o r f) sh) ≡ spare (load ws sh)
@@ -147,23 +142,6 @@ copy-free true true false false true e = absurd (omega arith)
 copy-free true true false false false e = (refl, refl)
 
 -- ---- the requests
-
-module _ (m : Mem) (o : ℕ) (x : Object) (q : ObjectIs m o x) where
-  supported-is : recordAt m o .supported ≡ x .supported
-  unfolding recordAt
-  supported-is = q .supported
-
-  pub stage-is : recordAt m o .stage ≡ stageWord (x .stage)
-  unfolding recordAt
-  stage-is = q .stage
-
-  pub count-is : recordAt m o .count ≡ x .count
-  unfolding recordAt
-  count-is = q .count
-
-  pub limit-is : recordAt m o .limit ≡ x .limit
-  unfolding recordAt
-  limit-is = q .limit
 
 module _ (ws : List ℕ) (sh : Shape) (s : State) (i : Rep ws sh s) (os : List ℕ) (base : ℕ) where
   held : Held ws sh s

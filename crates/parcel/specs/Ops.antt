@@ -1,16 +1,15 @@
 -- What the functions of the requests retire object, new object, duplicate and release parcel do to the words. Assumes nothing.
-use mathlib.Core.Bool.{Bool}
 use mathlib.Core.List.{List, [], _∷_}
 use Prim.Native.Nat.{ℕ, zero, suc}
 use lib.Dec.{eqb, ltb}
 use Rattle.words.specs.Pick.{pick}
 use Rattle.authority.specs.Rights.{contains, duplicateRight}
-use Rattle.model.specs.State.{knownFlags, lastId}
+use Rattle.model.specs.State.{knownFlags}
 use Rattle.layout.specs.declared.Shape.{Shape}
 use Rattle.layout.specs.Layout.{Mem, root, object, row, item, load}
 use Rattle.object.specs.declared.ObjectRecord.{ObjectRecord}
-use Rattle.object.specs.Words.{recordAt, activateW, raiseW, lowerW, retireW}
-use Rattle.book.specs.Ops.{kindLink, spare, openW, handleW, closeW}
+use Rattle.object.specs.Words.{recordAt, activateW, raiseW, lowerW, retireW, raiseRefusal}
+use Rattle.book.specs.Ops.{kindLink, rowLeft, idRefusal, spare, openW, handleW, closeW}
 use Rattle.answer.specs.Does.{Both, both, answered, refuseR, onRowR}
 use Rattle.lookup.specs.declared.PreparedHandle.{PreparedHandle}
 use Rattle.lookup.specs.View.{tableRefusal, openOf}
@@ -21,14 +20,6 @@ unfoldable pub retireR : List ℕ → List ℕ → Shape → ℕ → ℕ → Bot
 retireR ws os sh base o = pick (ltb o (sh .objects)) (both (retireW ws sh o) (answered os base (0 ∷ []))) (refuseR ws os base 18)
 
 -- ---- a parcel of one handle
-
--- "Allocation": a row is left
-abbrev pub rowLeft : Mem → Shape → Bool
-rowLeft m sh = ltb (m (root 6)) (sh .rows)
-
--- "ReservationIdExhausted: next id is 2^64 - 1": 12, else 0
-abbrev pub idRefusal : Mem → ℕ
-idRefusal m = pick (eqb (m (root 5)) lastId) 12 0
 
 -- the handle into item 0 of the place that is free, then the row
 unfoldable pub parcelW : List ℕ → Shape → ℕ → ℕ → ℕ → List ℕ
@@ -59,13 +50,6 @@ unfoldable pub newObjectR : List ℕ → List ℕ → Shape → ℕ → ℕ → 
 newObjectR ws os sh base o r f =
     let n : ℕ = newRefusal (load ws sh) sh o r f in
     pick (eqb n 0) (both (parcelW (activateW ws sh o) sh o r f) (answered os base (0 ∷ load ws sh (root 5) ∷ []))) (refuseR ws os base n)
-
--- "9, 11" of a copy, beside `copyChecks` of the model; 0 for none
-unfoldable pub raiseRefusal : Mem → ℕ → ℕ
-raiseRefusal m o =
-    pick (eqb (recordAt m o .stage) 2) 9
-    (pick (eqb (recordAt m o .count) (recordAt m o .limit)) 11
-    0)
 
 -- "Duplicate: 16, 1, 2 or 3, 5, 9, 11, 12": from 5 on, of the handle found and its object
 unfoldable pub copyRefusal : Mem → PreparedHandle → ℕ → ℕ

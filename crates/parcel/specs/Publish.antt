@@ -31,7 +31,7 @@ use Rattle.book.specs.Find.{Fits, RowAt}
 use Rattle.book.specs.Vacated.{with-table-at as table-at, with-own as table-same, with-over as table-twice}
 use Rattle.parcel.specs.Ops.{parcelLink}
 use Rattle.parcel.specs.Found.{parcel-none, parcel-some}
-use Rattle.parcel.specs.Keeps.{Keeps, keeps-none, keeps-then, occupy-keeps}
+use Rattle.book.specs.Keeps.{Keeps, keeps-none, keeps-then, occupy-keeps}
 use Rattle.parcel.specs.Publishing.{plus, fits, filledW, publishedW}
 
 -- ---- the lengths

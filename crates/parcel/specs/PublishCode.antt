@@ -15,9 +15,8 @@ use Rattle.layout.specs.Layout.{Mem, row, item, load}
 use Rattle.request.specs.Place.{fieldsAt, endAt, parcelAt}
 use Rattle.request.specs.Laws.{places-turn, places-end}
 use Rattle.storage.specs.Ops.{occupyW}
-use Rattle.book.specs.Ops.{rowLink, closeW}
+use Rattle.book.specs.Ops.{rowLink, reservationLink, closeW}
 use Rattle.answer.specs.Does.{both, answered}
-use Rattle.reserve.specs.Ops.{reservationLink}
 use Rattle.parcel.specs.Ops.{parcelLink}
 use Rattle.parcel.specs.Publishing.{idsAt, plus, fits, filledW, publishedW, droppedW, spentW, publishR}
 

@@ -3,14 +3,14 @@ use mathlib.Core.Path.{_≡_, refl, sym, ap, _∙_}
 use mathlib.Core.Bool.{true, false, not}
 use mathlib.Core.List.{List, [], _∷_}
 use mathlib.Core.Option.{Option, none, some}
-use Prim.Native.Nat.{ℕ, zero, suc, _+_, _-_, _≤_, _<_}
+use Prim.Native.Nat.{ℕ, zero, suc, _-_, _≤_, _<_}
 use native.Mathlib.Omega.{arith}
 use lib.ListN.{length}
 use lib.Dec.{eqb}
 use borrow.Author.Tests.{eqb-true, eqb-false, ne-eqb, not-true}
 use Rattle.words.specs.Pick.{pick, bool, clash, eqb-sym}
-use Rattle.model.specs.Base.{nth, occurs, member}
-use Rattle.model.specs.State.{till, Handle, Slot, Table, Body, Body.reservation, Body.parcel, State, maxBatch}
+use Rattle.model.specs.Base.{nth, member}
+use Rattle.model.specs.State.{till, Handle, Table, Body, Body.reservation, Body.parcel, State, maxBatch}
 use Rattle.model.specs.Change.{withTable}
 use Rattle.model.specs.Book.{find, dropRow, dropRows}
 use Rattle.model.specs.WellFormed.{Batch}
@@ -19,7 +19,7 @@ use Rattle.model.specs.Decision.{Decision.refusal, asParcel, handlesOf, distinc
 use Rattle.model.specs.Step.{fillAll, publishOf, decide}
 use Rattle.model.specs.Words.{usedWords}
 use Rattle.model.specs.Tests.{apart, and-left, and-right}
-use Rattle.invariant.specs.Pointwise.{given, filled, fillAll-slots}
+use Rattle.invariant.specs.Pointwise.{fillAll-slots}
 use Rattle.invariant.specs.Parcels.{not-parcel, parts}
 use Rattle.invariant.specs.Marks.{Owns}
 use Rattle.invariant.specs.BookLemmas.{found-range}
@@ -28,19 +28,18 @@ use Rattle.layout.specs.declared.Shape.{Shape}
 use Rattle.layout.specs.Layout.{Mem, row, load}
 use Rattle.representation.specs.Represents.{isMarked, Rep}
 use Rattle.storage.specs.Reps.{Held, held-of}
-use Rattle.book.specs.Ops.{rowLink, closeW}
+use Rattle.book.specs.Ops.{rowLink, reservationLink, closeW}
 use Rattle.book.specs.Lists.{nth-occurs}
 use Rattle.book.specs.Find.{Fits, fits-of, RowAt}
 use Rattle.book.specs.Marks.{Unnamed, unnamed, named-reservation, named-parcel}
 use Rattle.book.specs.Fades.{Fades, fades-rows, named-fades, unnamed-fades, fits-drop}
 use Rattle.book.specs.Close.{close-held, close-other, close-slots, ids-places}
 use Rattle.answer.specs.Does.{Both, both, answered, refuseR, Does, does-refused, does-accepted}
-use Rattle.reserve.specs.Ops.{reservationLink}
 use Rattle.book.specs.Vacated.{with-table-at as table-at}
-use Rattle.reserve.specs.Found.{Open, reservation-none, reservation-some}
+use Rattle.book.specs.Found.{Open, reservation-none, reservation-some}
 use Rattle.parcel.specs.Ops.{parcelLink}
 use Rattle.parcel.specs.Found.{parcel-none, parcel-some, row-link}
-use Rattle.parcel.specs.Keeps.{Keeps}
+use Rattle.book.specs.Keeps.{Keeps, bare-given}
 use Rattle.parcel.specs.Publishing.{fits, publishedW, droppedW, spentW, publishR}
 use Rattle.parcel.specs.Publish.{agreed, fits-is, published-keeps}
 
@@ -87,15 +86,6 @@ dropped-held sh (i ∷ is) ws s h f d p =
     rw (dropped-more ws sh i is y (row-link ws sh s h f i y (parcel hs) a))
     (dropped-held sh is (closeW ws sh y) (dropRow i s) (close-held ws sh s h f y i (parcel hs) a (p .0 .3)) (fits-drop s i f)
     (and-right (not (member i is)) (distinct is) d) (parcels-close ws sh s h f y i (parcel hs) a is once (p .1)))
-
--- ---- the reservation's slots are marked no longer
-
-pub bare-given : (ks : List ℕ) (hs : List Handle) (k : ℕ) (x : Slot) → length hs ≡ length ks → 0 < occurs k ks → isMarked (filled (given ks hs k) x) ≡ false
-bare-given [] hs k x l o = absurd (omega arith)
-bare-given (j ∷ ks) [] k x l o = absurd (omega arith)
-bare-given (j ∷ ks) (h ∷ hs) k x l o = bool (eqb k j)
-    (λ e. rw e)
-    (λ e. let o′ : 0 < 0 + occurs k ks = rw e at o in rw e (bare-given ks hs k x (omega arith) (omega arith)))
 
 module _ (ws : List ℕ) (sh : Shape) (s : State) (r : Rep ws sh s) where
   h : Held ws sh s

@@ -9,9 +9,8 @@ use Rattle.layout.specs.declared.Shape.{Shape}
 use Rattle.layout.specs.Layout.{Mem, row, item, load}
 use Rattle.request.specs.Place.{placesFrom, parcelAt}
 use Rattle.storage.specs.Ops.{occupyW}
-use Rattle.book.specs.Ops.{rowLink, closeW}
+use Rattle.book.specs.Ops.{rowLink, reservationLink, closeW}
 use Rattle.answer.specs.Does.{Both, both, answered, refuseR}
-use Rattle.reserve.specs.Ops.{reservationLink}
 use Rattle.parcel.specs.Ops.{parcelLink}
 
 -- the parcels that a publish names: its items, n records from a place of the request list on

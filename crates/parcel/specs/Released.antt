@@ -16,7 +16,9 @@ use Rattle.layout.specs.Layout.{row, item, load}
 use Rattle.representation.specs.Represents.{HandleIs, Items, Rep}
 use Rattle.storage.specs.Kept.{handles-kept}
 use Rattle.storage.specs.Reps.{Held, held-of}
+use Rattle.object.specs.Record.{loweredBy}
 use Rattle.object.specs.Words.{lowerW}
+use Rattle.object.specs.Reps.{step-stays, step-rows, lower-held}
 use Rattle.book.specs.Find.{fits-of}
 use Rattle.book.specs.Marks.{named-parcel}
 use Rattle.book.specs.Fades.{unnamed-fades}
@@ -24,7 +26,7 @@ use Rattle.book.specs.Close.{close-held}
 use Rattle.answer.specs.Does.{Does, does-on-row}
 use Rattle.parcel.specs.Ops.{parcelLink, loweredW, releasedW, releaseR}
 use Rattle.parcel.specs.Found.{Loose, parcel-none, parcel-some}
-use Rattle.parcel.specs.Keeps.{Keeps, keeps-none, keeps-then, lower-keeps}
+use Rattle.book.specs.Keeps.{Keeps, keeps-none, keeps-then, objects-keep}
 
 lowered-more : (ws : List ℕ) (sh : Shape) (x j n o : ℕ) → load ws sh (item x j 2) ≡ o → loweredW ws sh x j (suc n) ≡ loweredW (lowerW ws sh o) sh x (suc j) n
 unfolding loweredW
@@ -38,7 +40,8 @@ lowered-all sh x [] ws s j h known its = keeps-none sh ws s h
 lowered-all sh x (y ∷ hs) ws s j h known its =
     let ws₁ : List ℕ = lowerW ws sh (y .object) in
     let s₁ : State = withObjects s (change lower (s .objects) (y .object)) in
-    let p = lower-keeps sh ws s h (y .object) (known .0) in
+    let p = objects-keep sh ws s (lowerW ws sh (y .object)) (change lower (s .objects) (y .object)) (lower-held ws sh s h (y .object) (known .0))
+    (step-stays loweredBy ws sh (y .object) (h .reps .shaped .room)) (step-rows loweredBy ws sh (y .object) (h .reps .shaped .room)) in
     let q = lowered-all sh x hs (lowerW ws sh (y .object)) (withObjects s (change lower (s .objects) (y .object))) (suc j) (p .held) (known .1)
     (handles-kept (load ws sh) (load (lowerW ws sh (y .object)) sh) x (p .items x) (suc j) hs (its .1)) in
     rw (lowered-more ws sh x j (length hs) (y .object) (its .0 .0))

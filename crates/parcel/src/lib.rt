@@ -11,8 +11,8 @@ ghost use Rattle.request.specs.Place.{fieldsAt, endAt};
 ghost use Rattle.layout.specs.Layout.{load as loadAt};
 ghost use Rattle.book.specs.Ops.{spare, handleW};
 ghost use Rattle.answer.specs.Does.{both};
-ghost use Rattle.parcel.specs.Ops.{retireR, rowLeft, idRefusal, activationRefusal, rowRefusal, newRefusal, newObjectR};
-ghost use Rattle.parcel.specs.Ops.{raiseRefusal, copyRefusal, copiedR, duplicateR, parcelLink, loweredW, releasedW, releaseR};
+ghost use Rattle.parcel.specs.Ops.{retireR, activationRefusal, rowRefusal, newRefusal, newObjectR};
+ghost use Rattle.parcel.specs.Ops.{copyRefusal, copiedR, duplicateR, parcelLink, loweredW, releasedW, releaseR};
 ghost use Rattle.model.specs.Base.{member};
 ghost use Rattle.model.specs.Decision.{distinct};
 ghost use Rattle.parcel.specs.Publishing.{idsAt, plus, fits, filledW, publishedW, droppedW, spentW, publishR};
@@ -37,23 +37,6 @@ pub fn retire_object(s: &mut [u64], sh: Shape, o: u64, out: &mut [u64], base: us
         return;
     }
     answer::refuse(out, base, format::refusal::MISUSE);
-}
-
-// Whether a row is left.
-pub fn row_left(s: &[u64], sh: Shape) -> bool
-    ensures { λ r. ⌜ r ≡ rowLeft (loadAt (now (s .entry)) sh) sh ⌝ }
-{
-    words::lt(layout::root_word(s, sh, 6), sh.rows as u64)
-}
-
-// "ReservationIdExhausted: next id is 2^64 - 1": 12, else 0.
-pub fn id_refusal(s: &[u64], sh: Shape) -> u64
-    ensures { λ r. ⌜ r ≡ idRefusal (loadAt (now (s .entry)) sh) ⌝ }
-{
-    if words::eq(layout::root_word(s, sh, 5), book::LAST_ID) {
-        return format::refusal::RESERVATION_ID_EXHAUSTED;
-    }
-    format::refusal::DONE
 }
 
 // Whether the flags are known ones.
@@ -88,7 +71,7 @@ fn row_refusal(s: &[u64], sh: Shape, x: ObjectRecord) -> u64
 {
     let n = activation_refusal(x);
     if words::eq(n, 0) {
-        return id_refusal(s, sh);
+        return book::id_refusal(s, sh);
     }
     n
 }
@@ -98,7 +81,7 @@ fn new_refusal(s: &[u64], sh: Shape, o: u64, rights: Rights, flags: u64) -> u64
     ensures { λ r. ⌜ r ≡ newRefusal (loadAt (now (s .entry)) sh) sh o (rights .0) flags ⌝ }
 {
     if words::lt(o, sh.objects as u64) {
-        if row_left(s, sh) {
+        if book::row_left(s, sh) {
             let x = object::read_object(s, sh, o);
             let supported = Rights(x.supported);
             if supported.contains(rights) {
@@ -146,22 +129,6 @@ pub fn new_object(
     answer::refuse(out, base, n);
 }
 
-// "9, 11" of a copy: object o gets no handle more; 0 where it can.
-pub fn raise_refusal(s: &[u64], sh: Shape, o: u64) -> u64
-    ensures { λ r. ⌜ r ≡ raiseRefusal (loadAt (now (s .entry)) sh) o ⌝ }
-{
-    let stage = layout::object_word(s, sh, o, 5);
-    if words::eq(stage, object::NOW_RETIRED) {
-        return format::refusal::OBJECT_RETIRED;
-    }
-    let count = layout::object_word(s, sh, o, 6);
-    let limit = layout::object_word(s, sh, o, 7);
-    if words::eq(count, limit) {
-        return format::refusal::ACTIVE_HANDLE_LIMIT;
-    }
-    format::refusal::DONE
-}
-
 // "Duplicate: 16, 1, 2 or 3, 5, 9, 11, 12": from 5 on; 0 for no refusal.
 fn copy_refusal(s: &[u64], sh: Shape, h: PreparedHandle, rights: Rights) -> u64
     ensures { λ r. ⌜ r ≡ copyRefusal (loadAt (now (s .entry)) sh) h (rights .0) ⌝ }
@@ -169,9 +136,9 @@ fn copy_refusal(s: &[u64], sh: Shape, h: PreparedHandle, rights: Rights) -> u64
     let held = Rights(h.rights);
     if held.contains(Rights::DUPLICATE) {
         if held.contains(rights) {
-            let n = raise_refusal(s, sh, h.object);
+            let n = object::raise_refusal(s, sh, h.object);
             if words::eq(n, 0) {
-                return id_refusal(s, sh);
+                return book::id_refusal(s, sh);
             }
             return n;
         }
@@ -217,7 +184,7 @@ pub fn duplicate(
 {
     let n = lookup::table_refusal(s, sh, b);
     if words::eq(n, 0) {
-        if row_left(s, sh) {
+        if book::row_left(s, sh) {
             match lookup::open_handle(s, sh, b, v) {
                 Opened::Refused(k) => {
                     answer::refuse(out, base, k);
@@ -445,7 +412,7 @@ pub fn publish(
 )
     ensures { λ _. ⌜ both (now (s .exit)) (now (out .exit)) ≡ publishR (now (s .entry)) (now (out .entry)) sh base (id .0) (idsAt (now (rq .entry)) at count) ⌝ }
 {
-    let link = reserve::reservation_of(s, sh, id);
+    let link = book::reservation_of(s, sh, id);
     if words::eq(link, 0) {
         answer::refuse(out, base, format::refusal::MISUSE);
         return;

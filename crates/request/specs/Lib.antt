@@ -5,3 +5,4 @@ pub mod Lists
 pub mod Steps
 pub mod Answers
 pub mod Laws
+pub mod Plain

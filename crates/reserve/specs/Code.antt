@@ -8,9 +8,9 @@ use lib.Dec.{eqb, ltb}
 use Rattle.words.specs.Pick.{yes-is, no-is}
 use Rattle.layout.specs.declared.Shape.{Shape}
 use Rattle.layout.specs.Layout.{row, load}
-use Rattle.book.specs.Ops.{closeW, shrinkW, vacateItemsW}
-use Rattle.answer.specs.Does.{both, answered, onRowR}
-use Rattle.reserve.specs.Ops.{reservationLink, abortedW, trimmedW, trimR}
+use Rattle.book.specs.Ops.{reservationLink, closeW, shrinkW, vacateItemsW}
+use Rattle.answer.specs.Does.{both, answered}
+use Rattle.reserve.specs.Ops.{abortedW, trimmedW, trimR}
 
 -- `abort_row`
 pub aborted-is : (ws w₁ w₂ : List ℕ) (sh : Shape) (x b n : ℕ) → b ≡ load ws sh (row x 2) → n ≡ load ws sh (row x 3) → w₁ ≡ vacateItemsW ws sh b x 0 (min n 64 - 0) → w₂ ≡ closeW w₁ sh x → w₂ ≡ abortedW ws sh x
@@ -22,19 +22,6 @@ pub trimmed-is : (ws w₁ w₂ : List ℕ) (sh : Shape) (x n b c : ℕ) → b �
     → w₂ ≡ trimmedW ws sh x n
 unfolding trimmedW
 trimmed-is ws w₁ w₂ sh x n b c e₁ e₂ a₁ a₂ = rw (a₂, a₁, e₁, e₂)
-
--- an operation on the row of a link
-module _ (f : ℕ → List ℕ) (ws os os′ : List ℕ) (base k l : ℕ) (t : Bool) (e : l ≡ k) (q : t ≡ eqb l 0) where
-  none-at : eqb k 0 ≡ t
-  none-at = rw (q, e)
-
-  pub on-row-none : t ≡ true → os′ ≡ answered os base (18 ∷ []) → both ws os′ ≡ onRowR f ws os base k
-  unfolding onRowR
-  on-row-none y a = yes-is _ _ _ _ (none-at ∙ y) (ap (both ws) a)
-
-  pub on-row-done : (ws′ : List ℕ) (x : ℕ) → t ≡ false → x ≡ l - 1 → ws′ ≡ f x → os′ ≡ answered os base (0 ∷ []) → both ws′ os′ ≡ onRowR f ws os base k
-  unfolding onRowR
-  on-row-done ws′ x y d a c = no-is _ _ _ _ (none-at ∙ y) (rw (a, c, d, e))
 
 -- `trim`
 module _ (ws os os′ : List ℕ) (sh : Shape) (base i l : ℕ) (t : Bool) (e : l ≡ reservationLink (load ws sh) sh i) (q : t ≡ eqb l 0) where

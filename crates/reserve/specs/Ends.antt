@@ -22,8 +22,9 @@ use Rattle.representation.specs.Represents.{Rep}
 use Rattle.storage.specs.Reps.{Held, held-of}
 use Rattle.book.specs.Reservations.{abort-held, trim-held}
 use Rattle.answer.specs.Does.{Does, does-refused, does-accepted, does-on-row}
-use Rattle.reserve.specs.Ops.{reservationLink, abortedW, trimmedW, abortR, trimR}
-use Rattle.reserve.specs.Found.{Open, reservation-none, reservation-some}
+use Rattle.book.specs.Ops.{reservationLink}
+use Rattle.reserve.specs.Ops.{abortedW, trimmedW, abortR, trimR}
+use Rattle.book.specs.Found.{Open, reservation-none, reservation-some}
 
 module _ (ws : List ℕ) (sh : Shape) (s : State) (r : Rep ws sh s) (x i b : ℕ) (ks : List ℕ) (o : Open (load ws sh) s x i b ks) where
   -- a batch has at most 64 slots

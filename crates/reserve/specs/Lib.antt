@@ -1,6 +1,5 @@
 pub mod Ops
 pub mod Tables
-pub mod Found
 pub mod Ends
 pub mod Code
 pub mod Listed

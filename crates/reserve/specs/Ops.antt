@@ -10,16 +10,12 @@ use Rattle.layout.specs.Layout.{Mem, root, head, row, item, load, save}
 use Rattle.representation.specs.Represents.{slotWord}
 use Rattle.storage.specs.Sight.{Spot.hd}
 use Rattle.storage.specs.Ops.{seen, takeW}
-use Rattle.book.specs.Ops.{kindLink, spare, openW, closeW, shrinkW, vacateItemsW}
+use Rattle.book.specs.Ops.{reservationLink, spare, openW, closeW, shrinkW, vacateItemsW}
 use Rattle.growth.specs.Words.{pagesNeeded, growW}
 use Rattle.lookup.specs.View.{tableRefusal}
 use Rattle.answer.specs.Does.{Both, both, answered, refuseR, onRowR}
 
 -- ---- trim and abort
-
--- the open reservation with an id: its place plus 1, 0 if there is none
-abbrev pub reservationLink : Mem → Shape → ℕ → ℕ
-reservationLink = kindLink 1
 
 -- the reservation in place x ends: its slots, at most 64, fall vacant in order, and its row leaves
 unfoldable pub abortedW : List ℕ → Shape → ℕ → List ℕ

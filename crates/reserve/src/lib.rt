@@ -8,30 +8,13 @@ ghost use Prim.Native.Nat.{min};
 ghost use Rattle.layout.specs.Layout.{load as loadAt};
 ghost use Rattle.request.specs.Answers.{puts};
 ghost use Rattle.answer.specs.Does.{both, answered};
-ghost use Rattle.reserve.specs.Ops.{reservationLink, abortedW, trimmedW, abortR, trimR, batchRefusal, roomRefusal, listedW, listW, takenW, batchW, valuesAt, batchWords, openR, reserveR};
+ghost use Rattle.reserve.specs.Ops.{abortedW, trimmedW, abortR, trimR, batchRefusal, roomRefusal, listedW, listW, takenW, batchW, valuesAt, batchWords, openR, reserveR};
 use codec::HandleCodec;
 use codec::ReservationId;
 use layout::Shape;
 
-// The most slots of a batch.
-pub const MAX_BATCH: u64 = 64;
-
 // What `growth::pages_needed` gives where a new page would pass the limit.
 pub const NO_PLAN: u64 = 65;
-
-// The place of the open reservation with an id, plus 1; 0 if there is none.
-pub fn reservation_of(s: &[u64], sh: Shape, id: ReservationId) -> u64
-    ensures { λ r. ⌜ r ≡ reservationLink (loadAt (now (s .entry)) sh) sh (id .0) ⌝ }
-{
-    let link = book::row_of(s, sh, id.0);
-    if words::eq(
-        layout::row_word(s, sh, words::dec(link), 1),
-        book::RESERVATION,
-    ) {
-        return link;
-    }
-    0
-}
 
 // The reservation in place x ends: its slots fall vacant and its row leaves.
 fn abort_row(s: &mut [u64], sh: Shape, x: u64)
@@ -47,7 +30,7 @@ fn abort_row(s: &mut [u64], sh: Shape, x: u64)
 pub fn abort(s: &mut [u64], sh: Shape, id: ReservationId, out: &mut [u64], base: usize)
     ensures { λ _. ⌜ both (now (s .exit)) (now (out .exit)) ≡ abortR (now (s .entry)) (now (out .entry)) sh base (id .0) ⌝ }
 {
-    let link = reservation_of(s, sh, id);
+    let link = book::reservation_of(s, sh, id);
     if words::eq(link, 0) {
         answer::refuse(out, base, format::refusal::MISUSE);
         return;
@@ -70,7 +53,7 @@ fn trim_row(s: &mut [u64], sh: Shape, x: u64, n: u64)
 pub fn trim(s: &mut [u64], sh: Shape, id: ReservationId, n: u64, out: &mut [u64], base: usize)
     ensures { λ _. ⌜ both (now (s .exit)) (now (out .exit)) ≡ trimR (now (s .entry)) (now (out .entry)) sh base (id .0) n ⌝ }
 {
-    let link = reservation_of(s, sh, id);
+    let link = book::reservation_of(s, sh, id);
     if words::eq(link, 0) {
         answer::refuse(out, base, format::refusal::MISUSE);
         return;
@@ -97,7 +80,7 @@ fn batch_refusal(s: &[u64], sh: Shape, b: u64, n: u64) -> u64
         if words::eq(n, 0) {
             return format::refusal::EMPTY_RESERVATION;
         }
-        if words::lt(MAX_BATCH, n) {
+        if words::lt(book::MAX_BATCH, n) {
             return format::refusal::RESERVATION_TOO_LARGE;
         }
         return format::refusal::DONE;
@@ -171,7 +154,7 @@ fn open_batch(s: &mut [u64], sh: Shape, b: u64, n: u64)
 fn say_values(s: &[u64], sh: Shape, b: u64, x: u64, n: u64, out: &mut [u64], base: usize)
     ensures { λ _. ⌜ now (out .exit) ≡ puts (now (out .entry)) base 3 (valuesAt (loadAt (now (s .entry)) sh) b x 0 (min n 64)) ⌝ }
 {
-    let most = words::smaller(n, MAX_BATCH);
+    let most = words::smaller(n, book::MAX_BATCH);
     let mask = layout::head_word(s, sh, b, 1);
     let mut j: u64 = 0;
     while j < most {

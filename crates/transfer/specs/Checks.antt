@@ -23,7 +23,7 @@ use Rattle.lookup.specs.declared.PreparedHandle.{PreparedHandle}
 use Rattle.lookup.specs.declared.View.{View}
 use Rattle.lookup.specs.declared.View.the-variants.{Invalid, Busy, Holds}
 use Rattle.lookup.specs.View.{viewOf, tableRefusal}
-use Rattle.parcel.specs.Ops.{rowLeft, idRefusal}
+use Rattle.book.specs.Ops.{rowLeft, idRefusal}
 use Rattle.transfer.specs.declared.HandleTransferRequest.{HandleTransferRequest}
 use Rattle.transfer.specs.declared.TransferRules.{TransferRules}
 

@@ -10,7 +10,7 @@ use Rattle.authority.specs.Rights.{contains}
 use Rattle.layout.specs.declared.Shape.{Shape}
 use Rattle.layout.specs.Layout.{Mem, root, object, item, load}
 use Rattle.storage.specs.Ops.{moveW}
-use Rattle.book.specs.Ops.{spare, openW}
+use Rattle.book.specs.Ops.{rowLeft, idRefusal, spare, openW}
 use Rattle.answer.specs.Does.{both, answered}
 use Rattle.lookup.specs.declared.PreparedHandle.{PreparedHandle}
 use Rattle.lookup.specs.declared.HandleInfo.{HandleInfo}
@@ -19,7 +19,6 @@ use Rattle.lookup.specs.declared.Opened.the-variants.{Refused, Handle as Found}
 use Rattle.lookup.specs.View.{tableRefusal, openOf}
 use Rattle.lookup.specs.Read.{infoAt}
 use Rattle.lookup.specs.Code.{on-refused}
-use Rattle.parcel.specs.Ops.{rowLeft, idRefusal}
 use Rattle.transfer.specs.Ops.{movedW, markItemW, markedW, claimW, consumeRefusal, consumedR, consumptionR}
 
 -- `mark_item`

@@ -33,7 +33,7 @@ use Rattle.lookup.specs.declared.Opened.the-variants.{Refused, Handle as Found}
 use Rattle.lookup.specs.View.{tableRefusal, openOf, handleOf}
 use Rattle.lookup.specs.Named.{Opens, Active, active-on, table-open, table-refused, open-refused-is, open-found-is}
 use Rattle.lookup.specs.Read.{onOpened, opened-known}
-use Rattle.parcel.specs.Decided.{decidedBy, refused-when, accepted-when, left-is, free-place, next-after}
+use Rattle.book.specs.Decided.{decidedBy, refused-when, accepted-when, left-is, free-place, next-after}
 use Rattle.transfer.specs.Ops.{movedW, claimW, consumeRefusal, consumedR, consumptionR}
 use Rattle.transfer.specs.Claim.{moved-enters, moved-in, enter-fills, claim-held}
 

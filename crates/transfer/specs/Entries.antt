@@ -20,7 +20,7 @@ use Rattle.book.specs.Swap.{spare-held}
 use Rattle.lookup.specs.declared.PreparedHandle.{PreparedHandle}
 use Rattle.lookup.specs.declared.View.the-variants.{Holds}
 use Rattle.lookup.specs.View.{viewOf, handleOf}
-use Rattle.parcel.specs.Opened.{spare-low}
+use Rattle.book.specs.Decided.{spare-low}
 use Rattle.transfer.specs.Ops.{movedW}
 use Rattle.transfer.specs.Preparing.{copiedP, copiedW, handleEntryW, entryW, entriesW}
 use Rattle.transfer.specs.Claim.{Entered, enter-all, enter-fills, moved-enters, moved-in}

@@ -25,16 +25,15 @@ use Rattle.layout.specs.declared.Shape.{Shape}
 use Rattle.layout.specs.Layout.{Mem}
 use Rattle.representation.specs.Represents.{classWord, ObjectIs, Represents}
 use Rattle.representation.specs.Told.{retired-tells}
-use Rattle.object.specs.Words.{recordAt}
+use Rattle.object.specs.Words.{recordAt, raiseRefusal}
 use Rattle.lookup.specs.declared.PreparedHandle.{PreparedHandle}
 use Rattle.lookup.specs.declared.View.{View}
 use Rattle.lookup.specs.declared.View.the-variants.{Invalid, Busy, Holds}
 use Rattle.lookup.specs.View.{viewOf, handleOf, named}
 use Rattle.lookup.specs.Named.{view-is, view-found}
 use Rattle.lookup.specs.Read.{object-known}
-use Rattle.parcel.specs.Opened.{stage-is, count-is, limit-is}
+use Rattle.object.specs.Reps.{stage-is, count-is, limit-is}
 use Rattle.transfer.specs.Checks.{routeBars, rightsRefusal, objectRefusal, handleRefusal, viewRefusal, itemRefusal, itemsRefusal}
-use Rattle.parcel.specs.Ops.{raiseRefusal}
 
 -- a number tells a fault: 0 for none
 abbrev pub Tells : Option ℕ → ℕ → Type 0

@@ -7,12 +7,11 @@ use Rattle.authority.specs.Rights.{contains}
 use Rattle.layout.specs.declared.Shape.{Shape}
 use Rattle.layout.specs.Layout.{Mem, root, object, item, load, Write, Write.at, writes}
 use Rattle.storage.specs.Ops.{moveW}
-use Rattle.book.specs.Ops.{spare, openW}
+use Rattle.book.specs.Ops.{rowLeft, idRefusal, spare, openW}
 use Rattle.answer.specs.Does.{Both, both, answered, refuseR}
 use Rattle.lookup.specs.declared.PreparedHandle.{PreparedHandle}
 use Rattle.lookup.specs.View.{tableRefusal, openOf}
 use Rattle.lookup.specs.Read.{onOpened}
-use Rattle.parcel.specs.Ops.{rowLeft, idRefusal}
 
 -- ---- a claim
 

@@ -9,7 +9,7 @@ use lib.ListN.{length, getD}
 use Rattle.model.specs.Words.{may, must}
 use Rattle.request.specs.declared.Optional.the-variants.{Absent}
 use Rattle.request.specs.Place.{after, fieldsFrom, fieldsAt, endAt, itemAt, optional}
-use Rattle.parcel.specs.Plain.{fields-by, ends-by}
+use Rattle.request.specs.Plain.{fields-by, ends-by}
 use Rattle.transfer.specs.declared.HandleTransferRequest.{HandleTransferRequest}
 use Rattle.transfer.specs.Checks.{itemBy}
 use Rattle.transfer.specs.TransferCode.{item-is}

@@ -37,7 +37,7 @@ use Rattle.answer.specs.Does.{idSpent, Does, does-refused, does-refused-after-i
 use Rattle.lookup.specs.View.{tableRefusal}
 use Rattle.lookup.specs.Named.{Active, active-on, table-open, table-refused}
 use Rattle.lookup.specs.Read.{object-known}
-use Rattle.parcel.specs.Decided.{decidedBy, refused-when, accepted-when, left-is, free-place, next-after}
+use Rattle.book.specs.Decided.{decidedBy, refused-when, accepted-when, left-is, free-place, next-after}
 use Rattle.transfer.specs.Ops.{claimW}
 use Rattle.transfer.specs.Checks.{itemsAt, transferRefusal, itemsRefusal}
 use Rattle.transfer.specs.Preparing.{Tried, raisedItems, entriesW, refuseSpentR, openedR, itemsR, transferR, transferAt}

@@ -12,9 +12,8 @@ use Rattle.layout.specs.declared.Shape.{Shape}
 use Rattle.layout.specs.Layout.{Mem, root, item, load, Write, Write.at, writes}
 use Rattle.request.specs.Place.{fieldsAt, endAt}
 use Rattle.storage.specs.Ops.{up}
-use Rattle.object.specs.Words.{raiseW, lowerW}
+use Rattle.object.specs.Words.{raiseW, lowerW, raiseRefusal}
 use Rattle.book.specs.Ops.{spare, spendW}
-use Rattle.parcel.specs.Ops.{raiseRefusal}
 use Rattle.answer.specs.Does.{Both, both, answered, refuseR}
 use Rattle.lookup.specs.declared.PreparedHandle.{PreparedHandle}
 use Rattle.lookup.specs.declared.View.{View}

@@ -27,7 +27,7 @@ use Rattle.storage.specs.Order.{same?}
 use Rattle.storage.specs.Ops.{up}
 use Rattle.storage.specs.Reps.{Held}
 use Rattle.object.specs.declared.ObjectRecord.{ObjectRecord}
-use Rattle.object.specs.Words.{recordAt, recordP, stepW, raiseW, lowerW}
+use Rattle.object.specs.Words.{recordAt, recordP, stepW, raiseW, lowerW, raiseRefusal}
 use Rattle.object.specs.Record.{raisedBy, loweredBy}
 use Rattle.object.specs.Reps.{step-length, step-only, raise-held, lower-held, limit-room}
 use Rattle.lookup.specs.declared.PreparedHandle.{PreparedHandle}
@@ -36,7 +36,6 @@ use Rattle.lookup.specs.declared.View.the-variants.{Invalid, Busy, Holds}
 use Rattle.lookup.specs.View.{viewOf, handleOf, named}
 use Rattle.lookup.specs.Named.{view-is}
 use Rattle.lookup.specs.Read.{object-known}
-use Rattle.parcel.specs.Ops.{raiseRefusal}
 use Rattle.transfer.specs.Preparing.{copyLink, Tried, tried, raisedItem, loweredItem, loweredItems, raisedItems}
 use Rattle.transfer.specs.Faults.{Tells, Found, raise-tells}
 

@@ -22,18 +22,16 @@ use Rattle.request.specs.Place.{optional, fieldsAt, endAt, placesFrom, placeOf,
 use Rattle.request.specs.Lists.{place-later}
 use Rattle.request.specs.Laws.{places-turn, places-end, places-length, place-next}
 use Rattle.object.specs.declared.ObjectRecord.{ObjectRecord}
-use Rattle.object.specs.Words.{recordAt, raiseW, lowerW}
-use Rattle.book.specs.Ops.{spare, spendW}
+use Rattle.object.specs.Words.{recordAt, raiseW, lowerW, raiseRefusal}
+use Rattle.book.specs.Ops.{rowLeft, idRefusal, spare, spendW}
 use Rattle.answer.specs.Does.{Both, both, answered}
 use Rattle.lookup.specs.declared.PreparedHandle.{PreparedHandle}
 use Rattle.lookup.specs.declared.View.{View}
 use Rattle.lookup.specs.View.{viewOf, tableRefusal}
-use Rattle.parcel.specs.Ops.{rowLeft, idRefusal}
 use Rattle.transfer.specs.declared.HandleTransferRequest.{HandleTransferRequest}
 use Rattle.transfer.specs.declared.TransferRules.{TransferRules}
 use Rattle.transfer.specs.Ops.{movedW, claimW}
 use Rattle.transfer.specs.Checks.{asOption, itemBy, RulesAt, itemsAt, earlierAt, lookedAt, transferRefusal, copyDenied, routeBars, rightsRefusal, objectRefusal, handleRefusal, viewRefusal, itemRefusal, itemsRefusal}
-use Rattle.parcel.specs.Ops.{raiseRefusal}
 use Rattle.transfer.specs.Preparing.{viewLink, copyLink, Tried, tried, raisedItem, loweredItem, loweredItems, raisedItems, copiedW, handleEntryW, viewEntryW, entryW, entriesW, refuseSpentR, openedR, itemsR, transferR, transferAt}
 
 -- ---- what is read

@@ -113,7 +113,7 @@ fn consume_refusal(
         let info = lookup::info_of(s, sh, h);
         if words::eq(info.kind, kind) {
             if words::eq(info.koid.0, koid.0) {
-                return parcel::id_refusal(s, sh);
+                return book::id_refusal(s, sh);
             }
             return format::refusal::INVALID_HANDLE;
         }
@@ -164,7 +164,7 @@ pub fn prepare_consumption(
 {
     let n = lookup::table_refusal(s, sh, b);
     if words::eq(n, 0) {
-        if parcel::row_left(s, sh) {
+        if book::row_left(s, sh) {
             match lookup::open_handle(s, sh, b, v) {
                 Opened::Refused(k) => {
                     answer::refuse(out, base, k);
@@ -289,11 +289,11 @@ fn transfer_refusal(s: &[u64], sh: Shape, b: u64, n: u64) -> u64
     if words::eq(n, 0) {
         return format::refusal::EMPTY_RESERVATION;
     }
-    if words::lt(reserve::MAX_BATCH, n) {
+    if words::lt(book::MAX_BATCH, n) {
         return format::refusal::RESERVATION_TOO_LARGE;
     }
-    if parcel::row_left(s, sh) {
-        return parcel::id_refusal(s, sh);
+    if book::row_left(s, sh) {
+        return book::id_refusal(s, sh);
     }
     format::refusal::ALLOCATION
 }
@@ -576,7 +576,7 @@ fn raise_item(s: &mut [u64], sh: Shape, b: u64, q: HandleTransferRequest) -> u64
         return format::refusal::DONE;
     }
     let o = words::dec(link);
-    let n = parcel::raise_refusal(s, sh, o);
+    let n = object::raise_refusal(s, sh, o);
     if words::ne(n, 0) {
         return n;
     }

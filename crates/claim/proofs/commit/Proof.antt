@@ -1,4 +1,4 @@
-use Rattle.reserve.specs.Code.{on-row-none, on-row-done}
+use Rattle.answer.specs.Code.{on-row-none, on-row-done}
 use borrow.Author.Needs.{needs}
 use Rattle.claim.proofs.commit.Statement.{statement}
 use Rattle.claim.proofs.commit.Tie as tie

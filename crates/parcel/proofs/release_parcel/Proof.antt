@@ -1,4 +1,4 @@
-use Rattle.reserve.specs.Code.{on-row-none, on-row-done}
+use Rattle.answer.specs.Code.{on-row-none, on-row-done}
 use borrow.Author.Needs.{needs}
 use Rattle.parcel.proofs.release_parcel.Statement.{statement}
 use Rattle.parcel.proofs.release_parcel.Tie as tie

@@ -1,4 +1,4 @@
-use Rattle.reserve.specs.Code.{on-row-none, on-row-done}
+use Rattle.answer.specs.Code.{on-row-none, on-row-done}
 use borrow.Author.Needs.{needs}
 use Rattle.reserve.proofs.abort.Statement.{statement}
 use Rattle.reserve.proofs.abort.Tie as tie

@@ -10,8 +10,8 @@ use Rattle.model.specs.Decision.{Decision, Decision.refusal, asReservation, res
 use Rattle.layout.specs.declared.Shape.{Shape}
 use Rattle.layout.specs.Layout.{Mem, row, load}
 use Rattle.representation.specs.Represents.{BodyIs, Rep}
 use Rattle.book.specs.Find.{fits-of, RowAt, kind-none, kind-some}
-use Rattle.reserve.specs.Ops.{reservationLink}
+use Rattle.book.specs.Ops.{reservationLink}
 
 -- word 1 of a row tells a reservation
 a-reservation : (m : Mem) (x : ℕ) (y : Body) → BodyIs m x y → m (row x 1) ≡ 1 → (b : ℕ) × (ks : List ℕ) × (y ≡ reservation b ks)

@@ -1,8 +1,8 @@
 use Rattle.layout.specs.Layout.{load}
 use Rattle.book.specs.Code.{kind-yes, kind-no}
 use borrow.Author.Needs.{needs}
-use Rattle.reserve.proofs.reservation_of.Statement.{statement}
-use Rattle.reserve.proofs.reservation_of.Tie as tie
+use Rattle.book.proofs.reservation_of.Statement.{statement}
+use Rattle.book.proofs.reservation_of.Tie as tie
 
 -- src/lib.rt:21:9
 row-of-requires : tie.Need-row-of-requires

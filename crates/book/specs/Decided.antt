@@ -1,5 +1,5 @@
 -- Decisions by the number of a refusal, and what a represented state says of rows and ids. Assumes nothing.
-use mathlib.Core.Path.{_≡_, refl}
+use mathlib.Core.Path.{_≡_, refl, ap}
 use mathlib.Core.Bool.{true, false}
 use mathlib.Core.List.{List}
 use Prim.Native.Nat.{ℕ, zero, suc, _+_, _^_, _<_}
@@ -11,9 +11,10 @@ use Rattle.model.specs.State.{State, lastId}
 use Rattle.model.specs.Book.{freeRow}
 use Rattle.model.specs.Decision.{Decision, Decision.refusal}
 use Rattle.layout.specs.declared.Shape.{Shape}
-use Rattle.layout.specs.Layout.{load}
+use Rattle.layout.specs.Layout.{index, load}
 use Rattle.representation.specs.Represents.{Rep}
-use Rattle.parcel.specs.Ops.{rowLeft}
+use Rattle.storage.specs.Reps.{Held}
+use Rattle.book.specs.Ops.{rowLeft, spare}
 
 -- a decision by the number of its refusal, 0 for none
 abbrev pub decidedBy : ℕ → Decision → Decision
@@ -41,3 +42,10 @@ module _ (ws : List ℕ) (sh : Shape) (s : State) (i : Rep ws sh s) where
 
   pub next-after : eqb (s .book .next) lastId ≡ false → s .book .next + 1 < 2 ^ 64
   next-after e = id-after (s .book .next) (i .wellFormed .ids .next) e
+
+module _ (ws : List ℕ) (sh : Shape) (s : State) (h : Held ws sh s) (free : length (s .book .rows) < s .book .capacity) where
+  -- the place of the next row
+  pub spare-low : spare (load ws sh) < sh .rows
+  spare-low = let r = h .reps .memory in
+      let e : spare (load ws sh) ≡ load ws sh (index (length (s .book .rows))) = ap (λ (i : ℕ). load ws sh (index i)) (r .book .used) in
+      omega (arith, r .book .places (length (s .book .rows)) free .0, r .capacity)

@@ -1,8 +1,7 @@
 use Rattle.layout.specs.Layout.{load}
-use Rattle.parcel.specs.Code.{raise-retired, raise-full, raise-free}
-use borrow.Author.Needs.{needs}
-use Rattle.parcel.proofs.raise_refusal.Statement.{statement}
-use Rattle.parcel.proofs.raise_refusal.Tie as tie
+use Rattle.object.specs.Words.{raise-retired, raise-full, raise-free}
+use Rattle.object.proofs.raise_refusal.Statement.{statement}
+use Rattle.object.proofs.raise_refusal.Tie as tie
 
 -- src/lib.rt:582:9
 object-word-requires : tie.Need-object-word-requires

@@ -1,7 +1,7 @@
 use Rattle.layout.specs.Layout.{load}
-use Rattle.parcel.specs.Code.{id-spent, id-left}
-use Rattle.parcel.proofs.id_refusal.Statement.{statement}
-use Rattle.parcel.proofs.id_refusal.Tie as tie
+use Rattle.book.specs.Code.{id-spent, id-left}
+use Rattle.book.proofs.id_refusal.Statement.{statement}
+use Rattle.book.proofs.id_refusal.Tie as tie
 
 -- src/lib.rt:52:18
 root-word-requires : tie.Need-root-word-requires

@@ -1,25 +1,27 @@
--- What the steps of a request keep: marks and rows, while objects are lowered and slots are occupied. Assumes nothing.
+-- What the steps of a request keep: marks and rows, while objects change and slots are occupied. Assumes nothing.
 use mathlib.Core.Path.{_≡_, refl, _∙_}
-use mathlib.Core.Bool.{true}
-use mathlib.Core.List.{List}
-use Prim.Native.Nat.{ℕ, _<_}
-use Rattle.model.specs.State.{till, Handle, Slot.occupied, Body, State, isBusy}
+use mathlib.Core.Bool.{true, false}
+use mathlib.Core.List.{List, [], _∷_}
+use Prim.Native.Nat.{ℕ, _+_, _<_}
+use native.Mathlib.Omega.{arith}
+use lib.ListN.{length}
+use lib.Dec.{eqb}
+use Rattle.words.specs.Pick.{bool}
+use Rattle.model.specs.Base.{occurs}
+use Rattle.model.specs.State.{till, Handle, Slot, Slot.occupied, Body, Object, State, isBusy}
 use Rattle.model.specs.Storage.{keep}
 use Rattle.model.specs.Change.{withTable, withObjects}
-use Rattle.model.specs.Objects.{lower, change}
+use Rattle.invariant.specs.Pointwise.{given, filled}
 use Rattle.layout.specs.declared.Shape.{Shape}
 use Rattle.layout.specs.Layout.{item, load}
+use Rattle.representation.specs.Represents.{isMarked}
 use Rattle.storage.specs.Ops.{occupyW}
 use Rattle.storage.specs.Turns.{occupy-turns}
-use Rattle.storage.specs.Kept.{slot-kept}
+use Rattle.storage.specs.Kept.{Stays, slot-kept, RowsStay}
 use Rattle.storage.specs.Whole.{table-rows}
 use Rattle.storage.specs.Reps.{Held, ready-of, occupy-held}
-use Rattle.object.specs.Record.{loweredBy}
-use Rattle.object.specs.Words.{lowerW}
-use Rattle.object.specs.Whole.{OnlyObject, object-stays, object-rows}
-use Rattle.object.specs.Reps.{step-only, lower-held}
 use Rattle.book.specs.Find.{Fits, RowAt, row-kept}
 use Rattle.book.specs.Fades.{Fades, fades-none, fades-then, fades-rows, occupy-fades, row-turned}
 
 -- the words represent the state u, the book is the one that was, no mark is new, and every row stands where it stood with its items
 pub record Keeps (sh : Shape) (ws : List ℕ) (s : State) (ws′ : List ℕ) (u : State) : Type 0 where
@@ -41,18 +43,16 @@ keeps-then sh ws s ws₁ s₁ ws₂ s₂ p q = record {
   fits = λ f. q .fits (p .fits f);
 }
 
--- ONE HANDLE FEWER of an object
-pub lower-keeps : (sh : Shape) (ws : List ℕ) (s : State) → Held ws sh s → (o : ℕ) → o < s .objectCount → Keeps sh ws s (lowerW ws sh o) (withObjects s (change lower (s .objects) o))
-lower-keeps sh ws s h o l =
-    let only : OnlyObject o (load ws sh) (load (lowerW ws sh o) sh) = step-only loweredBy ws sh o (h .reps .shaped .room) in
-    record {
-      held = lower-held ws sh s h o l;
-      fades = fades-rows (load ws sh) s (load (lowerW ws sh o) sh) (withObjects s (change lower (s .objects) o)) refl refl
-          (λ b. slot-kept (load ws sh) (load (lowerW ws sh o) sh) b (object-stays o (load ws sh) (load (lowerW ws sh o) sh) only b));
-      rows = row-kept (load ws sh) (load (lowerW ws sh o) sh) s (withObjects s (change lower (s .objects) o)) refl (object-rows o (load ws sh) (load (lowerW ws sh o) sh) only);
-      items = object-rows o (load ws sh) (load (lowerW ws sh o) sh) only .items;
-      fits = λ f. record { room = f .room; rise = f .rise };
-    }
+-- OBJECTS CHANGED, while tables and rows keep their words
+pub objects-keep : (sh : Shape) (ws : List ℕ) (s : State) (ws′ : List ℕ) (os : ℕ → Object) → Held ws′ sh (withObjects s os) → ((b : ℕ) → Stays (load ws sh) (load ws′ sh) b)
+    → RowsStay (load ws sh) (load ws′ sh) → Keeps sh ws s ws′ (withObjects s os)
+objects-keep sh ws s ws′ os h stays rows = record {
+  held = h;
+  fades = fades-rows (load ws sh) s (load ws′ sh) (withObjects s os) refl refl (λ b. slot-kept (load ws sh) (load ws′ sh) b (stays b));
+  rows = row-kept (load ws sh) (load ws′ sh) s (withObjects s os) refl rows;
+  items = rows .items;
+  fits = λ f. record { room = f .room; rise = f .rise };
+}
 
 -- ONE SLOT OCCUPIED
 pub occupy-keeps : (sh : Shape) (ws : List ℕ) (s : State) → Held ws sh s → (b : ℕ) → b < s .tableCount → (k : ℕ) (x : Handle) → isBusy (s .tables b .slots k) ≡ true
@@ -66,3 +66,11 @@ occupy-keeps sh ws s h b l k x was =
       items = table-rows b (load ws sh) (load (occupyW ws sh b k (x .object) (x .rights) (x .flags)) sh) only .items;
       fits = λ f. record { room = f .room; rise = f .rise };
     }
+
+-- slots that are filled are marked no longer
+pub bare-given : (ks : List ℕ) (hs : List Handle) (k : ℕ) (x : Slot) → length hs ≡ length ks → 0 < occurs k ks → isMarked (filled (given ks hs k) x) ≡ false
+bare-given [] hs k x l o = absurd (omega arith)
+bare-given (j ∷ ks) [] k x l o = absurd (omega arith)
+bare-given (j ∷ ks) (h ∷ hs) k x l o = bool (eqb k j)
+    (λ e. rw e)
+    (λ e. let o′ : 0 < 0 + occurs k ks = rw e at o in rw e (bare-given ks hs k x (omega arith) (omega arith)))

@@ -1,8 +1,8 @@
 use Rattle.layout.specs.Layout.{load}
-use Rattle.parcel.specs.Code.{row-left}
+use Rattle.book.specs.Code.{row-left}
 use borrow.Author.Needs.{needs}
-use Rattle.parcel.proofs.row_left.Statement.{statement}
-use Rattle.parcel.proofs.row_left.Tie as tie
+use Rattle.book.proofs.row_left.Statement.{statement}
+use Rattle.book.proofs.row_left.Tie as tie
 
 -- src/lib.rt:45:15
 root-word-requires : tie.Need-root-word-requires
