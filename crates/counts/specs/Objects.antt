@@ -1,8 +1,8 @@
 -- The fields of an object's record: their ranges, and the object that they show. Assumes nothing.
 use mathlib.Core.Path.{_≡_, refl, sym, ap, _∙_}
-use mathlib.Core.Bool.{Bool, true, false, not, _&&_}
+use mathlib.Core.Bool.{Bool, true, false, _&&_, _||_}
 use mathlib.Core.List.{List, [], _∷_}
-use Prim.Native.Nat.{ℕ, zero, suc, _+_, _*_, _/_, _^_, _≤_, _<_, min}
+use Prim.Native.Nat.{ℕ, zero, suc, _+_, _*_, _/_, _^_, _≤_, _<_}
 use native.Mathlib.Omega.{arith}
 use lib.ListN.{getD}
 use lib.Dec.{eqb, leb}
@@ -184,20 +184,19 @@ objects-fit sh m s r w = objects-complete m sh (λ o l. let i : o < s .objectCou
 
 -- ---- what the code's tests say
 
--- `stage_ok`: of stages 0 and 1 the sum with a count of at most 1 is 1 exactly if they do not agree
-pub stage-by : (g n : ℕ) (r : Bool) → g ≤ 2 → r ≡ not (eqb (g + min n 1) 1) → r ≡ stageB g n
-stage-by zero zero r h q = q
-stage-by zero (suc n) r h q = let e : zero + min (suc n) 1 ≡ 1 = omega arith in q ∙ rw (e, ne-eqb (suc n) 0 (λ z. omega arith))
-stage-by (suc zero) zero r h q = q
-stage-by (suc zero) (suc n) r h q = let e : suc zero + min (suc n) 1 ≡ 2 = omega arith in q ∙ rw (e, le-leb 1 (suc n) (omega arith))
-stage-by (suc (suc zero)) n r h q = q ∙ ap not (ne-eqb (2 + min n 1) 1 (λ e. omega arith))
-stage-by (suc (suc (suc g))) n r h q = absurd (omega arith)
+-- a stage and a count of 0: new or retired
+pub stage-none : (g n : ℕ) (r : Bool) → n ≡ 0 → r ≡ (eqb g 0 || eqb g 2) → r ≡ stageB g n
+stage-none zero n r h q = q ∙ rw h
+stage-none (suc zero) n r h q = q ∙ rw h
+stage-none (suc (suc zero)) n r h q = q
+stage-none (suc (suc (suc g))) n r h q = q ∙ rw (ne-eqb (suc (suc (suc g))) 0 (λ e. omega arith), ne-eqb (suc (suc (suc g))) 2 (λ e. omega arith))
 
-pub stage-high : (g n : ℕ) → 2 < g → stageB g n ≡ true → ⊥
-stage-high zero n h e = omega arith
-stage-high (suc zero) n h e = omega arith
-stage-high (suc (suc zero)) n h e = omega arith
-stage-high (suc (suc (suc g))) n h e = clash e refl
+-- a stage and a count above 0: active or retired
+pub stage-some : (g n : ℕ) (r : Bool) → 1 ≤ n → r ≡ (eqb g 1 || eqb g 2) → r ≡ stageB g n
+stage-some zero n r h q = q ∙ sym (ne-eqb n 0 (λ e. omega arith))
+stage-some (suc zero) n r h q = q ∙ sym (le-leb 1 n h)
+stage-some (suc (suc zero)) n r h q = q
+stage-some (suc (suc (suc g))) n r h q = q ∙ rw (ne-eqb (suc (suc (suc g))) 1 (λ e. omega arith), ne-eqb (suc (suc (suc g))) 2 (λ e. omega arith))
 
 -- a memory in which every object has these fields; supported rights 0
 abbrev pub fields : ℕ → ℕ → ℕ → ℕ → ℕ → ℕ → ℕ → Mem

@@ -4,29 +4,33 @@
 // fields are in range; then the halves are compared, and the lower ones are left. Whichever handles were counted, every word is then as it was.
 // Bounds that are taken here again hold where the parts before have passed; they make each contract true of any words.
 ghost use mathlib.Core.Path.{_≡_};
-ghost use mathlib.Core.Bool.{_&&_};
+ghost use mathlib.Core.Bool.{_&&_, _||_};
 ghost use mathlib.Core.List.{[], _∷_};
 ghost use Prim.Native.Nat.{_≤_, _<_};
+ghost use lib.Dec.{eqb};
 ghost use lib.ListN.{length};
 ghost use Rattle.layout.specs.Layout.{objectsAt, total, load as loadAt, object, index, item};
 ghost use Rattle.counts.specs.Found.{gather, inRow, inBook};
 ghost use Rattle.counts.specs.Shift.{plus, shiftW, shifted, unit};
-ghost use Rattle.counts.specs.Objects.{stageB, fields, objectB, objectsB};
+ghost use Rattle.counts.specs.Objects.{fields, objectB, objectsB};
 ghost use Rattle.counts.specs.Halves.{halfB, halvesB, lowerW, settledW};
 use layout::Shape;
 
 // One more in the upper half of a word.
 const UNIT: u64 = 4294967296;
 
-// "a new object has count 0, an active one more"; a retired one may have either.
-fn stage_ok(stage: u64, count: u64) -> bool
-    requires { ⌜ stage ≤ 2 ⌝ }
-    ensures { λ r. ⌜ r ≡ stageB stage count ⌝ }
+// Whether a number is one of two.
+fn either(x: u64, a: u64, b: u64) -> bool
+    ensures { λ r. ⌜ r ≡ (eqb x a || eqb x b) ⌝ }
 {
-    words::ne(stage + words::smaller(count, 1), 1)
+    if x == a {
+        return true;
+    }
+    x == b
 }
 
-// Whether an object's fields are in range; its supported rights may be any word. Few tests, each of which goes the same way for every object in range.
+// Whether an object's fields are in range; its supported rights may be any word. "a new object has count 0, an active one more"; a retired one may have
+// either. Few tests, each of which but that of the count goes the same way for every object in range.
 fn fields_ok(
     koid: u64,
     kind: u64,
@@ -47,13 +51,13 @@ fn fields_ok(
     if class > 2 {
         return false;
     }
-    if stage > 2 {
-        return false;
+    if count == 0 {
+        return either(stage, 0, 2);
     }
     if count > limit {
         return false;
     }
-    stage_ok(stage, count)
+    either(stage, 1, 2)
 }
 
 // Of object o, whose record starts 8 * o words after the first one's.

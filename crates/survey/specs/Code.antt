@@ -135,6 +135,39 @@ module _ (ws vs : List ℕ) (sh : Shape) (f j : ℕ) (ev : vs ≡ shifted ws sh 
 pub busy-more : (m : Mem) (f j x v y : ℕ) (c : CellWords) → x ≡ busyCells m f j → c ≡ cellAt m f j → v ≡ bit (not (eqb (c .tag) 0)) → y ≡ x + v → y ≡ busyCells m f (j + 1)
 busy-more m f j x v y c e ec q z = sum-more (λ i. bit (not (eqb (m (cell f i 0)) 0))) j x v y e (q ∙ ap (λ (d : CellWords). bit (not (eqb (d .tag) 0))) ec) z
 
+-- what the walk over a frame has done up to slot j: the handles counted, the slots tested, the busy ones counted
+abbrev pub Done : List ℕ → List ℕ → Shape → ℕ → ℕ → ℕ → ℕ → ℕ → ℕ → ℕ → Type 0
+Done ws vs sh b p life high f j count =
+    (vs ≡ shifted ws sh unit (gather j (inCell (load ws sh) f))) × (all j (slotAt (load ws sh) sh b p life high f) ≡ true) × (count ≡ busyCells (load ws sh) f j)
+
+-- from vs to us it goes on from slot j to slot k, all of which are busy
+unfoldable pub Further : List ℕ → List ℕ → Shape → ℕ → ℕ → ℕ → ℕ → ℕ → ℕ → ℕ → Type 0
+Further vs us sh b p life high f j k = (ws : List ℕ) (count : ℕ) → Done ws vs sh b p life high f j count → Done ws us sh b p life high f k (count + (k - j))
+
+-- one slot more
+pub done-more : (ws vs us : List ℕ) (sh : Shape) (b p life high f j k x v y : ℕ) (c : CellWords) (r : Bool) → Done ws vs sh b p life high f j x → c ≡ cellAt (load vs sh) f j → k ≡ p * 64 + j
+    → r ≡ cellB (load vs sh) sh b k life high c → r ≡ true → us ≡ shifted vs sh unit (heldIn c) → v ≡ bit (not (eqb (c .tag) 0)) → y ≡ x + v → Done ws us sh b p life high f (j + 1) y
+done-more ws vs us sh b p life high f j k x v y c r d ec ek et z e ev ey = (
+  noted-more ws vs sh f j (d .0) us c ec e,
+  slots-more (load ws sh) sh b p life high f 0 0 j r (d .1) (slot-left ws vs sh (gather j (inCell (load ws sh) f)) (d .0) b p life high f j k c r ek ec et) z,
+  busy-more (load ws sh) f j x v y c (d .2) (cell-left ws vs sh (gather j (inCell (load ws sh) f)) (d .0) f j c ec) ev ey,
+)
+
+module _ (vs : List ℕ) (sh : Shape) (b p life high f j : ℕ) where
+  pub further-none : Further vs vs sh b p life high f j j
+  unfolding Further
+  further-none ws count d = let e : count + (j - j) ≡ count = omega arith in rw e d
+
+  pub further-more : (us zs : List ℕ) (i k : ℕ) (c : CellWords) (r : Bool) → j ≤ k → Further vs us sh b p life high f j k → c ≡ cellAt (load us sh) f k → i ≡ p * 64 + k
+      → r ≡ cellB (load us sh) sh b i life high c → r ≡ true → c .tag ≡ 3 → zs ≡ shifted us sh unit (heldIn c) → Further vs zs sh b p life high f j (k + 1)
+  unfolding Further
+  further-more us zs i k c r l g ec ei et z h e ws count d =
+      done-more ws us zs sh b p life high f k i (count + (k - j)) 1 (count + (k + 1 - j)) c r (g ws count d) ec ei et z e (rw h) (omega arith)
+
+  pub further-by : (us ws : List ℕ) (k x y : ℕ) → Further vs us sh b p life high f j k → Done ws vs sh b p life high f j x → y ≡ x + (k - j) → Done ws us sh b p life high f k y
+  unfolding Further
+  further-by us ws k x y g d e = rw e (g ws x d)
+
 -- ---- a page
 
 module _ (ws : List ℕ) (sh : Shape) (b life e p l : ℕ) (el : l ≡ load ws sh (entry (e + p) 0)) where

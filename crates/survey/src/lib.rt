@@ -10,6 +10,7 @@ ghost use Rattle.layout.specs.Cells.{cellAt};
 ghost use Rattle.structure.specs.Checks.{boundOf};
 ghost use Rattle.counts.specs.Found.{gather};
 ghost use Rattle.counts.specs.Shift.{unit, shifted};
+ghost use Rattle.survey.specs.Code.{Further};
 ghost use Rattle.survey.specs.Walk.{cellB, heldIn, frameB, frameFound, pageB, pageFound, tableB, tableFound, surveyB};
 use layout::CellWords;
 use layout::Shape;
@@ -83,7 +84,42 @@ fn note_slot(s: &mut [u64], sh: Shape, c: CellWords)
     }
 }
 
-// The first n slots of frame f, which is page p of table b: whether each is right and w of them are busy.
+// Slots of frame f, which is page p of table b, from j on: counts the handles of those that are occupied and right. The first that is not, n where all are.
+fn walk_held(
+    s: &mut [u64],
+    sh: Shape,
+    b: u64,
+    p: u32,
+    life: u64,
+    bound: u64,
+    high: u64,
+    f: u64,
+    from: u64,
+    n: u64,
+) -> u64
+    requires { ⌜ bound ≡ boundOf (sh .objects) life ⌝ }
+    requires { ⌜ (n ≤ 64) × (f < sh .frames) × (from ≤ n) ⌝ }
+    requires { ⌜ total sh ≤ length (now s) ⌝ }
+    ensures noted { λ r. ⌜ Further (now (s .entry)) (now (s .exit)) sh b p life high f from r ⌝ }
+    ensures within { λ r. ⌜ (from ≤ r) × (r ≤ n) ⌝ }
+{
+    let first = (p as u64) * 64;
+    let mut j = from;
+    while j < n {
+        let c = cell_in(s, sh, f, j);
+        if c.tag != 3 {
+            return j;
+        }
+        if !slot_ok(s, sh, b, first + j, life, bound, high, c) {
+            return j;
+        }
+        note_slot(s, sh, c);
+        j += 1;
+    }
+    j
+}
+
+// The first n slots of frame f, which is page p of table b: whether each is right and w of them are busy. Most are occupied.
 fn walk_frame(
     s: &mut [u64],
     sh: Shape,
@@ -105,13 +141,18 @@ fn walk_frame(
     let mut count: u64 = 0;
     let mut j: u64 = 0;
     while j < n {
-        let c = cell_in(s, sh, f, j);
-        if !slot_ok(s, sh, b, first + j, life, bound, high, c) {
+        let k = walk_held(s, sh, b, p, life, bound, high, f, j, n);
+        count += k - j;
+        if k == n {
+            return count == w;
+        }
+        let c = cell_in(s, sh, f, k);
+        if !slot_ok(s, sh, b, first + k, life, bound, high, c) {
             return false;
         }
         note_slot(s, sh, c);
         count += structure::present(c.tag);
-        j += 1;
+        j = k + 1;
     }
     count == w
 }
