@@ -54,3 +54,26 @@ forbiddenObjectField = 16
 
 abbrev pub forbiddenKindField : ℕ
 forbiddenKindField = 17
+
+-- kinds of fields: which words one takes is `fieldFits` in Format.antt
+abbrev pub anyWord : ℕ
+anyWord = 0
+
+abbrev pub number32 : ℕ
+number32 = 1
+
+abbrev pub aKoid : ℕ
+aKoid = 2
+
+abbrev pub aRoute : ℕ
+aRoute = 3
+
+abbrev pub anOp : ℕ
+anOp = 4
+
+-- of bit 0's word in an item: a transfer item's operation, a parcel item's 0
+abbrev pub anOperation : ℕ
+anOperation = 5
+
+abbrev pub zeroWord : ℕ
+zeroWord = 6

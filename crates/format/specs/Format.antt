@@ -5,6 +5,8 @@ use mathlib.Core.List.{List, [], _∷_}
 use mathlib.Core.Bool.{Bool, true, false, not, _&&_}
 use lib.Dec.{eqb, leb}
 use Rattle.words.specs.Pick.{pick}
+use Rattle.format.specs.Fields.{anyWord, number32, aKoid, aRoute, anOp, anOperation, zeroWord}
+use Rattle.format.specs.Ops.{opLast}
 
 -- docs/formats.md, "Ops": the fields that each op must carry, as a bit map, at the op's number
 unfoldable pub musts : List ℕ
@@ -34,25 +36,26 @@ parcelItemMay = 0
 abbrev pub fieldCount : ℕ
 fieldCount = 18
 
--- docs/formats.md, "Fields of a record": each field's kind, at its bit. 0 any word, 1 a number of 32 bits, 2 a koid, 3 a route, 4 the op
+-- docs/formats.md, "Fields of a record": each field's kind, at its bit
 unfoldable pub fieldKinds : List ℕ
-fieldKinds = 4 ∷ 0 ∷ 0 ∷ 0 ∷ 0 ∷ 0 ∷ 1 ∷ 0 ∷ 0 ∷ 1 ∷ 2 ∷ 0 ∷ 3 ∷ 0 ∷ 1 ∷ 1 ∷ 2 ∷ 1 ∷ []
+fieldKinds =
+    anOp ∷ anyWord ∷ anyWord ∷ anyWord ∷ anyWord ∷ anyWord ∷ number32 ∷ anyWord ∷ anyWord ∷ number32 ∷ aKoid ∷ anyWord ∷ aRoute ∷ anyWord ∷ number32 ∷ number32 ∷ aKoid ∷ number32 ∷ []
 
 -- docs/formats.md, "Ops": "Op 0 and every op above 24 is unknown."
 unfoldable pub knownOp : ℕ → Bool
-knownOp op = leb 1 op && leb op 24
+knownOp op = leb 1 op && leb op opLast
 
 -- document 01, number 19: "too wide or a koid of 0; unknown op, route or operation". Which words a kind takes. Bit 0's word has a kind of
--- its own in an item: 5 a transfer item's operation, 6 a parcel item's 0. No other kind takes a word.
+-- its own in an item. No other kind takes a word.
 unfoldable pub fieldFits : ℕ → ℕ → Bool
 fieldFits kind word =
-    pick (eqb kind 0) true
-    (pick (eqb kind 1) (leb word 4_294_967_295)
-    (pick (eqb kind 2) (not (eqb word 0))
-    (pick (eqb kind 3) (leb word 2)
-    (pick (eqb kind 4) (knownOp word)
-    (pick (eqb kind 5) (leb word 1)
-    (pick (eqb kind 6) (eqb word 0) false))))))
+    pick (eqb kind anyWord) true
+    (pick (eqb kind number32) (leb word 4_294_967_295)
+    (pick (eqb kind aKoid) (not (eqb word 0))
+    (pick (eqb kind aRoute) (leb word 2)
+    (pick (eqb kind anOp) (knownOp word)
+    (pick (eqb kind anOperation) (leb word 1)
+    (pick (eqb kind zeroWord) (eqb word 0) false))))))
 
 -- document 01: "Each request answers 72 words"
 abbrev pub answerWords : ℕ

@@ -1,3 +1,6 @@
+pub mod Fields
+pub mod Values
+pub mod Sizes
 pub mod Regions
 pub mod Layout
 pub mod Cells
