@@ -38,7 +38,7 @@ refuseR ws os base n = both ws (answered os base (n ∷ []))
 unfoldable pub onRowR : (ℕ → List ℕ) → List ℕ → List ℕ → ℕ → ℕ → Both
 onRowR f ws os base l = pick (eqb l 0) (refuseR ws os base 18) (both (f (l - 1)) (answered os base (0 ∷ [])))
 
--- the words with one id spent: the next id, word 5 of the header, is one more
+-- the words with one id spent: the header's next id is one more
 unfoldable pub idSpent : List ℕ → List ℕ
 idSpent ws = set ws 5 (getD ws 5 0 + 1)
 

@@ -15,6 +15,7 @@ use Rattle.model.specs.State.{Body, Row, State}
 use Rattle.model.specs.Book.{dropId, dropRow}
 use Rattle.layout.specs.declared.Shape.{Shape}
 use Rattle.layout.specs.Layout.{Mem, total, root, index, rank, row, item, load, in-root, in-index, in-rank, Write.at, upds, load-writes}
+use Rattle.layout.specs.Fields.{rootNextId, rootUsedRows, slotTag, slotPlace, slotPosition, rowId}
 use Rattle.representation.specs.Represents.{slotWord, isMarked, Represents}
 use Rattle.storage.specs.Order.{same?}
 use Rattle.storage.specs.Kept.{body-kept}
@@ -39,11 +40,11 @@ pub record Left (m n : Mem) (c x last : ℕ) : Type 0 where
   pub rank-high : (z : ℕ) → z < c → last < m (rank z) → n (rank z) ≡ m (rank z)
   pub rows : (z f : ℕ) → n (row z f) ≡ m (row z f)
   pub items : (z j f : ℕ) → n (item z j f) ≡ m (item z j f)
-  pub next : n (root 5) ≡ m (root 5)
-  pub used : n (root 6) ≡ last
+  pub next : n (root rootNextId) ≡ m (root rootNextId)
+  pub used : n (root rootUsedRows) ≡ last
 
 leave : (m n : Mem) (c x last : ℕ) → x < c → m (rank x) ≤ last → Shifted m n c (m (rank x)) (last - m (rank x))
-    → Left m (upds n (at (index last) x ∷ at (rank x) last ∷ at (root 6) last ∷ [])) c x last
+    → Left m (upds n (at (index last) x ∷ at (rank x) last ∷ at (root rootUsedRows) last ∷ [])) c x last
 leave m n c x last low l p =
     let other : (z : ℕ) → (m (rank z) ≡ m (rank x) → ⊥) → z ≡ x → ⊥ = λ z d q. d (ap (λ (v : ℕ). m (rank v)) q) in
     record {
@@ -67,7 +68,7 @@ close-books ws sh x h =
     let p = shift-books ws sh (load ws sh (rank x)) (lastOf (load ws sh) sh - load ws sh (rank x)) h in
     books-then ws (shiftW ws sh (load ws sh (rank x)) (lastOf (load ws sh) sh - load ws sh (rank x))) (closeW ws sh x) sh p
     (books-writes (shiftW ws sh (load ws sh (rank x)) (lastOf (load ws sh) sh - load ws sh (rank x))) sh (omega (arith, p .long))
-    (at (index (lastOf (load ws sh) sh)) x ∷ at (rank x) (lastOf (load ws sh) sh) ∷ at (root 6) (lastOf (load ws sh) sh) ∷ [])
+    (at (index (lastOf (load ws sh) sh)) x ∷ at (rank x) (lastOf (load ws sh) sh) ∷ at (root rootUsedRows) (lastOf (load ws sh) sh) ∷ [])
     (inr (inl refl), (inr (inl refl), (inl (refl, inr refl), tt))))
 
 close-left : (ws : List ℕ) (sh : Shape) (x : ℕ) → total sh ≤ length ws → Indexed (load ws sh) (sh .rows) → x < sh .rows → load ws sh (rank x) ≤ lastOf (load ws sh) sh → lastOf (load ws sh) sh < sh .rows
@@ -77,8 +78,8 @@ close-left ws sh x h ix low l u =
     let p = shifted ws sh (load ws sh (rank x)) (lastOf (load ws sh) sh - load ws sh (rank x)) h ix (omega arith) in
     let b = shift-books ws sh (load ws sh (rank x)) (lastOf (load ws sh) sh - load ws sh (rank x)) h in
     let q = load-writes (shiftW ws sh (load ws sh (rank x)) (lastOf (load ws sh) sh - load ws sh (rank x))) sh (omega (arith, b .long))
-    (at (index (lastOf (load ws sh) sh)) x ∷ at (rank x) (lastOf (load ws sh) sh) ∷ at (root 6) (lastOf (load ws sh) sh) ∷ [])
-    (in-index sh (lastOf (load ws sh) sh) u, (in-rank sh x low, (in-root sh 6 (omega arith), tt))) in
+    (at (index (lastOf (load ws sh) sh)) x ∷ at (rank x) (lastOf (load ws sh) sh) ∷ at (root rootUsedRows) (lastOf (load ws sh) sh) ∷ [])
+    (in-index sh (lastOf (load ws sh) sh) u, (in-rank sh x low, (in-root sh rootUsedRows (omega arith), tt))) in
     rw q (leave (load ws sh) (load (shiftW ws sh (load ws sh (rank x)) (lastOf (load ws sh) sh - load ws sh (rank x))) sh) (sh .rows) x (lastOf (load ws sh) sh) low l p)
 
 module _ (ws : List ℕ) (sh : Shape) (s : State) (h : Held ws sh s) (f : Fits s) (x i : ℕ) (b : Body) (a : RowAt (load ws sh) s x i b) where
@@ -156,20 +157,20 @@ module _ (ws : List ℕ) (sh : Shape) (s : State) (h : Held ws sh s) (f : Fits s
   close-slots = slot-kept (load ws sh) (load (closeW ws sh x) sh) (close-books ws sh x (h .reps .shaped .room) .only)
 
   -- A ROW LEAVES: no marked slot names its place
-  pub close-held : ((d k : ℕ) → d < s .tableCount → isMarked (s .tables d .slots k) ≡ true → slotWord (load ws sh) d k 2 ≡ x → ⊥) → Held (closeW ws sh x) sh (dropRow i s)
+  pub close-held : ((d k : ℕ) → d < s .tableCount → isMarked (s .tables d .slots k) ≡ true → slotWord (load ws sh) d k slotPlace ≡ x → ⊥) → Held (closeW ws sh x) sh (dropRow i s)
   close-held unnamed =
       book-held ws (closeW ws sh x) sh s (dropRow i s .book) h (close-books ws sh x (h .reps .shaped .room)) refl
-      (λ d l k mk. left .rows (slotWord (load ws sh) d k 2) 0)
+      (λ d l k mk. left .rows (slotWord (load ws sh) d k slotPlace) 0)
       (record {
         next = left .next ∙ r .book .next;
         used = left .used ∙ sym fewer;
         rows = rows-all (load (closeW ws sh x) sh) (dropId i (s .book .rows)) closed-row;
         places = closed-places;
-        marks = λ d k l mk. let w = r .book .marks d k l mk in let z : ℕ = slotWord (load ws sh) d k 2 in
+        marks = λ d k l mk. let w = r .book .marks d k l mk in let z : ℕ = slotWord (load ws sh) d k slotPlace in
             let u = under z (w .0) (unnamed d k l mk) (w .1) in
-            mark-words (load (closeW ws sh x) sh) (s .book .capacity) (length (dropId i (s .book .rows))) d k (slotWord (load ws sh) d k 0) (slotWord (load ws sh) d k 2) (slotWord (load ws sh) d k 3)
-            (slotWord (load (closeW ws sh x) sh) d k 0) (slotWord (load (closeW ws sh x) sh) d k 2) (slotWord (load (closeW ws sh x) sh) d k 3) (close-slots d k 0) (close-slots d k 2) (close-slots d k 3)
-            (mark-kept (load ws sh) (load (closeW ws sh x) sh) (s .book .capacity) (length (s .book .rows)) (length (dropId i (s .book .rows))) d k (slotWord (load ws sh) d k 0) (slotWord (load ws sh) d k 2) (slotWord (load ws sh) d k 3)
+            mark-words (load (closeW ws sh x) sh) (s .book .capacity) (length (dropId i (s .book .rows))) d k (slotWord (load ws sh) d k slotTag) (slotWord (load ws sh) d k slotPlace) (slotWord (load ws sh) d k slotPosition)
+            (slotWord (load (closeW ws sh x) sh) d k slotTag) (slotWord (load (closeW ws sh x) sh) d k slotPlace) (slotWord (load (closeW ws sh x) sh) d k slotPosition) (close-slots d k 0) (close-slots d k 2) (close-slots d k 3)
+            (mark-kept (load ws sh) (load (closeW ws sh x) sh) (s .book .capacity) (length (s .book .rows)) (length (dropId i (s .book .rows))) d k (slotWord (load ws sh) d k slotTag) (slotWord (load ws sh) d k slotPlace) (slotWord (load ws sh) d k slotPosition)
             (omega (arith, u, fewer)) (left .rows z) (left .items z) w);
       })
 
@@ -202,4 +203,4 @@ module _ (ws : List ℕ) (sh : Shape) (s : State) (h : Held ws sh s) (f : Fits s
 
   -- a row with another id stands in another place
   pub ids-places : (z j : ℕ) (c : Body) → (j ≡ i → ⊥) → RowAt (load ws sh) s z j c → z ≡ x → ⊥
-  ids-places z j c ne q e = ne (sym (q .id) ∙ ap (λ (y : ℕ). load ws sh (row y 0)) e ∙ a .id)
+  ids-places z j c ne q e = ne (sym (q .id) ∙ ap (λ (y : ℕ). load ws sh (row y rowId)) e ∙ a .id)

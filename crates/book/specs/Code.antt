@@ -9,12 +9,14 @@ use Rattle.words.specs.Pick.{pick, yes-is, no-is}
 use Rattle.model.specs.State.{lastId}
 use Rattle.layout.specs.declared.Shape.{Shape}
 use Rattle.layout.specs.Layout.{Mem, root, index, rank, row, item, load, save}
+use Rattle.layout.specs.Fields.{rootNextId, rootUsedRows, rowId, rowKind, rowTable, rowLength, itemSlot}
+use Rattle.layout.specs.Sizes.{batchMax}
 use Rattle.storage.specs.Ops.{up, vacateW}
 use Rattle.book.specs.Ops.{idAt, linkFrom, rowLink, kindLink, rowLeft, idRefusal, spare, openP, openW, shiftW, closeW, vacateItemsW}
 
 -- the row of a kind with an id
-module _ (what : ℕ) (m : Mem) (sh : Shape) (i l x w : ℕ) (t : Bool) (e₁ : l ≡ rowLink m sh i) (e₂ : x ≡ l - 1) (e₃ : w ≡ m (row x 1)) (e₄ : t ≡ eqb w what) where
-  tested : eqb (m (row (rowLink m sh i - 1) 1)) what ≡ t
+module _ (what : ℕ) (m : Mem) (sh : Shape) (i l x w : ℕ) (t : Bool) (e₁ : l ≡ rowLink m sh i) (e₂ : x ≡ l - 1) (e₃ : w ≡ m (row x rowKind)) (e₄ : t ≡ eqb w what) where
+  tested : eqb (m (row (rowLink m sh i - 1) rowKind)) what ≡ t
   tested = rw (e₄, e₃, e₂, e₁)
 
   pub kind-yes : t ≡ true → l ≡ kindLink what m sh i
@@ -26,12 +28,12 @@ module _ (what : ℕ) (m : Mem) (sh : Shape) (i l x w : ℕ) (t : Bool) (e₁ : 
   kind-no y = no-is _ _ _ _ (tested ∙ y) refl
 
 -- `row_left`
-pub row-left : (m : Mem) (sh : Shape) (w : ℕ) (t : Bool) → w ≡ m (root 6) → t ≡ ltb w (sh .rows) → t ≡ rowLeft m sh
+pub row-left : (m : Mem) (sh : Shape) (w : ℕ) (t : Bool) → w ≡ m (root rootUsedRows) → t ≡ ltb w (sh .rows) → t ≡ rowLeft m sh
 row-left m sh w t e q = q ∙ ap (λ (n : ℕ). ltb n (sh .rows)) e
 
 -- `id_refusal`
-module _ (m : Mem) (w : ℕ) (t : Bool) (e : w ≡ m (root 5)) (q : t ≡ eqb w 18446744073709551615) where
-  last-id : eqb (m (root 5)) lastId ≡ t
+module _ (m : Mem) (w : ℕ) (t : Bool) (e : w ≡ m (root rootNextId)) (q : t ≡ eqb w 18446744073709551615) where
+  last-id : eqb (m (root rootNextId)) lastId ≡ t
   unfolding lastId
   last-id = sym (q ∙ ap (λ (n : ℕ). eqb n 18446744073709551615) e)
 
@@ -61,13 +63,13 @@ link-look m id i zero h l e = absurd (omega arith)
 link-look m id i (suc n) h l e =
     rw (e, link-fuel m id n (suc n - suc n / 2 - 1) (i + suc n / 2 + 1) (suc n - suc n / 2 - 1) (omega arith) (omega arith), link-fuel m id n (suc n / 2) i (suc n / 2) (omega arith) (omega arith))
 
-pub link-start : (m : Mem) (sh : Shape) (id u n : ℕ) → u ≡ m (root 6) → n ≡ min u (sh .rows) → rowLink m sh id ≡ linkFrom m id n 0 n
+pub link-start : (m : Mem) (sh : Shape) (id u n : ℕ) → u ≡ m (root rootUsedRows) → n ≡ min u (sh .rows) → rowLink m sh id ≡ linkFrom m id n 0 n
 unfolding rowLink
 link-start m sh id u n d e = rw (e, d)
 
 -- n ranks are left, from i on
 module _ (m : Mem) (sh : Shape) (id i n : ℕ) (inv : rowLink m sh id ≡ linkFrom m id n i n) where
-  module _ (l : 0 < n) (h x w : ℕ) (t : Bool) (eh : h ≡ n / 2) (ex : x ≡ m (index (i + h))) (ew : w ≡ m (row x 0)) (et : t ≡ eqb w id) where
+  module _ (l : 0 < n) (h x w : ℕ) (t : Bool) (eh : h ≡ n / 2) (ex : x ≡ m (index (i + h))) (ew : w ≡ m (row x rowId)) (et : t ≡ eqb w id) where
     there : w ≡ idAt m (i + h)
     there = rw ex at ew
 
@@ -93,9 +95,9 @@ module _ (m : Mem) (sh : Shape) (id i n : ℕ) (inv : rowLink m sh id ≡ linkFr
 -- ---- `open_row`
 
 pub open-is : (ws : List ℕ) (sh : Shape) (what b n x id used next more : ℕ) (w₁ w₂ w₃ w₄ w₅ w₆ : List ℕ)
-    → x ≡ spare (load ws sh) → id ≡ load ws sh (root 5) → used ≡ load ws sh (root 6) → next ≡ up id → more ≡ up used
-    → w₁ ≡ save ws sh (row x 0) id → w₂ ≡ save w₁ sh (row x 1) what → w₃ ≡ save w₂ sh (row x 2) b → w₄ ≡ save w₃ sh (row x 3) n
-    → w₅ ≡ save w₄ sh (root 6) more → w₆ ≡ save w₅ sh (root 5) next
+    → x ≡ spare (load ws sh) → id ≡ load ws sh (root rootNextId) → used ≡ load ws sh (root rootUsedRows) → next ≡ up id → more ≡ up used
+    → w₁ ≡ save ws sh (row x rowId) id → w₂ ≡ save w₁ sh (row x rowKind) what → w₃ ≡ save w₂ sh (row x rowTable) b → w₄ ≡ save w₃ sh (row x rowLength) n
+    → w₅ ≡ save w₄ sh (root rootUsedRows) more → w₆ ≡ save w₅ sh (root rootNextId) next
     → w₆ ≡ openW ws sh what b n
 unfolding openW openP
 open-is ws sh what b n x id used next more w₁ w₂ w₃ w₄ w₅ w₆ e₁ e₂ e₃ e₄ e₅ a₁ a₂ a₃ a₄ a₅ a₆ = rw (a₆, a₅, a₄, a₃, a₂, a₁, e₄, e₅, e₃, e₂, e₁)
@@ -122,21 +124,21 @@ pub vacate-none : (ws : List ℕ) (sh : Shape) (b x i : ℕ) → ws ≡ vacateIt
 unfolding vacateItemsW
 vacate-none ws sh b x i = let z : i - i ≡ 0 = omega arith in rw z
 
-pub vacate-more : (ws : List ℕ) (sh : Shape) (b x i j k : ℕ) (us vs : List ℕ) → i ≤ j → us ≡ vacateItemsW ws sh b x i (j - i) → k ≡ load us sh (item x j 0) → vs ≡ vacateW us sh b k
+pub vacate-more : (ws : List ℕ) (sh : Shape) (b x i j k : ℕ) (us vs : List ℕ) → i ≤ j → us ≡ vacateItemsW ws sh b x i (j - i) → k ≡ load us sh (item x j itemSlot) → vs ≡ vacateW us sh b k
     → vs ≡ vacateItemsW ws sh b x i (j + 1 - i)
 unfolding vacateItemsW
 vacate-more ws sh b x i j k us vs l e d a =
     let z : j + 1 - i ≡ suc (j - i) = omega arith in let y : i + (j - i) ≡ j = omega arith in
     rw (z, y, ← e) (rw (a, d))
 
-pub vacate-end : (ws : List ℕ) (sh : Shape) (b x i j n end : ℕ) (us : List ℕ) → end ≡ min n 64 → j - i ≤ end - i → end ≤ j → us ≡ vacateItemsW ws sh b x i (j - i) → us ≡ vacateItemsW ws sh b x i (min n 64 - i)
-vacate-end ws sh b x i j n end us d l h e = let z : j - i ≡ min n 64 - i = omega arith in rw z at e
+pub vacate-end : (ws : List ℕ) (sh : Shape) (b x i j n end : ℕ) (us : List ℕ) → end ≡ min n batchMax → j - i ≤ end - i → end ≤ j → us ≡ vacateItemsW ws sh b x i (j - i) → us ≡ vacateItemsW ws sh b x i (min n batchMax - i)
+vacate-end ws sh b x i j n end us d l h e = let z : j - i ≡ min n batchMax - i = omega arith in rw z at e
 
 -- ---- `close_row`
 
 pub close-is : (ws : List ℕ) (sh : Shape) (x r u n last : ℕ) (w₁ w₂ w₃ w₄ : List ℕ)
-    → r ≡ load ws sh (rank x) → u ≡ load ws sh (root 6) → n ≡ min u (sh .rows) → last ≡ n - 1
-    → w₁ ≡ shiftW ws sh r (last - r) → w₂ ≡ save w₁ sh (index last) x → w₃ ≡ save w₂ sh (rank x) last → w₄ ≡ save w₃ sh (root 6) last
+    → r ≡ load ws sh (rank x) → u ≡ load ws sh (root rootUsedRows) → n ≡ min u (sh .rows) → last ≡ n - 1
+    → w₁ ≡ shiftW ws sh r (last - r) → w₂ ≡ save w₁ sh (index last) x → w₃ ≡ save w₂ sh (rank x) last → w₄ ≡ save w₃ sh (root rootUsedRows) last
     → w₄ ≡ closeW ws sh x
 unfolding closeW
 close-is ws sh x r u n last w₁ w₂ w₃ w₄ e₁ e₂ e₃ e₄ a₁ a₂ a₃ a₄ = rw (a₄, a₃, a₂, a₁, e₄, e₃, e₂, e₁)

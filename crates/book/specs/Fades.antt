@@ -17,6 +17,7 @@ use Rattle.invariant.specs.BookLemmas.{length-drop, ids-drop}
 use Rattle.invariant.specs.Pointwise.{place-slots, vacate-slots}
 use Rattle.layout.specs.declared.Shape.{Shape}
 use Rattle.layout.specs.Layout.{Mem, load}
+use Rattle.layout.specs.Fields.{slotPosition}
 use Rattle.representation.specs.Represents.{slotWord, isMarked}
 use Rattle.representation.specs.Told.{marked-full}
 use Rattle.storage.specs.Sight.{OnlyTable}
@@ -58,7 +59,7 @@ pub named-fades : (m : Mem) (s : State) (n : Mem) (u : State) (x b : ℕ) (P : �
 named-fades m s n u x b P p q d k l mk e =
     let l′ : d < s .tableCount = omega (arith, p .count) in
     let y = q d k l′ (p .marked d k mk) (sym (p .words d k 2 l′ mk) ∙ e) in
-    let z : slotWord m d k 3 ≡ slotWord n d k 3 = sym (p .words d k 3 l′ mk) in
+    let z : slotWord m d k slotPosition ≡ slotWord n d k slotPosition = sym (p .words d k 3 l′ mk) in
     (y .0, rw z at (y .1))
 
 pub unnamed-fades : (m : Mem) (s : State) (n : Mem) (u : State) (x : ℕ) → Fades m s n u → Unnamed m s x → Unnamed n u x

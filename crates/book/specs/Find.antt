@@ -14,6 +14,8 @@ use Rattle.model.specs.WellFormed.{IdsRise, WellFormed}
 use Rattle.model.specs.Tests.{nth-some}
 use Rattle.layout.specs.declared.Shape.{Shape}
 use Rattle.layout.specs.Layout.{Mem, index, rank, row}
+use Rattle.layout.specs.Fields.{rowId, rowKind}
+use Rattle.layout.specs.Sizes.{rowsMax}
 use Rattle.representation.specs.Represents.{BodyIs, Represents}
 use Rattle.storage.specs.Kept.{body-kept, RowsStay}
 use Rattle.storage.specs.Ops.{up}
@@ -35,7 +37,7 @@ pub record RowAt (m : Mem) (s : State) (x i : ℕ) (b : Body) : Type 0 where
   pub used : m (rank x) < length (s .book .rows)
   pub named : m (index (m (rank x))) ≡ x
   pub listed : nth (s .book .rows) (m (rank x)) ≡ some (record { id = i; body = b })
-  pub id : m (row x 0) ≡ i
+  pub id : m (row x rowId) ≡ i
   pub body : BodyIs m x b
 
 -- it does so where the rows stay
@@ -72,13 +74,13 @@ module _ (sh : Shape) (m : Mem) (s : State) (r : Represents sh m s) (f : Fits s)
 
 -- a row that it finds is one of the ranks
 link-some : (m : Mem) (id c : ℕ) → c ≤ 256 → (f i n x : ℕ) → n ≤ f → ((j : ℕ) → j < i + n → m (index j) < c) → linkFrom m id f i n ≡ suc x
-    → (j : ℕ) × (j < i + n) × (m (index j) ≡ x) × (m (row x 0) ≡ id)
+    → (j : ℕ) × (j < i + n) × (m (index j) ≡ x) × (m (row x rowId) ≡ id)
 link-some m id c few zero i n x l low e = absurd (omega arith)
 link-some m id c few (suc f) i zero x l low e = absurd (omega arith)
 link-some m id c few (suc f) i (suc n) x l low e = bool (eqb (idAt m (i + suc n / 2)) id)
     (λ q. let d : up (m (index (i + suc n / 2))) ≡ suc x = rw q at e in
     let z : m (index (i + suc n / 2)) ≡ x = omega (arith, low (i + suc n / 2) (omega arith)) in
-    (i + suc n / 2, omega arith, z, ap (λ (y : ℕ). m (row y 0)) (sym z) ∙ eqb-true (idAt m (i + suc n / 2)) id q))
+    (i + suc n / 2, omega arith, z, ap (λ (y : ℕ). m (row y rowId)) (sym z) ∙ eqb-true (idAt m (i + suc n / 2)) id q))
     (λ q. bool (ltb (idAt m (i + suc n / 2)) id)
     (λ g. let p = link-some m id c few f (i + suc n / 2 + 1) (suc n - suc n / 2 - 1) x (omega arith) (λ j h. low j (omega arith)) (rw (q, g) at e) in
     (p .0, omega (arith, p .1), p .2, p .3))
@@ -124,7 +126,7 @@ module _ (sh : Shape) (m : Mem) (s : State) (r : Represents sh m s) (f : Fits s)
       omega (arith, u, v, ids-rise 1 (s .book .next) (s .book .rows) j k (a .0) (b .0) (f .rise) (a .1) (b .1) l)
 
   -- THE ROW that the search finds
-  pub row-found : sh .rows ≤ 256 → (i x : ℕ) → rowLink m sh i ≡ suc x → (b : Body) × (find i (s .book .rows) ≡ some b) × RowAt m s x i b
+  pub row-found : sh .rows ≤ rowsMax → (i x : ℕ) → rowLink m sh i ≡ suc x → (b : Body) × (find i (s .book .rows) ≡ some b) × RowAt m s x i b
   unfolding rowLink
   row-found few i x e =
       let low : (j : ℕ) → j < 0 + usedOf m sh → m (index j) < sh .rows = λ j h. let p = r .book .places j (omega (arith, r .capacity)) .0 in omega (arith, r .capacity) in
@@ -133,7 +135,7 @@ module _ (sh : Shape) (m : Mem) (s : State) (r : Represents sh m s) (f : Fits s)
       let under : j < length (s .book .rows) = omega (arith, p .1, used-is sh m s r f) in
       let q = nth-some (s .book .rows) j under in
       let w = row-of m (s .book .rows) (r .book .rows) j (q .0) (q .1) in
-      let id : q .0 .id ≡ i = sym (w .0) ∙ ap (λ (z : ℕ). m (row z 0)) (p .2) ∙ p .3 in
+      let id : q .0 .id ≡ i = sym (w .0) ∙ ap (λ (z : ℕ). m (row z rowId)) (p .2) ∙ p .3 in
       let a : RowAt m s x i (q .0 .body) = rw (p .2) at (row-at sh m s r f j i (q .0 .body) (q .1 ∙ ap some (row-parts (q .0) i id))) in
       (q .0 .body, at-find sh m s r f x i (q .0 .body) a, a)
 
@@ -149,7 +151,7 @@ module _ (sh : Shape) (m : Mem) (s : State) (r : Represents sh m s) (f : Fits s)
           absurd (link-none m i (usedOf m sh) 0 (usedOf m sh) (omega arith) rising e (p .0) (omega arith) (omega (arith, used-is sh m s r f, nth-below (s .book .rows) (p .0) (record { id = i; body = b }) (p .1))) (a .id))
 
   -- no row of the kind: none with the id, or one that word 1 tells from it
-  pub kind-none : sh .rows ≤ 256 → (what i : ℕ) (P : Option Body → Type 0) → P none → ((x : ℕ) (b : Body) → BodyIs m x b → (m (row x 1) ≡ what → ⊥) → P (some b))
+  pub kind-none : sh .rows ≤ rowsMax → (what i : ℕ) (P : Option Body → Type 0) → P none → ((x : ℕ) (b : Body) → BodyIs m x b → (m (row x rowKind) ≡ what → ⊥) → P (some b))
       → kindLink what m sh i ≡ 0 → P (find i (s .book .rows))
   unfolding kindLink
   kind-none few what i P p q e = go (rowLink m sh i) refl e
@@ -159,14 +161,14 @@ module _ (sh : Shape) (m : Mem) (s : State) (r : Represents sh m s) (f : Fits s)
       go (suc x) z d =
           let g = row-found few i x z in
           let y : rowLink m sh i - 1 ≡ x = omega arith in
-          rw (g .1) (q x (g .0) (g .2 .body) (λ k. let n : rowLink m sh i ≡ 0 = rw (y, eq-eqb (m (row x 1)) what k) at d in omega arith))
+          rw (g .1) (q x (g .0) (g .2 .body) (λ k. let n : rowLink m sh i ≡ 0 = rw (y, eq-eqb (m (row x rowKind)) what k) at d in omega arith))
 
   -- the row of the kind
-  pub kind-some : sh .rows ≤ 256 → (what i x : ℕ) → kindLink what m sh i ≡ suc x → (b : Body) × (find i (s .book .rows) ≡ some b) × RowAt m s x i b × (m (row x 1) ≡ what)
+  pub kind-some : sh .rows ≤ rowsMax → (what i x : ℕ) → kindLink what m sh i ≡ suc x → (b : Body) × (find i (s .book .rows) ≡ some b) × RowAt m s x i b × (m (row x rowKind) ≡ what)
   unfolding kindLink
-  kind-some few what i x e = bool (eqb (m (row (rowLink m sh i - 1) 1)) what)
+  kind-some few what i x e = bool (eqb (m (row (rowLink m sh i - 1) rowKind)) what)
       (λ q. let l : rowLink m sh i ≡ suc x = rw q at e in
       let g = row-found few i x l in
       let y : rowLink m sh i - 1 ≡ x = omega arith in
-      (g .0, g .1, g .2, ap (λ (v : ℕ). m (row v 1)) (sym y) ∙ eqb-true (m (row (rowLink m sh i - 1) 1)) what q))
+      (g .0, g .1, g .2, ap (λ (v : ℕ). m (row v rowKind)) (sym y) ∙ eqb-true (m (row (rowLink m sh i - 1) rowKind)) what q))
       (λ q. let l : 0 ≡ suc x = rw q at e in absurd (omega arith))

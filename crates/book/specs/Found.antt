@@ -9,17 +9,19 @@ use Rattle.model.specs.Book.{find}
 use Rattle.model.specs.Decision.{Decision, Decision.refusal, asReservation, reservationRow_of_refuse_then_}
 use Rattle.layout.specs.declared.Shape.{Shape}
 use Rattle.layout.specs.Layout.{Mem, row, load}
+use Rattle.layout.specs.Fields.{rowKind}
+use Rattle.layout.specs.Values.{kindReservation}
 use Rattle.representation.specs.Represents.{BodyIs, Rep}
 use Rattle.book.specs.Find.{fits-of, RowAt, kind-none, kind-some}
 use Rattle.book.specs.Ops.{reservationLink}
 
--- word 1 of a row tells a reservation
-a-reservation : (m : Mem) (x : ℕ) (y : Body) → BodyIs m x y → m (row x 1) ≡ 1 → (b : ℕ) × (ks : List ℕ) × (y ≡ reservation b ks)
+-- a row's kind tells a reservation
+a-reservation : (m : Mem) (x : ℕ) (y : Body) → BodyIs m x y → m (row x rowKind) ≡ kindReservation → (b : ℕ) × (ks : List ℕ) × (y ≡ reservation b ks)
 a-reservation m x (reservation b ks) p e = (b, ks, refl)
 a-reservation m x (claim b es) p e = absurd (omega (arith, p .0))
 a-reservation m x (parcel hs) p e = absurd (omega (arith, p .0))
 
-no-reservation : (m : Mem) (x : ℕ) (y : Body) → BodyIs m x y → (m (row x 1) ≡ 1 → ⊥) → (f : ℕ → List ℕ → Decision) → asReservation (some y) 18 f ≡ refusal 18
+no-reservation : (m : Mem) (x : ℕ) (y : Body) → BodyIs m x y → (m (row x rowKind) ≡ kindReservation → ⊥) → (f : ℕ → List ℕ → Decision) → asReservation (some y) 18 f ≡ refusal 18
 no-reservation m x (reservation b ks) p e f = absurd (e (p .0))
 no-reservation m x (claim b es) p e f = refl
 no-reservation m x (parcel hs) p e f = refl

@@ -15,6 +15,8 @@ use Rattle.model.specs.Book.{addRow, spendId}
 use Rattle.invariant.specs.BookLemmas.{length-add}
 use Rattle.layout.specs.declared.Shape.{Shape}
 use Rattle.layout.specs.Layout.{Addr, Mem, root, index, rank, row, item, load, load-save, in-root, in-row, upds, Write.at, load-writes}
+use Rattle.layout.specs.Fields.{rootNextId, rootUsedRows, slotTag, slotPlace, slotPosition, rowId, rowKind, rowTable, rowLength, itemSlot}
+use Rattle.layout.specs.Values.{kindReservation, kindClaim, kindParcel}
 use Rattle.representation.specs.Represents.{slotWord, HandleIs, EntryIs, Items, BodyIs, Represents}
 use Rattle.storage.specs.Order.{same?}
 use Rattle.storage.specs.Ops.{up}
@@ -29,11 +31,11 @@ use Rattle.book.specs.Swap.{mark-words, mark-kept}
 
 -- the words of a row to be, and its items, which stand in place x already
 abbrev pub Opens : Mem → ℕ → ℕ → ℕ → ℕ → Body → Type 0
-Opens m x what b n (reservation c ks) = (what ≡ 1) × (b ≡ c) × (n ≡ length ks) × Items (λ j k. m (item x j 0) ≡ k) 0 ks
-Opens m x what b n (claim c es) = (what ≡ 2) × (b ≡ c) × (n ≡ length es) × Items (EntryIs m x) 0 es
-Opens m x what b n (parcel hs) = (what ≡ 3) × (n ≡ length hs) × Items (HandleIs m x) 0 hs
+Opens m x what b n (reservation c ks) = (what ≡ kindReservation) × (b ≡ c) × (n ≡ length ks) × Items (λ j k. m (item x j itemSlot) ≡ k) 0 ks
+Opens m x what b n (claim c es) = (what ≡ kindClaim) × (b ≡ c) × (n ≡ length es) × Items (EntryIs m x) 0 es
+Opens m x what b n (parcel hs) = (what ≡ kindParcel) × (n ≡ length hs) × Items (HandleIs m x) 0 hs
 
-opens-body : (m n : Mem) (x what b c : ℕ) (y : Body) → ((j f : ℕ) → n (item x j f) ≡ m (item x j f)) → n (row x 1) ≡ what → n (row x 2) ≡ b → n (row x 3) ≡ c
+opens-body : (m n : Mem) (x what b c : ℕ) (y : Body) → ((j f : ℕ) → n (item x j f) ≡ m (item x j f)) → n (row x rowKind) ≡ what → n (row x rowTable) ≡ b → n (row x rowLength) ≡ c
     → Opens m x what b c y → BodyIs n x y
 opens-body m n x what b c (reservation t ks) its e₁ e₂ e₃ p = (e₁ ∙ p .0, e₂ ∙ p .1, e₃ ∙ p .2, slots-kept m n x its 0 ks (p .3))
 opens-body m n x what b c (claim t es) its e₁ e₂ e₃ p = (e₁ ∙ p .0, e₂ ∙ p .1, e₃ ∙ p .2, entries-kept m n x its 0 es (p .3))
@@ -59,7 +61,7 @@ module _ (ws : List ℕ) (sh : Shape) (s : State) (h : Held ws sh s) (free : len
   unfolding openW openP
   shows = let l : spare (load ws sh) < sh .rows = omega (arith, low, r .capacity) in
       load-writes ws sh (h .reps .shaped .room) (openP (load ws sh) what b c)
-      (in-row sh x 0 l (omega arith), (in-row sh x 1 l (omega arith), (in-row sh x 2 l (omega arith), (in-row sh x 3 l (omega arith), (in-root sh 6 (omega arith), (in-root sh 5 (omega arith), tt))))))
+      (in-row sh x rowId l (omega arith), (in-row sh x rowKind l (omega arith), (in-row sh x rowTable l (omega arith), (in-row sh x rowLength l (omega arith), (in-root sh rootUsedRows (omega arith), (in-root sh rootNextId (omega arith), tt))))))
 
   sees : (a : Addr) → load (openW ws sh what b c) sh a ≡ upds (load ws sh) (openP (load ws sh) what b c) a
   sees a = ap (λ (k : Mem). k a) shows
@@ -86,29 +88,29 @@ module _ (ws : List ℕ) (sh : Shape) (s : State) (h : Held ws sh s) (free : len
   unfolding openP
   row-off z ne f = sees (row z f) ∙ rw (ne-eqb z (spare (load ws sh)) ne, and-false (eqb f 0), and-false (eqb f 1), and-false (eqb f 2), and-false (eqb f 3))
 
-  row-0 : load (openW ws sh what b c) sh (row (spare (load ws sh)) 0) ≡ load ws sh (root 5)
+  row-0 : load (openW ws sh what b c) sh (row (spare (load ws sh)) rowId) ≡ load ws sh (root rootNextId)
   unfolding openP
-  row-0 = sees (row x 0) ∙ rw (eq-eqb (spare (load ws sh)) (spare (load ws sh)) refl)
+  row-0 = sees (row x rowId) ∙ rw (eq-eqb (spare (load ws sh)) (spare (load ws sh)) refl)
 
-  row-1 : load (openW ws sh what b c) sh (row (spare (load ws sh)) 1) ≡ what
+  row-1 : load (openW ws sh what b c) sh (row (spare (load ws sh)) rowKind) ≡ what
   unfolding openP
-  row-1 = sees (row x 1) ∙ rw (eq-eqb (spare (load ws sh)) (spare (load ws sh)) refl)
+  row-1 = sees (row x rowKind) ∙ rw (eq-eqb (spare (load ws sh)) (spare (load ws sh)) refl)
 
-  row-2 : load (openW ws sh what b c) sh (row (spare (load ws sh)) 2) ≡ b
+  row-2 : load (openW ws sh what b c) sh (row (spare (load ws sh)) rowTable) ≡ b
   unfolding openP
-  row-2 = sees (row x 2) ∙ rw (eq-eqb (spare (load ws sh)) (spare (load ws sh)) refl)
+  row-2 = sees (row x rowTable) ∙ rw (eq-eqb (spare (load ws sh)) (spare (load ws sh)) refl)
 
-  row-3 : load (openW ws sh what b c) sh (row (spare (load ws sh)) 3) ≡ c
+  row-3 : load (openW ws sh what b c) sh (row (spare (load ws sh)) rowLength) ≡ c
   unfolding openP
-  row-3 = sees (row x 3) ∙ rw (eq-eqb (spare (load ws sh)) (spare (load ws sh)) refl)
+  row-3 = sees (row x rowLength) ∙ rw (eq-eqb (spare (load ws sh)) (spare (load ws sh)) refl)
 
-  root-6 : load (openW ws sh what b c) sh (root 6) ≡ up (load ws sh (root 6))
+  root-6 : load (openW ws sh what b c) sh (root rootUsedRows) ≡ up (load ws sh (root rootUsedRows))
   unfolding openP
-  root-6 = sees (root 6)
+  root-6 = sees (root rootUsedRows)
 
-  root-5 : load (openW ws sh what b c) sh (root 5) ≡ up (load ws sh (root 5))
+  root-5 : load (openW ws sh what b c) sh (root rootNextId) ≡ up (load ws sh (root rootNextId))
   unfolding openP
-  root-5 = sees (root 5)
+  root-5 = sees (root rootNextId)
 
   -- a place in use is another
   apart : (z : ℕ) → load ws sh (rank z) < length (s .book .rows) → z ≡ spare (load ws sh) → ⊥
@@ -141,18 +143,18 @@ module _ (ws : List ℕ) (sh : Shape) (s : State) (h : Held ws sh s) (free : len
         let o = slot-kept (load ws sh) (load (openW ws sh what b c) sh) (books .only) in
         let few = h .reps .shaped .limits .few-rows in
         book-held ws (openW ws sh what b c) sh s (addRow y s .book) h books refl
-        (λ d l k mk. row-off (slotWord (load ws sh) d k 2) (apart (slotWord (load ws sh) d k 2) (r .book .marks d k l mk .1)) 0)
+        (λ d l k mk. row-off (slotWord (load ws sh) d k slotPlace) (apart (slotWord (load ws sh) d k slotPlace) (r .book .marks d k l mk .1)) 0)
         (record {
           next = root-5 ∙ ap up (r .book .next) ∙ omega arith;
           used = root-6 ∙ ap up (r .book .used) ∙ omega (arith, more, r .capacity);
           rows = rows-all (load (openW ws sh what b c) sh) rs (opened-row y p);
           places = λ j l. rw (index-same j) (r .book .places j l .0, rank-same (load ws sh (index j)) ∙ r .book .places j l .1);
           marks = λ d k l mk. let w = r .book .marks d k l mk in
-              let z : ℕ = slotWord (load ws sh) d k 2 in
+              let z : ℕ = slotWord (load ws sh) d k slotPlace in
               let ne = apart z (w .1) in
-              mark-words (load (openW ws sh what b c) sh) (s .book .capacity) (length rs) d k (slotWord (load ws sh) d k 0) (slotWord (load ws sh) d k 2) (slotWord (load ws sh) d k 3)
-              (slotWord (load (openW ws sh what b c) sh) d k 0) (slotWord (load (openW ws sh what b c) sh) d k 2) (slotWord (load (openW ws sh what b c) sh) d k 3) (o d k 0) (o d k 2) (o d k 3)
-              (mark-kept (load ws sh) (load (openW ws sh what b c) sh) (s .book .capacity) (length (s .book .rows)) (length rs) d k (slotWord (load ws sh) d k 0) (slotWord (load ws sh) d k 2) (slotWord (load ws sh) d k 3)
+              mark-words (load (openW ws sh what b c) sh) (s .book .capacity) (length rs) d k (slotWord (load ws sh) d k slotTag) (slotWord (load ws sh) d k slotPlace) (slotWord (load ws sh) d k slotPosition)
+              (slotWord (load (openW ws sh what b c) sh) d k slotTag) (slotWord (load (openW ws sh what b c) sh) d k slotPlace) (slotWord (load (openW ws sh what b c) sh) d k slotPosition) (o d k 0) (o d k 2) (o d k 3)
+              (mark-kept (load ws sh) (load (openW ws sh what b c) sh) (s .book .capacity) (length (s .book .rows)) (length rs) d k (slotWord (load ws sh) d k slotTag) (slotWord (load ws sh) d k slotPlace) (slotWord (load ws sh) d k slotPosition)
               (let e = rank-same z in omega (arith, w .1, more)) (row-off z ne) (item-same z) w);
         })
 
@@ -175,30 +177,30 @@ module _ (ws : List ℕ) (sh : Shape) (s : State) (h : Held ws sh s) (free : len
 module _ (ws : List ℕ) (sh : Shape) (s : State) (h : Held ws sh s) where
   spend-books : Books ws (spendW ws sh) sh
   unfolding spendW
-  spend-books = books-save ws sh (h .reps .shaped .room) (root 5) (up (load ws sh (root 5))) (inl (refl, inl refl))
+  spend-books = books-save ws sh (h .reps .shaped .room) (root rootNextId) (up (load ws sh (root rootNextId))) (inl (refl, inl refl))
 
-  spend-sees : (a : Addr) → load (spendW ws sh) sh a ≡ upds (load ws sh) (at (root 5) (up (load ws sh (root 5))) ∷ []) a
+  spend-sees : (a : Addr) → load (spendW ws sh) sh a ≡ upds (load ws sh) (at (root rootNextId) (up (load ws sh (root rootNextId))) ∷ []) a
   unfolding spendW
-  spend-sees a = load-save ws sh (h .reps .shaped .room) (root 5) (up (load ws sh (root 5))) (in-root sh 5 (omega arith)) a
+  spend-sees a = load-save ws sh (h .reps .shaped .room) (root rootNextId) (up (load ws sh (root rootNextId))) (in-root sh rootNextId (omega arith)) a
 
   pub spend-held : s .book .next + 1 < 2 ^ 64 → Held (spendW ws sh) sh (spendId s)
   spend-held left =
       let q = h .reps .memory .book in
       let o = slot-kept (load ws sh) (load (spendW ws sh) sh) (spend-books .only) in
       book-held ws (spendW ws sh) sh s (spendId s .book) h spend-books refl
-      (λ d l k mk. spend-sees (row (slotWord (load ws sh) d k 2) 0))
+      (λ d l k mk. spend-sees (row (slotWord (load ws sh) d k slotPlace) rowId))
       (record {
-        next = spend-sees (root 5) ∙ ap up (q .next) ∙ omega arith;
-        used = spend-sees (root 6) ∙ q .used;
+        next = spend-sees (root rootNextId) ∙ ap up (q .next) ∙ omega arith;
+        used = spend-sees (root rootUsedRows) ∙ q .used;
         rows = rows-all (load (spendW ws sh) sh) (s .book .rows) (λ j y e. let w = row-of (load ws sh) (s .book .rows) (q .rows) j y e in
             rw (spend-sees (index j)) (
-              spend-sees (row (load ws sh (index j)) 0) ∙ w .0,
+              spend-sees (row (load ws sh (index j)) rowId) ∙ w .0,
               body-kept (load ws sh) (load (spendW ws sh) sh) (load ws sh (index j)) (λ i f. spend-sees (item (load ws sh (index j)) i f)) (λ f. spend-sees (row (load ws sh (index j)) f)) (y .body) (w .1),
             ));
         places = λ j l. rw (spend-sees (index j)) (q .places j l .0, spend-sees (rank (load ws sh (index j))) ∙ q .places j l .1);
-        marks = λ d k l mk. let w = q .marks d k l mk in let z : ℕ = slotWord (load ws sh) d k 2 in
-            mark-words (load (spendW ws sh) sh) (s .book .capacity) (length (s .book .rows)) d k (slotWord (load ws sh) d k 0) (slotWord (load ws sh) d k 2) (slotWord (load ws sh) d k 3)
-            (slotWord (load (spendW ws sh) sh) d k 0) (slotWord (load (spendW ws sh) sh) d k 2) (slotWord (load (spendW ws sh) sh) d k 3) (o d k 0) (o d k 2) (o d k 3)
-            (mark-kept (load ws sh) (load (spendW ws sh) sh) (s .book .capacity) (length (s .book .rows)) (length (s .book .rows)) d k (slotWord (load ws sh) d k 0) (slotWord (load ws sh) d k 2) (slotWord (load ws sh) d k 3)
+        marks = λ d k l mk. let w = q .marks d k l mk in let z : ℕ = slotWord (load ws sh) d k slotPlace in
+            mark-words (load (spendW ws sh) sh) (s .book .capacity) (length (s .book .rows)) d k (slotWord (load ws sh) d k slotTag) (slotWord (load ws sh) d k slotPlace) (slotWord (load ws sh) d k slotPosition)
+            (slotWord (load (spendW ws sh) sh) d k slotTag) (slotWord (load (spendW ws sh) sh) d k slotPlace) (slotWord (load (spendW ws sh) sh) d k slotPosition) (o d k 0) (o d k 2) (o d k 3)
+            (mark-kept (load ws sh) (load (spendW ws sh) sh) (s .book .capacity) (length (s .book .rows)) (length (s .book .rows)) d k (slotWord (load ws sh) d k slotTag) (slotWord (load ws sh) d k slotPlace) (slotWord (load ws sh) d k slotPosition)
             (rw (spend-sees (rank z)) (w .1)) (λ f. spend-sees (row z f)) (λ j f. spend-sees (item z j f)) w);
       })

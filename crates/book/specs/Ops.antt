@@ -10,11 +10,13 @@ use Rattle.words.specs.Pick.{pick, bool}
 use Rattle.model.specs.State.{lastId}
 use Rattle.layout.specs.declared.Shape.{Shape}
 use Rattle.layout.specs.Layout.{Addr.reg, Mem, total, root, index, rank, row, item, load, save, same, same-is, isIn, length-save, load-save-any, Write, Write.at, writes}
+use Rattle.layout.specs.Fields.{rootNextId, rootUsedRows, rowId, rowKind, rowTable, rowLength, itemSlot, itemObject, itemRights, itemFlags}
+use Rattle.layout.specs.Values.{kindReservation}
 use Rattle.storage.specs.Ops.{up, vacateW}
 
 -- the id of the row of rank i
 abbrev pub idAt : Mem → ℕ → ℕ
-idAt m i = m (row (m (index i)) 0)
+idAt m i = m (row (m (index i)) rowId)
 
 -- the row in use with an id, among n ranks from i on: its place plus 1, 0 if there is none; each look leaves at most half of the ranks. The fuel is at least n
 abbrev pub linkFrom : Mem → ℕ → ℕ → ℕ → ℕ → ℕ
@@ -26,40 +28,40 @@ linkFrom m id (suc fuel) i (suc n) =
 
 -- how many rows are in use, at most those that there are
 abbrev pub usedOf : Mem → Shape → ℕ
-usedOf m sh = min (m (root 6)) (sh .rows)
+usedOf m sh = min (m (root rootUsedRows)) (sh .rows)
 
 unfoldable pub rowLink : Mem → Shape → ℕ → ℕ
 rowLink m sh id = linkFrom m id (usedOf m sh) 0 (usedOf m sh)
 
--- if word 1 of that row says what it is; 1 is a reservation, 2 a claim, 3 a parcel
+-- if that row is of a kind
 unfoldable pub kindLink : ℕ → Mem → Shape → ℕ → ℕ
-kindLink what m sh id = pick (eqb (m (row (rowLink m sh id - 1) 1)) what) (rowLink m sh id) 0
+kindLink what m sh id = pick (eqb (m (row (rowLink m sh id - 1) rowKind)) what) (rowLink m sh id) 0
 
 -- the open reservation with an id: its place plus 1, 0 if there is none
 abbrev pub reservationLink : Mem → Shape → ℕ → ℕ
-reservationLink = kindLink 1
+reservationLink = kindLink kindReservation
 
 -- "Allocation": a row is left
 abbrev pub rowLeft : Mem → Shape → Bool
-rowLeft m sh = ltb (m (root 6)) (sh .rows)
+rowLeft m sh = ltb (m (root rootUsedRows)) (sh .rows)
 
 -- "ReservationIdExhausted: next id is 2^64 - 1": 12, else 0
 abbrev pub idRefusal : Mem → ℕ
-idRefusal m = pick (eqb (m (root 5)) lastId) 12 0
+idRefusal m = pick (eqb (m (root rootNextId)) lastId) 12 0
 
 -- the place of the next row: that of the first rank out of use
 abbrev pub spare : Mem → ℕ
-spare m = m (index (m (root 6)))
+spare m = m (index (m (root rootUsedRows)))
 
 -- a row opens there, under the next id: what it is, its table and its count
 unfoldable pub openP : Mem → ℕ → ℕ → ℕ → List Write
 openP m what b n =
-    at (row (spare m) 0) (m (root 5))
-    ∷ at (row (spare m) 1) what
-    ∷ at (row (spare m) 2) b
-    ∷ at (row (spare m) 3) n
-    ∷ at (root 6) (up (m (root 6)))
-    ∷ at (root 5) (up (m (root 5)))
+    at (row (spare m) rowId) (m (root rootNextId))
+    ∷ at (row (spare m) rowKind) what
+    ∷ at (row (spare m) rowTable) b
+    ∷ at (row (spare m) rowLength) n
+    ∷ at (root rootUsedRows) (up (m (root rootUsedRows)))
+    ∷ at (root rootNextId) (up (m (root rootNextId)))
     ∷ []
 
 unfoldable pub openW : List ℕ → Shape → ℕ → ℕ → ℕ → List ℕ
@@ -67,7 +69,7 @@ openW ws sh what b n = writes ws sh (openP (load ws sh) what b n)
 
 -- a handle into item j of the row in place x
 unfoldable pub handleW : List ℕ → Shape → ℕ → ℕ → ℕ → ℕ → ℕ → List ℕ
-handleW ws sh x j object rights flags = writes ws sh (at (item x j 2) object ∷ at (item x j 3) rights ∷ at (item x j 4) flags ∷ [])
+handleW ws sh x j object rights flags = writes ws sh (at (item x j itemObject) object ∷ at (item x j itemRights) rights ∷ at (item x j itemFlags) flags ∷ [])
 
 -- the row of rank i + 1 comes to rank i
 abbrev pub shiftP : Mem → ℕ → List Write
@@ -86,20 +88,20 @@ lastOf m sh = usedOf m sh - 1
 unfoldable pub closeW : List ℕ → Shape → ℕ → List ℕ
 closeW ws sh x =
     let m : Mem = load ws sh in
-    writes (shiftW ws sh (m (rank x)) (lastOf m sh - m (rank x))) sh (at (index (lastOf m sh)) x ∷ at (rank x) (lastOf m sh) ∷ at (root 6) (lastOf m sh) ∷ [])
+    writes (shiftW ws sh (m (rank x)) (lastOf m sh - m (rank x))) sh (at (index (lastOf m sh)) x ∷ at (rank x) (lastOf m sh) ∷ at (root rootUsedRows) (lastOf m sh) ∷ [])
 
 -- the row in place x has n items
 unfoldable pub shrinkW : List ℕ → Shape → ℕ → ℕ → List ℕ
-shrinkW ws sh x n = save ws sh (row x 3) n
+shrinkW ws sh x n = save ws sh (row x rowLength) n
 
 -- the slots that n items of the row in place x name, from item i on, fall vacant in table b
 unfoldable pub vacateItemsW : List ℕ → Shape → ℕ → ℕ → ℕ → ℕ → List ℕ
 vacateItemsW ws sh b x i zero = ws
-vacateItemsW ws sh b x i (suc n) = vacateW (vacateItemsW ws sh b x i n) sh b (load (vacateItemsW ws sh b x i n) sh (item x (i + n) 0))
+vacateItemsW ws sh b x i (suc n) = vacateW (vacateItemsW ws sh b x i n) sh b (load (vacateItemsW ws sh b x i n) sh (item x (i + n) itemSlot))
 
 -- an id is spent
 unfoldable pub spendW : List ℕ → Shape → List ℕ
-spendW ws sh = save ws sh (root 5) (up (load ws sh (root 5)))
+spendW ws sh = save ws sh (root rootNextId) (up (load ws sh (root rootNextId)))
 
 -- ---- stores into the row in place x and its items, and nowhere else
 
@@ -131,7 +133,7 @@ fills-item ws sh h x j f v = fill-one ws sh h x (suc j) f v
 pub fills-handle : (ws : List ℕ) (sh : Shape) → total sh ≤ length ws → (x j o r f : ℕ) → Fills ws (handleW ws sh x j o r f) sh x
 unfolding handleW
 fills-handle ws sh h x j o r f =
-    let ws₁ : List ℕ = save ws sh (item x j 2) o in let ws₂ : List ℕ = save ws₁ sh (item x j 3) r in
-    let l₁ = length-save ws sh (item x j 2) o in let l₂ = length-save ws₁ sh (item x j 3) r in
-    fills-then ws ws₁ (save ws₂ sh (item x j 4) f) sh x (fills-item ws sh h x j 2 o)
-    (fills-then ws₁ ws₂ (save ws₂ sh (item x j 4) f) sh x (fills-item ws₁ sh (omega (arith, l₁)) x j 3 r) (fills-item ws₂ sh (omega (arith, l₁, l₂)) x j 4 f))
+    let ws₁ : List ℕ = save ws sh (item x j itemObject) o in let ws₂ : List ℕ = save ws₁ sh (item x j itemRights) r in
+    let l₁ = length-save ws sh (item x j itemObject) o in let l₂ = length-save ws₁ sh (item x j itemRights) r in
+    fills-then ws ws₁ (save ws₂ sh (item x j itemFlags) f) sh x (fills-item ws sh h x j 2 o)
+    (fills-then ws₁ ws₂ (save ws₂ sh (item x j itemFlags) f) sh x (fills-item ws₁ sh (omega (arith, l₁)) x j 3 r) (fills-item ws₂ sh (omega (arith, l₁, l₂)) x j 4 f))

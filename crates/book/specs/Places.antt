@@ -14,6 +14,7 @@ use Rattle.model.specs.State.{Row}
 use Rattle.model.specs.Counting.{bit-same, bit-other}
 use Rattle.model.specs.Tests.{some-same}
 use Rattle.layout.specs.Layout.{Mem, index, rank, row}
+use Rattle.layout.specs.Fields.{rowId}
 use Rattle.representation.specs.Represents.{Items, BodyIs, RowsAre}
 use Rattle.storage.specs.Order.{same?, NoDup, length-below}
 use Rattle.book.specs.Lists.{nothing}
@@ -76,7 +77,7 @@ rank-one m c p x y h i e = sym (ranked m c p x h .1) ∙ ap (λ (r : ℕ). m (in
 
 -- the row of rank i
 abbrev pub RowIs : Mem → ℕ → Row → Type 0
-RowIs m i r = (m (row (m (index i)) 0) ≡ r .id) × BodyIs m (m (index i)) (r .body)
+RowIs m i r = (m (row (m (index i)) rowId) ≡ r .id) × BodyIs m (m (index i)) (r .body)
 
 rows-at : (m : Mem) (i : ℕ) (rs : List Row) → RowsAre m i rs → (j : ℕ) (r : Row) → nth rs j ≡ some r → RowIs m (i + j) r
 rows-at m i [] p j r e = nothing r e

@@ -23,6 +23,7 @@ use Rattle.invariant.specs.Marks.{mark-busy}
 use Rattle.invariant.specs.Pointwise.{vacateAll-slots}
 use Rattle.layout.specs.declared.Shape.{Shape}
 use Rattle.layout.specs.Layout.{load}
+use Rattle.layout.specs.Fields.{slotPosition}
 use Rattle.representation.specs.Represents.{slotWord, isMarked}
 use Rattle.storage.specs.Reps.{Held}
 use Rattle.book.specs.Lists.{nth-drop, nth-occurs, occurs-drop}
@@ -79,10 +80,10 @@ module _ (ws : List ℕ) (sh : Shape) (s : State) (h : Held ws sh s) (w : WellFo
       = subst (λ (l : List ℕ). Follows (load ws sh) s (vacateItemsW ws sh b x n (length ks - n)) sh (withTable s b (vacateAll till l (s .tables b))) x i (reservation b ks)) e (vacated n (length ks - n) (omega arith)) in
       shrink-held (vacateItemsW ws sh b x n (length ks - n)) sh (withTable s b (vacateAll till (drop n ks) (s .tables b))) (p .held) (fits-table s b (vacateAll till (drop n ks) (s .tables b)) fits) x i b ks (p .row) n few
       (λ d k l mk y. let q = named (vacateItemsW ws sh b x n (length ks - n)) (withTable s b (vacateAll till (drop n ks) (s .tables b))) p d k l mk y in
-      bool (ltb (slotWord (load ws′ sh) d k 3) n)
-      (λ c. ltb-true (slotWord (load ws′ sh) d k 3) n c)
-      (λ c. let z : n + (slotWord (load ws′ sh) d k 3 - n) ≡ slotWord (load ws′ sh) d k 3 = omega (arith, ltb-false (slotWord (load ws′ sh) d k 3) n c) in
-      let o : 0 < occurs k (drop n ks) = nth-occurs (drop n ks) (slotWord (load ws′ sh) d k 3 - n) k (nth-drop n ks (slotWord (load ws′ sh) d k 3 - n) ∙ ap (nth ks) z ∙ q .1) in
+      bool (ltb (slotWord (load ws′ sh) d k slotPosition) n)
+      (λ c. ltb-true (slotWord (load ws′ sh) d k slotPosition) n c)
+      (λ c. let z : n + (slotWord (load ws′ sh) d k slotPosition - n) ≡ slotWord (load ws′ sh) d k slotPosition = omega (arith, ltb-false (slotWord (load ws′ sh) d k slotPosition) n c) in
+      let o : 0 < occurs k (drop n ks) = nth-occurs (drop n ks) (slotWord (load ws′ sh) d k slotPosition - n) k (nth-drop n ks (slotWord (load ws′ sh) d k slotPosition - n) ∙ ap (nth ks) z ∙ q .1) in
       let bare : isMarked (vacateAll till (drop n ks) (s .tables b) .slots k) ≡ false = vacated-bare (drop n ks) (s .tables b) k (omega (arith, occurs-drop n ks k, once k)) o in
       let mk′ : isMarked (withTable s b (vacateAll till (drop n ks) (s .tables b)) .tables b .slots k) ≡ true = ap (λ (v : ℕ). isMarked (withTable s b (vacateAll till (drop n ks) (s .tables b)) .tables v .slots k)) (sym (q .0)) ∙ mk in
       clash mk′ (ap (λ (t : Table). isMarked (t .slots k)) (with-table-at s b (vacateAll till (drop n ks) (s .tables b))) ∙ bare)))

@@ -11,6 +11,7 @@ use Rattle.model.specs.State.{Body.reservation, State}
 use Rattle.model.specs.Book.{swapRow}
 use Rattle.layout.specs.declared.Shape.{Shape}
 use Rattle.layout.specs.Layout.{Addr, row, item, load, in-row, load-save, upds, Write.at}
+use Rattle.layout.specs.Fields.{slotTag, slotPlace, slotPosition, rowId, rowKind, rowTable, rowLength, itemSlot, itemOperation}
 use Rattle.representation.specs.Represents.{slotWord, BodyIs, isMarked}
 use Rattle.storage.specs.Reps.{Held}
 use Rattle.book.specs.Lists.{nth-below, nth-take}
@@ -24,30 +25,30 @@ module _ (ws : List ℕ) (sh : Shape) (s : State) (h : Held ws sh s) (f : Fits s
   unfolding shrinkW
   fills = fills-row ws sh (h .reps .shaped .room) x 3 n
 
-  sees : (g : Addr) → load (shrinkW ws sh x n) sh g ≡ upds (load ws sh) (at (row x 3) n ∷ []) g
+  sees : (g : Addr) → load (shrinkW ws sh x n) sh g ≡ upds (load ws sh) (at (row x rowLength) n ∷ []) g
   unfolding shrinkW
-  sees g = load-save ws sh (h .reps .shaped .room) (row x 3) n (in-row sh x 3 (omega (arith, a .place, h .reps .memory .capacity)) (omega arith)) g
+  sees g = load-save ws sh (h .reps .shaped .room) (row x rowLength) n (in-row sh x rowLength (omega (arith, a .place, h .reps .memory .capacity)) (omega arith)) g
 
-  count : load (shrinkW ws sh x n) sh (row x 3) ≡ n
-  count = sees (row x 3) ∙ rw (eq-eqb x x refl)
+  count : load (shrinkW ws sh x n) sh (row x rowLength) ≡ n
+  count = sees (row x rowLength) ∙ rw (eq-eqb x x refl)
 
   body : BodyIs (load (shrinkW ws sh x n) sh) x (reservation b (take n ks))
   body = let long : length (take n ks) ≡ n = length-take-le n ks few in (
-    sees (row x 1) ∙ a .body .0,
-    sees (row x 2) ∙ a .body .1,
+    sees (row x rowKind) ∙ a .body .0,
+    sees (row x rowTable) ∙ a .body .1,
     count ∙ sym long,
-    items-all (λ j k. load (shrinkW ws sh x n) sh (item x j 0) ≡ k) (take n ks) (λ j k e.
+    items-all (λ j k. load (shrinkW ws sh x n) sh (item x j itemSlot) ≡ k) (take n ks) (λ j k e.
         let l : j < n = omega (arith, long, nth-below (take n ks) j k e) in
-        sees (item x j 0) ∙ item-of (λ j k. load ws sh (item x j 0) ≡ k) ks (a .body .3) j k (sym (nth-take n ks j l) ∙ e)),
+        sees (item x j itemSlot) ∙ item-of (λ j k. load ws sh (item x j itemSlot) ≡ k) ks (a .body .3) j k (sym (nth-take n ks j l) ∙ e)),
   )
 
   -- A RESERVATION SHRINKS: no marked slot names a later position of it
-  pub shrink-held : ((d k : ℕ) → d < s .tableCount → isMarked (s .tables d .slots k) ≡ true → slotWord (load ws sh) d k 2 ≡ x → slotWord (load ws sh) d k 3 < n)
+  pub shrink-held : ((d k : ℕ) → d < s .tableCount → isMarked (s .tables d .slots k) ≡ true → slotWord (load ws sh) d k slotPlace ≡ x → slotWord (load ws sh) d k slotPosition < n)
       → Held (shrinkW ws sh x n) sh (swapRow i (reservation b (take n ks)) s)
-  shrink-held under = swap-held ws (shrinkW ws sh x n) sh s h x fills f i (reservation b ks) (reservation b (take n ks)) a (sees (row x 0) ∙ a .id) body
+  shrink-held under = swap-held ws (shrinkW ws sh x n) sh s h x fills f i (reservation b ks) (reservation b (take n ks)) a (sees (row x rowId) ∙ a .id) body
       (λ d k l mk e. let w = h .reps .memory .book .marks d k l mk in (
         let q = under d k l mk e in omega (arith, count),
-        sees (row x 2) ∙ (rw e at (w .3)),
-        sees (item x (slotWord (load ws sh) d k 3) (slotWord (load ws sh) d k 0 - 1)) ∙ ap (λ (v : ℕ). load ws sh (item v (slotWord (load ws sh) d k 3) (slotWord (load ws sh) d k 0 - 1))) (sym e) ∙ w .4,
-        λ y. sees (item x (slotWord (load ws sh) d k 3) 0) ∙ ap (λ (v : ℕ). load ws sh (item v (slotWord (load ws sh) d k 3) 0)) (sym e) ∙ w .5 y,
+        sees (row x rowTable) ∙ (rw e at (w .3)),
+        sees (item x (slotWord (load ws sh) d k slotPosition) (slotWord (load ws sh) d k slotTag - 1)) ∙ ap (λ (v : ℕ). load ws sh (item v (slotWord (load ws sh) d k slotPosition) (slotWord (load ws sh) d k slotTag - 1))) (sym e) ∙ w .4,
+        λ y. sees (item x (slotWord (load ws sh) d k slotPosition) itemOperation) ∙ ap (λ (v : ℕ). load ws sh (item v (slotWord (load ws sh) d k slotPosition) itemOperation)) (sym e) ∙ w .5 y,
       ))

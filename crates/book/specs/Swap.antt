@@ -13,6 +13,8 @@ use Rattle.model.specs.Book.{swapId, swapRow}
 use Rattle.invariant.specs.BookLemmas.{length-swap}
 use Rattle.layout.specs.declared.Shape.{Shape}
 use Rattle.layout.specs.Layout.{Mem, root, index, rank, row, item, load}
+use Rattle.layout.specs.Fields.{slotTag, slotPlace, slotPosition, rowId, rowTable, rowLength, itemOperation}
+use Rattle.layout.specs.Values.{tagTransferReserved, operationMove}
 use Rattle.representation.specs.Represents.{slotWord, BodyIs, isMarked, Represents}
 use Rattle.storage.specs.Order.{same?}
 use Rattle.storage.specs.Kept.{body-kept}
@@ -23,9 +25,9 @@ use Rattle.book.specs.Whole.{Books, slot-kept, book-held}
 use Rattle.book.specs.Ops.{spare, Fills}
 use Rattle.book.specs.Find.{Fits, RowAt}
 
--- what the book says of a mark: words 0, 2 and 3 of the slot are t, x and j; MarkIs with the words as variables
+-- what the book says of a mark: the slot's tag, place and position are t, x and j; MarkIs with the words as variables
 abbrev pub MarkAt : Mem → ℕ → ℕ → ℕ → ℕ → ℕ → ℕ → ℕ → Type 0
-MarkAt m c l b k t x j = (x < c) × (m (rank x) < l) × (j < m (row x 3)) × (m (row x 2) ≡ b) × (m (item x j (t - 1)) ≡ k) × (t ≡ 2 → m (item x j 0) ≡ 0)
+MarkAt m c l b k t x j = (x < c) × (m (rank x) < l) × (j < m (row x rowLength)) × (m (row x rowTable) ≡ b) × (m (item x j (t - 1)) ≡ k) × (t ≡ 2 → m (item x j itemOperation) ≡ operationMove)
 
 pub mark-words : (m : Mem) (c l b k t x j t′ x′ j′ : ℕ) → t′ ≡ t → x′ ≡ x → j′ ≡ j → MarkAt m c l b k t x j → MarkAt m c l b k t′ x′ j′
 mark-words m c l b k t x j t′ x′ j′ e₀ e₂ e₃ p = rw (e₀, e₂, e₃) p
@@ -79,7 +81,7 @@ module _ (ws ws′ : List ℕ) (sh : Shape) (s : State) (h : Held ws sh s) (x : 
       let top : load ws sh (rank x) ≡ length (s .book .rows) = ap (λ (z : ℕ). load ws sh (rank z)) at ∙ r .book .places (length (s .book .rows)) free .1 in
       let apart : (z : ℕ) → load ws sh (rank z) < length (s .book .rows) → z ≡ x → ⊥ = λ z l q. let y : load ws sh (rank z) ≡ load ws sh (rank x) = ap (λ (v : ℕ). load ws sh (rank v)) q in omega arith in
       book-held ws ws′ sh s (s .book) h (fills-books ws ws′ sh x p) refl
-      (λ b l k mk. row-off (slotWord (load ws sh) b k 2) (apart (slotWord (load ws sh) b k 2) (r .book .marks b k l mk .1)) 0)
+      (λ b l k mk. row-off (slotWord (load ws sh) b k slotPlace) (apart (slotWord (load ws sh) b k slotPlace) (r .book .marks b k l mk .1)) 0)
       (record {
         next = root-same 5 ∙ r .book .next;
         used = root-same 6 ∙ r .book .used;
@@ -89,18 +91,18 @@ module _ (ws ws′ : List ℕ) (sh : Shape) (s : State) (h : Held ws sh s) (x : 
             (row-of (load ws sh) (s .book .rows) (r .book .rows) j q d));
         places = λ i l. rw (index-same i) (r .book .places i l .0, rank-same (load ws sh (index i)) ∙ r .book .places i l .1);
         marks = λ b k l mk. let w = r .book .marks b k l mk in
-            mark-words (load ws′ sh) (s .book .capacity) (length (s .book .rows)) b k (slotWord (load ws sh) b k 0) (slotWord (load ws sh) b k 2) (slotWord (load ws sh) b k 3)
-            (slotWord (load ws′ sh) b k 0) (slotWord (load ws′ sh) b k 2) (slotWord (load ws′ sh) b k 3) (slot-same b k 0) (slot-same b k 2) (slot-same b k 3)
-            (mark-off b k (slotWord (load ws sh) b k 0) (slotWord (load ws sh) b k 2) (slotWord (load ws sh) b k 3) (length (s .book .rows)) (apart (slotWord (load ws sh) b k 2) (w .1)) w);
+            mark-words (load ws′ sh) (s .book .capacity) (length (s .book .rows)) b k (slotWord (load ws sh) b k slotTag) (slotWord (load ws sh) b k slotPlace) (slotWord (load ws sh) b k slotPosition)
+            (slotWord (load ws′ sh) b k slotTag) (slotWord (load ws′ sh) b k slotPlace) (slotWord (load ws′ sh) b k slotPosition) (slot-same b k 0) (slot-same b k 2) (slot-same b k 3)
+            (mark-off b k (slotWord (load ws sh) b k slotTag) (slotWord (load ws sh) b k slotPlace) (slotWord (load ws sh) b k slotPosition) (length (s .book .rows)) (apart (slotWord (load ws sh) b k slotPlace) (w .1)) w);
       })
 
   -- the marks that name the row in place x, as its new words have them
   abbrev pub MarksIn : Type 0
-  MarksIn = (d k : ℕ) → d < s .tableCount → isMarked (s .tables d .slots k) ≡ true → slotWord (load ws sh) d k 2 ≡ x
-      → (slotWord (load ws sh) d k 3 < load ws′ sh (row x 3)) × (load ws′ sh (row x 2) ≡ d) × (load ws′ sh (item x (slotWord (load ws sh) d k 3) (slotWord (load ws sh) d k 0 - 1)) ≡ k)
-      × (slotWord (load ws sh) d k 0 ≡ 2 → load ws′ sh (item x (slotWord (load ws sh) d k 3) 0) ≡ 0)
+  MarksIn = (d k : ℕ) → d < s .tableCount → isMarked (s .tables d .slots k) ≡ true → slotWord (load ws sh) d k slotPlace ≡ x
+      → (slotWord (load ws sh) d k slotPosition < load ws′ sh (row x rowLength)) × (load ws′ sh (row x rowTable) ≡ d) × (load ws′ sh (item x (slotWord (load ws sh) d k slotPosition) (slotWord (load ws sh) d k slotTag - 1)) ≡ k)
+      × (slotWord (load ws sh) d k slotTag ≡ tagTransferReserved → load ws′ sh (item x (slotWord (load ws sh) d k slotPosition) itemOperation) ≡ operationMove)
 
-  module _ (f : Fits s) (i : ℕ) (b c : Body) (a : RowAt (load ws sh) s x i b) (id : load ws′ sh (row x 0) ≡ i) (body : BodyIs (load ws′ sh) x c) where
+  module _ (f : Fits s) (i : ℕ) (b c : Body) (a : RowAt (load ws sh) s x i b) (id : load ws′ sh (row x rowId) ≡ i) (body : BodyIs (load ws′ sh) x c) where
     swapped-row : (j : ℕ) (q : Row) → nth (swapId i c (s .book .rows)) j ≡ some q → RowIs (load ws′ sh) j q
     swapped-row j q e = ⊎-elim
         (λ (z : j ≡ load ws sh (rank x)).
@@ -121,23 +123,23 @@ module _ (ws ws′ : List ℕ) (sh : Shape) (s : State) (h : Held ws sh s) (x : 
     swap-held marked =
         book-held ws ws′ sh s (record { rows = swapId i c (s .book .rows); capacity = s .book .capacity; next = s .book .next }) h (fills-books ws ws′ sh x p) refl
         (λ d l k mk. ⊎-elim
-        (λ (z : slotWord (load ws sh) d k 2 ≡ x). rw z (id ∙ sym (a .id)))
-        (λ (z : slotWord (load ws sh) d k 2 ≡ x → ⊥). row-off (slotWord (load ws sh) d k 2) z 0)
-        (same? (slotWord (load ws sh) d k 2) x))
+        (λ (z : slotWord (load ws sh) d k slotPlace ≡ x). rw z (id ∙ sym (a .id)))
+        (λ (z : slotWord (load ws sh) d k slotPlace ≡ x → ⊥). row-off (slotWord (load ws sh) d k slotPlace) z 0)
+        (same? (slotWord (load ws sh) d k slotPlace) x))
         (record {
           next = root-same 5 ∙ r .book .next;
           used = root-same 6 ∙ r .book .used ∙ sym (length-swap i c (s .book .rows));
           rows = rows-all (load ws′ sh) (swapId i c (s .book .rows)) swapped-row;
           places = λ j l. rw (index-same j) (r .book .places j l .0, rank-same (load ws sh (index j)) ∙ r .book .places j l .1);
           marks = λ d k l mk. let w = r .book .marks d k l mk in
-              mark-words (load ws′ sh) (s .book .capacity) (length (swapId i c (s .book .rows))) d k (slotWord (load ws sh) d k 0) (slotWord (load ws sh) d k 2) (slotWord (load ws sh) d k 3)
-              (slotWord (load ws′ sh) d k 0) (slotWord (load ws′ sh) d k 2) (slotWord (load ws′ sh) d k 3) (slot-same d k 0) (slot-same d k 2) (slot-same d k 3)
+              mark-words (load ws′ sh) (s .book .capacity) (length (swapId i c (s .book .rows))) d k (slotWord (load ws sh) d k slotTag) (slotWord (load ws sh) d k slotPlace) (slotWord (load ws sh) d k slotPosition)
+              (slotWord (load ws′ sh) d k slotTag) (slotWord (load ws′ sh) d k slotPlace) (slotWord (load ws′ sh) d k slotPosition) (slot-same d k 0) (slot-same d k 2) (slot-same d k 3)
               (rw (length-swap i c (s .book .rows)) (⊎-elim
-              (λ (z : slotWord (load ws sh) d k 2 ≡ x). let g = marked d k l mk z in
-              mark-words (load ws′ sh) (s .book .capacity) (length (s .book .rows)) d k (slotWord (load ws sh) d k 0) x (slotWord (load ws sh) d k 3)
-              (slotWord (load ws sh) d k 0) (slotWord (load ws sh) d k 2) (slotWord (load ws sh) d k 3) refl z refl
+              (λ (z : slotWord (load ws sh) d k slotPlace ≡ x). let g = marked d k l mk z in
+              mark-words (load ws′ sh) (s .book .capacity) (length (s .book .rows)) d k (slotWord (load ws sh) d k slotTag) x (slotWord (load ws sh) d k slotPosition)
+              (slotWord (load ws sh) d k slotTag) (slotWord (load ws sh) d k slotPlace) (slotWord (load ws sh) d k slotPosition) refl z refl
               (a .place, rw (rank-same x) (a .used), g .0, g .1, g .2, g .3))
-              (λ (z : slotWord (load ws sh) d k 2 ≡ x → ⊥).
-              mark-off d k (slotWord (load ws sh) d k 0) (slotWord (load ws sh) d k 2) (slotWord (load ws sh) d k 3) (length (s .book .rows)) z w)
-              (same? (slotWord (load ws sh) d k 2) x)));
+              (λ (z : slotWord (load ws sh) d k slotPlace ≡ x → ⊥).
+              mark-off d k (slotWord (load ws sh) d k slotTag) (slotWord (load ws sh) d k slotPlace) (slotWord (load ws sh) d k slotPosition) (length (s .book .rows)) z w)
+              (same? (slotWord (load ws sh) d k slotPlace) x)));
         })

@@ -17,6 +17,7 @@ use Rattle.model.specs.Tests.{nth-some, put-put}
 use Rattle.invariant.specs.Pointwise.{vacateAll-out}
 use Rattle.layout.specs.declared.Shape.{Shape}
 use Rattle.layout.specs.Layout.{Mem, item, load}
+use Rattle.layout.specs.Fields.{itemSlot}
 use Rattle.storage.specs.Ops.{vacateW}
 use Rattle.storage.specs.Turns.{vacate-turns}
 use Rattle.storage.specs.Reps.{Held, ready-of, vacate-held}
@@ -95,9 +96,9 @@ module _ (ws : List ℕ) (sh : Shape) (s : State) (h : Held ws sh s) (x i b : �
   items-vacated (suc n) few = go (vacateItemsW ws sh b x from n) (nth-some ks (from + n) (omega arith)) (items-vacated n (omega arith))
     where
       go : (vs : List ℕ) → ((k : ℕ) × (nth ks (from + n) ≡ some k)) → After vs (vacateAll till (part from n ks) (s .tables b))
-          → After (vacateW vs sh b (load vs sh (item x (from + n) 0))) (vacateAll till (part from (suc n) ks) (s .tables b))
+          → After (vacateW vs sh b (load vs sh (item x (from + n) itemSlot))) (vacateAll till (part from (suc n) ks) (s .tables b))
       go vs q p =
-          let d : load vs sh (item x (from + n) 0) ≡ q .0 = item-of (λ j k. load vs sh (item x j 0) ≡ k) ks (p .row .body .3) (from + n) (q .0) (q .1) in
+          let d : load vs sh (item x (from + n) itemSlot) ≡ q .0 = item-of (λ j k. load vs sh (item x j itemSlot) ≡ k) ks (p .row .body .3) (from + n) (q .0) (q .1) in
           subst (λ (z : ℕ). After (vacateW vs sh b z) (vacateAll till (part from (suc n) ks) (s .tables b))) (sym d)
           (subst (λ (v : Table). After (vacateW vs sh b (q .0)) v) (part-more from n ks (s .tables b) (q .0) (q .1))
           (vacate-step (load ws sh) s vs sh s x i (reservation b ks) b (vacateAll till (part from n ks) (s .tables b)) p l (q .0)

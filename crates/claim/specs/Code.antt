@@ -8,6 +8,8 @@ use lib.Dec.{eqb}
 use Rattle.words.specs.Pick.{yes-is, no-is}
 use Rattle.layout.specs.declared.Shape.{Shape}
 use Rattle.layout.specs.Layout.{Mem, row, item, load, save, save-load}
+use Rattle.layout.specs.Fields.{rowKind, rowTable, rowLength, itemSlot, itemOperation, itemMoved, itemObject, itemRights, itemFlags, itemGranted}
+use Rattle.layout.specs.Values.{kindParcel, operationMove}
 use Rattle.storage.specs.Ops.{vacateW, occupyW}
 use Rattle.object.specs.Words.{lowerW}
 use Rattle.book.specs.Ops.{reservationLink, closeW}
@@ -31,12 +33,12 @@ module _ (f : List ℕ → ℕ → List ℕ) (ws : List ℕ) (n : ℕ) where
   each-end us j l inv = let z : n - j ≡ 0 = omega arith in sym (inv ∙ ap (each f us j) z)
 
 -- the test of an entry's operation
-moves : (m : Mem) (x j w : ℕ) (t : Bool) → w ≡ m (item x j 0) → t ≡ eqb w 0 → eqb (m (item x j 0)) 0 ≡ t
+moves : (m : Mem) (x j w : ℕ) (t : Bool) → w ≡ m (item x j itemOperation) → t ≡ eqb w 0 → eqb (m (item x j itemOperation)) operationMove ≡ t
 moves m x j w t e q = rw (q, e)
 
 -- `undo_entry`
-module _ (ws vs : List ℕ) (sh : Shape) (b x j o w : ℕ) (t : Bool) (e : o ≡ load ws sh (item x j 2)) (e₁ : w ≡ load ws sh (item x j 0)) (q : t ≡ eqb w 0) where
-  pub undo-move : (k r f : ℕ) → t ≡ true → k ≡ load ws sh (item x j 1) → r ≡ load ws sh (item x j 3) → f ≡ load ws sh (item x j 4) → vs ≡ occupyW ws sh b k o r f → vs ≡ undoW ws sh b x j
+module _ (ws vs : List ℕ) (sh : Shape) (b x j o w : ℕ) (t : Bool) (e : o ≡ load ws sh (item x j itemObject)) (e₁ : w ≡ load ws sh (item x j itemOperation)) (q : t ≡ eqb w 0) where
+  pub undo-move : (k r f : ℕ) → t ≡ true → k ≡ load ws sh (item x j itemMoved) → r ≡ load ws sh (item x j itemRights) → f ≡ load ws sh (item x j itemFlags) → vs ≡ occupyW ws sh b k o r f → vs ≡ undoW ws sh b x j
   unfolding undoW
   undo-move k r f y e₂ e₃ e₄ a = yes-is _ _ _ _ (moves (load ws sh) x j w t e₁ q ∙ y) (rw (a, e, e₂, e₃, e₄))
 
@@ -45,23 +47,23 @@ module _ (ws vs : List ℕ) (sh : Shape) (b x j o w : ℕ) (t : Bool) (e : o ≡
   undo-copy y a = no-is _ _ _ _ (moves (load ws sh) x j w t e₁ q ∙ y) (rw (a, e))
 
 -- `rollback_row`
-pub rolled-is : (ws w₁ w₂ : List ℕ) (sh : Shape) (x b n : ℕ) → b ≡ load ws sh (row x 2) → n ≡ load ws sh (row x 3) → w₁ ≡ undoneW ws sh b x n → w₂ ≡ closeW w₁ sh x → w₂ ≡ rolledW ws sh x
+pub rolled-is : (ws w₁ w₂ : List ℕ) (sh : Shape) (x b n : ℕ) → b ≡ load ws sh (row x rowTable) → n ≡ load ws sh (row x rowLength) → w₁ ≡ undoneW ws sh b x n → w₂ ≡ closeW w₁ sh x → w₂ ≡ rolledW ws sh x
 unfolding rolledW
 rolled-is ws w₁ w₂ sh x b n e₁ e₂ a₁ a₂ = rw (a₂, a₁, e₁, e₂)
 
 -- `sent_rights`
-module _ (m : Mem) (x j w : ℕ) (t : Bool) (e : w ≡ m (item x j 0)) (q : t ≡ eqb w 0) (r : ℕ) where
-  pub sent-move : t ≡ true → r ≡ m (item x j 5) → r ≡ sentRights m x j
+module _ (m : Mem) (x j w : ℕ) (t : Bool) (e : w ≡ m (item x j itemOperation)) (q : t ≡ eqb w 0) (r : ℕ) where
+  pub sent-move : t ≡ true → r ≡ m (item x j itemGranted) → r ≡ sentRights m x j
   unfolding sentRights
   sent-move y a = yes-is _ _ _ _ (moves m x j w t e q ∙ y) a
 
-  pub sent-copy : t ≡ false → r ≡ m (item x j 3) → r ≡ sentRights m x j
+  pub sent-copy : t ≡ false → r ≡ m (item x j itemRights) → r ≡ sentRights m x j
   unfolding sentRights
   sent-copy y a = no-is _ _ _ _ (moves m x j w t e q ∙ y) a
 
 -- `leave_entry`
-module _ (ws : List ℕ) (sh : Shape) (b x j w : ℕ) (t : Bool) (e : w ≡ load ws sh (item x j 0)) (q : t ≡ eqb w 0) where
-  pub leave-move : (vs : List ℕ) (k : ℕ) → t ≡ true → k ≡ load ws sh (item x j 1) → vs ≡ vacateW ws sh b k → vs ≡ leaveW ws sh b x j
+module _ (ws : List ℕ) (sh : Shape) (b x j w : ℕ) (t : Bool) (e : w ≡ load ws sh (item x j itemOperation)) (q : t ≡ eqb w 0) where
+  pub leave-move : (vs : List ℕ) (k : ℕ) → t ≡ true → k ≡ load ws sh (item x j itemMoved) → vs ≡ vacateW ws sh b k → vs ≡ leaveW ws sh b x j
   unfolding leaveW
   leave-move vs k y d a = yes-is _ _ _ _ (moves (load ws sh) x j w t e q ∙ y) (rw (a, d))
 
@@ -70,24 +72,24 @@ module _ (ws : List ℕ) (sh : Shape) (b x j w : ℕ) (t : Bool) (e : w ≡ load
   leave-copy y = no-is _ _ _ _ (moves (load ws sh) x j w t e q ∙ y) refl
 
 -- `send_entry`: of a copy it stores what stands there
-module _ (ws : List ℕ) (sh : Shape) (x j w : ℕ) (t : Bool) (e : w ≡ load ws sh (item x j 0)) (q : t ≡ eqb w 0) where
-  pub send-move : (vs : List ℕ) (r : ℕ) → t ≡ true → r ≡ load ws sh (item x j 5) → vs ≡ save ws sh (item x j 3) r → vs ≡ sendW ws sh x j
+module _ (ws : List ℕ) (sh : Shape) (x j w : ℕ) (t : Bool) (e : w ≡ load ws sh (item x j itemOperation)) (q : t ≡ eqb w 0) where
+  pub send-move : (vs : List ℕ) (r : ℕ) → t ≡ true → r ≡ load ws sh (item x j itemGranted) → vs ≡ save ws sh (item x j itemRights) r → vs ≡ sendW ws sh x j
   unfolding sendW
-  send-move vs r y d a = a ∙ ap (save ws sh (item x j 3)) (sent-move (load ws sh) x j w t e q r y d)
+  send-move vs r y d a = a ∙ ap (save ws sh (item x j itemRights)) (sent-move (load ws sh) x j w t e q r y d)
 
   pub send-copy : t ≡ false → ws ≡ sendW ws sh x j
   unfolding sendW
-  send-copy y = sym (save-load ws sh (item x j 3)) ∙ ap (save ws sh (item x j 3)) (sent-copy (load ws sh) x j w t e q (load ws sh (item x j 3)) y refl)
+  send-copy y = sym (save-load ws sh (item x j itemRights)) ∙ ap (save ws sh (item x j itemRights)) (sent-copy (load ws sh) x j w t e q (load ws sh (item x j itemRights)) y refl)
 
 -- `fill_slots`: a turn
-pub fill-is : (ws vs : List ℕ) (sh : Shape) (c y x j k o r f : ℕ) → k ≡ load ws sh (item y j 0) → o ≡ load ws sh (item x j 2) → r ≡ sentRights (load ws sh) x j → f ≡ load ws sh (item x j 4)
+pub fill-is : (ws vs : List ℕ) (sh : Shape) (c y x j k o r f : ℕ) → k ≡ load ws sh (item y j itemSlot) → o ≡ load ws sh (item x j itemObject) → r ≡ sentRights (load ws sh) x j → f ≡ load ws sh (item x j itemFlags)
     → vs ≡ occupyW ws sh c k o r f → vs ≡ fillW ws sh c y x j
 unfolding fillW
 fill-is ws vs sh c y x j k o r f e₁ e₂ e₃ e₄ a = rw (a, e₁, e₂, e₃, e₄)
 
 -- `commit_row`
-pub committed-is : (ws w₁ w₂ w₃ : List ℕ) (sh : Shape) (x b n : ℕ) → b ≡ load ws sh (row x 2) → n ≡ load ws sh (row x 3) → w₁ ≡ leftW ws sh b x n → w₂ ≡ sentW w₁ sh x n
-    → w₃ ≡ save w₂ sh (row x 1) 3 → w₃ ≡ committedW ws sh x
+pub committed-is : (ws w₁ w₂ w₃ : List ℕ) (sh : Shape) (x b n : ℕ) → b ≡ load ws sh (row x rowTable) → n ≡ load ws sh (row x rowLength) → w₁ ≡ leftW ws sh b x n → w₂ ≡ sentW w₁ sh x n
+    → w₃ ≡ save w₂ sh (row x rowKind) kindParcel → w₃ ≡ committedW ws sh x
 unfolding committedW
 committed-is ws w₁ w₂ w₃ sh x b n e₁ e₂ a₁ a₂ a₃ = rw (a₃, a₂, a₁, e₁, e₂)
 
@@ -102,12 +104,12 @@ module _ (m : Mem) (l k : ℕ) (t : Bool) (q : t ≡ eqb l 0) where
     unfolding paired
     unpaired-reservation y = no-is _ _ _ _ (sym q ∙ z) (yes-is _ _ _ _ (sym q₂ ∙ y) refl)
 
-    pub paired-is : (x y n c : ℕ) (r : Bool) → t₂ ≡ false → x ≡ l - 1 → n ≡ m (row x 3) → y ≡ k - 1 → c ≡ m (row y 3) → r ≡ eqb n c → r ≡ paired m l k
+    pub paired-is : (x y n c : ℕ) (r : Bool) → t₂ ≡ false → x ≡ l - 1 → n ≡ m (row x rowLength) → y ≡ k - 1 → c ≡ m (row y rowLength) → r ≡ eqb n c → r ≡ paired m l k
     unfolding paired
     paired-is x y n c r v e₁ e₂ e₃ e₄ a = no-is _ _ _ _ (sym q ∙ z) (no-is _ _ _ _ (sym q₂ ∙ v) (rw (a, e₂, e₁, e₄, e₃)))
 
 -- `direct_rows`
-pub direct-is : (ws w₁ w₂ w₃ w₄ : List ℕ) (sh : Shape) (x y b n c : ℕ) → b ≡ load ws sh (row x 2) → n ≡ load ws sh (row x 3) → c ≡ load ws sh (row y 2) → w₁ ≡ leftW ws sh b x n
+pub direct-is : (ws w₁ w₂ w₃ w₄ : List ℕ) (sh : Shape) (x y b n c : ℕ) → b ≡ load ws sh (row x rowTable) → n ≡ load ws sh (row x rowLength) → c ≡ load ws sh (row y rowTable) → w₁ ≡ leftW ws sh b x n
     → w₂ ≡ filledW w₁ sh c y x n → w₃ ≡ closeW w₂ sh x → w₄ ≡ closeW w₃ sh y → w₄ ≡ directW ws sh x y
 unfolding directW
 direct-is ws w₁ w₂ w₃ w₄ sh x y b n c e₁ e₂ e₃ a₁ a₂ a₃ a₄ = rw (a₄, a₃, a₂, a₁, e₁, e₂, e₃)

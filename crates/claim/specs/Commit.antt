@@ -18,6 +18,9 @@ use Rattle.model.specs.Request.{Request.commit}
 use Rattle.invariant.specs.Pointwise.{vacateAll-slots}
 use Rattle.layout.specs.declared.Shape.{Shape}
 use Rattle.layout.specs.Layout.{total, row, item, in-row, load, save, load-save}
+use Rattle.layout.specs.Fields.{rowId, rowKind, rowLength}
+use Rattle.layout.specs.Values.{kindParcel}
+use Rattle.layout.specs.Sizes.{batchMax}
 use Rattle.representation.specs.Represents.{BodyIs, isMarked, Rep}
 use Rattle.storage.specs.Kept.{handles-kept}
 use Rattle.storage.specs.Reps.{Held, held-of}
@@ -69,7 +72,7 @@ module _ (ws : List ℕ) (sh : Shape) (s : State) (r : Rep ws sh s) where
     low : x < sh .rows
     low = omega (arith, stands .place, left-kept .held .reps .memory .capacity)
 
-    few : length es ≤ 64
+    few : length es ≤ batchMax
     unfolding maxBatch
     few = range ws sh s r x i b es o .1 .1
 
@@ -79,24 +82,24 @@ module _ (ws : List ℕ) (sh : Shape) (s : State) (r : Rep ws sh s) where
     room₂ : total sh ≤ length ws₂
     room₂ = omega (arith, room, mid .long)
 
-    fills : Fills ws₁ (save ws₂ sh (row x 1) 3) sh x
-    fills = fills-then ws₁ ws₂ (save ws₂ sh (row x 1) 3) sh x mid (fills-row ws₂ sh room₂ x 1 3)
+    fills : Fills ws₁ (save ws₂ sh (row x rowKind) kindParcel) sh x
+    fills = fills-then ws₁ ws₂ (save ws₂ sh (row x rowKind) kindParcel) sh x mid (fills-row ws₂ sh room₂ x 1 3)
 
-    body : BodyIs (load (save ws₂ sh (row x 1) 3) sh) x (parcel (map sentOf es))
-    body = let a = load-save ws₂ sh room₂ (row x 1) 3 (in-row sh x 1 low (omega arith)) in (
-      a (row x 1) ∙ rw (eq-eqb x x refl),
-      a (row x 3) ∙ sent-row sh x (length es) ws₁ 0 3 room ∙ stands .body .2 ∙ sym (length-map es sentOf),
-      handles-kept (load ws₂ sh) (load (save ws₂ sh (row x 1) 3) sh) x (λ j f. a (item x j f)) 0 (map sentOf es)
+    body : BodyIs (load (save ws₂ sh (row x rowKind) kindParcel) sh) x (parcel (map sentOf es))
+    body = let a = load-save ws₂ sh room₂ (row x rowKind) kindParcel (in-row sh x rowKind low (omega arith)) in (
+      a (row x rowKind) ∙ rw (eq-eqb x x refl),
+      a (row x rowLength) ∙ sent-row sh x (length es) ws₁ 0 3 room ∙ stands .body .2 ∙ sym (length-map es sentOf),
+      handles-kept (load ws₂ sh) (load (save ws₂ sh (row x rowKind) kindParcel) sh) x (λ j f. a (item x j f)) 0 (map sentOf es)
           (sent-items sh x low (load ws₁ sh) es ws₁ 0 room (omega (arith, few)) (λ i f l. refl) (stands .body .3)),
     )
 
     -- THE WORDS of a commit
     pub committed-held : Held (committedW ws sh x) sh (swapRow i (parcel (map sentOf es)) (left s b es))
     unfolding committedW
-    committed-held = let a = load-save ws₂ sh room₂ (row x 1) 3 (in-row sh x 1 low (omega arith)) in
+    committed-held = let a = load-save ws₂ sh room₂ (row x rowKind) kindParcel (in-row sh x rowKind low (omega arith)) in
         rw (o .row .body .1, o .row .body .2)
-        (swap-held ws₁ (save ws₂ sh (row x 1) 3) sh (left s b es) (left-kept .held) x fills (left-kept .fits (fits-of s (r .wellFormed))) i (claim b es) (parcel (map sentOf es)) stands
-        (a (row x 0) ∙ sent-row sh x (length es) ws₁ 0 0 room ∙ stands .id) body (λ d k l mk e. absurd (left-free d k l mk e)))
+        (swap-held ws₁ (save ws₂ sh (row x rowKind) kindParcel) sh (left s b es) (left-kept .held) x fills (left-kept .fits (fits-of s (r .wellFormed))) i (claim b es) (parcel (map sentOf es)) stands
+        (a (row x rowId) ∙ sent-row sh x (length es) ws₁ 0 0 room ∙ stands .id) body (λ d k l mk e. absurd (left-free d k l mk e)))
 
   -- COMMIT is the model's step
   pub commit-does : (os : List ℕ) (base i : ℕ) → Does ws os sh base s (commit i) (commitR ws os sh base i)

@@ -20,6 +20,7 @@ use Rattle.invariant.specs.StorageState.{InRange}
 use Rattle.invariant.specs.StorageViews.{fillAll-busy}
 use Rattle.layout.specs.declared.Shape.{Shape}
 use Rattle.layout.specs.Layout.{Mem, item, load}
+use Rattle.layout.specs.Fields.{itemSlot, itemObject, itemFlags}
 use Rattle.representation.specs.Represents.{EntryIs, Items}
 use Rattle.storage.specs.Order.{occurs-head}
 use Rattle.storage.specs.Ops.{vacateW, occupyW}
@@ -64,12 +65,12 @@ unfolding leaveW
 leave-copied ws sh b x j h p = rw (p .0)
 
 -- what the receiver gets of it: the object and the flags that the handle has, and the rights asked for
-pub sent-is : (m : Mem) (x j : ℕ) (e : Entry) → EntryIs m x j e → (m (item x j 2) ≡ sentOf e .object) × (sentRights m x j ≡ sentOf e .rights) × (m (item x j 4) ≡ sentOf e .flags)
+pub sent-is : (m : Mem) (x j : ℕ) (e : Entry) → EntryIs m x j e → (m (item x j itemObject) ≡ sentOf e .object) × (sentRights m x j ≡ sentOf e .rights) × (m (item x j itemFlags) ≡ sentOf e .flags)
 unfolding sentRights
 sent-is m x j (moved k h r) p = (p .2 .0, rw (p .0) (p .3), p .2 .2)
 sent-is m x j (copied h) p = (p .1 .0, rw (p .0) (p .1 .1), p .1 .2)
 
-fill-entry : (ws : List ℕ) (sh : Shape) (c y x j k : ℕ) (e : Entry) → load ws sh (item y j 0) ≡ k → EntryIs (load ws sh) x j e
+fill-entry : (ws : List ℕ) (sh : Shape) (c y x j k : ℕ) (e : Entry) → load ws sh (item y j itemSlot) ≡ k → EntryIs (load ws sh) x j e
     → fillW ws sh c y x j ≡ occupyW ws sh c k (sentOf e .object) (sentOf e .rights) (sentOf e .flags)
 unfolding fillW
 fill-entry ws sh c y x j k e d p = let q = sent-is (load ws sh) x j e p in rw (d, q .0, q .1, q .2)
@@ -161,7 +162,7 @@ module _ (sh : Shape) (c y x : ℕ) where
   fill = λ (vs : List ℕ) (j : ℕ). fillW vs sh c y x j
 
   pub filled-keeps : (es : List Entry) (ks ws : List ℕ) (s : State) (j : ℕ) → Held ws sh s → c < s .tableCount → Busy (s .tables c) ks → length es ≡ length ks
-      → Items (λ i k. load ws sh (item y i 0) ≡ k) j ks → Items (EntryIs (load ws sh) x) j es
+      → Items (λ i k. load ws sh (item y i itemSlot) ≡ k) j ks → Items (EntryIs (load ws sh) x) j es
       → Keeps sh ws s (each (λ (vs : List ℕ) (j : ℕ). fillW vs sh c y x j) ws j (length es)) (withTable s c (fillAll till ks (map sentOf es) (s .tables c)))
   filled-keeps [] [] ws s j h l busy long slots its = rw (each-stop fill ws j, table-same s c) (keeps-none sh ws s h)
   filled-keeps [] (k ∷ ks) ws s j h l busy long slots its = absurd (omega arith)

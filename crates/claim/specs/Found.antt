@@ -15,19 +15,21 @@ use Rattle.invariant.specs.Marks.{Owns}
 use Rattle.invariant.specs.StorageDecisions.{claim-owns}
 use Rattle.layout.specs.declared.Shape.{Shape}
 use Rattle.layout.specs.Layout.{Mem, row, load}
+use Rattle.layout.specs.Fields.{rowKind}
+use Rattle.layout.specs.Values.{kindClaim}
 use Rattle.representation.specs.Represents.{BodyIs, isMarked, Rep}
 use Rattle.book.specs.Find.{fits-of, RowAt, kind-none, kind-some}
 use Rattle.book.specs.Marks.{Moves, moved-occurs, Unnamed, unnamed, named-claim}
 use Rattle.book.specs.Fades.{Fades, named-fades}
 use Rattle.claim.specs.Ops.{claimLink}
 
--- word 1 of a row tells a claim
-a-claim : (m : Mem) (x : ℕ) (y : Body) → BodyIs m x y → m (row x 1) ≡ 2 → (b : ℕ) × (es : List Entry) × (y ≡ claim b es)
+-- a row's kind tells a claim
+a-claim : (m : Mem) (x : ℕ) (y : Body) → BodyIs m x y → m (row x rowKind) ≡ kindClaim → (b : ℕ) × (es : List Entry) × (y ≡ claim b es)
 a-claim m x (reservation b ks) p e = absurd (omega (arith, p .0))
 a-claim m x (claim b es) p e = (b, es, refl)
 a-claim m x (parcel hs) p e = absurd (omega (arith, p .0))
 
-no-claim : (m : Mem) (x : ℕ) (y : Body) → BodyIs m x y → (m (row x 1) ≡ 2 → ⊥) → (f : ℕ → List Entry → Decision) → asClaim (some y) 18 f ≡ refusal 18
+no-claim : (m : Mem) (x : ℕ) (y : Body) → BodyIs m x y → (m (row x rowKind) ≡ kindClaim → ⊥) → (f : ℕ → List Entry → Decision) → asClaim (some y) 18 f ≡ refusal 18
 no-claim m x (reservation b ks) p e f = refl
 no-claim m x (claim b es) p e f = absurd (e (p .0))
 no-claim m x (parcel hs) p e f = refl

@@ -13,6 +13,7 @@ use Rattle.model.specs.State.{Entry, State}
 use Rattle.model.specs.Decision.{Decision, Decision.refusal, unless_refuse_then_, claimRow_of_refuse_then_, reservationRow_of_refuse_then_}
 use Rattle.layout.specs.declared.Shape.{Shape}
 use Rattle.layout.specs.Layout.{Mem, row, load}
+use Rattle.layout.specs.Fields.{rowLength}
 use Rattle.representation.specs.Represents.{Rep}
 use Rattle.book.specs.Ops.{reservationLink}
 use Rattle.book.specs.Found.{Open, reservation-none, reservation-some}
@@ -50,7 +51,7 @@ module _ (m : Mem) (l k : ℕ) where
   unfolding paired
   none-second e = bool (eqb l 0) (λ q. rw q) (λ q. rw (q, e))
 
-  both-there : (x y : ℕ) → l ≡ suc x → k ≡ suc y → paired m l k ≡ eqb (m (row x 3)) (m (row y 3))
+  both-there : (x y : ℕ) → l ≡ suc x → k ≡ suc y → paired m l k ≡ eqb (m (row x rowLength)) (m (row y rowLength))
   unfolding paired
   both-there x y e d = let z : suc x - 1 ≡ x = omega arith in let w : suc y - 1 ≡ y = omega arith in
       rw (e, d, ne-eqb (suc x) 0 (λ q. omega arith), ne-eqb (suc y) 0 (λ q. omega arith), z, w)

@@ -11,6 +11,8 @@ use Rattle.model.specs.State.{Entry}
 use Rattle.model.specs.Book.{sentOf}
 use Rattle.layout.specs.declared.Shape.{Shape}
 use Rattle.layout.specs.Layout.{Mem, total, row, item, in-item, isIn, load, length-save, load-save, load-save-any}
+use Rattle.layout.specs.Fields.{itemObject, itemRights, itemFlags}
+use Rattle.layout.specs.Sizes.{batchMax}
 use Rattle.representation.specs.Represents.{HandleIs, EntryIs, Items}
 use Rattle.book.specs.Ops.{Fills, fills-none, fills-then, fills-item}
 use Rattle.claim.specs.Ops.{each, sentRights, sendW}
@@ -27,7 +29,7 @@ module _ (sh : Shape) (x : ℕ) where
 
   send-long : (ws : List ℕ) (j : ℕ) → total sh ≤ length ws → total sh ≤ length (sendW ws sh x j)
   unfolding sendW
-  send-long ws j h = omega (arith, length-save ws sh (item x j 3) (sentRights (load ws sh) x j))
+  send-long ws j h = omega (arith, length-save ws sh (item x j itemRights) (sentRights (load ws sh) x j))
 
   -- only the row's items change
   pub sent-fills : (n : ℕ) (ws : List ℕ) (j : ℕ) → total sh ≤ length ws → Fills ws (each (λ (vs : List ℕ) (j : ℕ). sendW vs sh x j) ws j n) sh x
@@ -43,13 +45,13 @@ module _ (sh : Shape) (x : ℕ) where
   sent-row zero ws j f h = refl
   sent-row (suc n) ws j f h =
       sent-row n (sendW ws sh x j) (suc j) f (send-long ws j h)
-      ∙ load-save-any ws sh h (item x j 3) (sentRights (load ws sh) x j) (row x f)
-      ∙ rw (and-false (isIn sh (item x j 3)))
+      ∙ load-save-any ws sh h (item x j itemRights) (sentRights (load ws sh) x j) (row x f)
+      ∙ rw (and-false (isIn sh (item x j itemRights)))
 
   -- and not the other items
   send-off : (ws : List ℕ) (j i f : ℕ) → total sh ≤ length ws → (i ≡ j → ⊥) → load (sendW ws sh x j) sh (item x i f) ≡ load ws sh (item x i f)
   unfolding sendW
-  send-off ws j i f h ne = load-save-any ws sh h (item x j 3) (sentRights (load ws sh) x j) (item x i f) ∙ rw (ne-eqb i j ne, and-false (eqb f 3), and-false (isIn sh (item x j 3)))
+  send-off ws j i f h ne = load-save-any ws sh h (item x j itemRights) (sentRights (load ws sh) x j) (item x i f) ∙ rw (ne-eqb i j ne, and-false (eqb f 3), and-false (isIn sh (item x j itemRights)))
 
   sent-before : (n : ℕ) (ws : List ℕ) (j i f : ℕ) → total sh ≤ length ws → i < j → load (each send ws j n) sh (item x i f) ≡ load ws sh (item x i f)
   unfolding each
@@ -57,15 +59,15 @@ module _ (sh : Shape) (x : ℕ) where
   sent-before (suc n) ws j i f h low = sent-before n (sendW ws sh x j) (suc j) i f (send-long ws j h) (omega arith) ∙ send-off ws j i f h (λ e. omega arith)
 
   -- one entry: its rights are those sent
-  send-at : (ws : List ℕ) (j : ℕ) → total sh ≤ length ws → x < sh .rows → j < 64 → (load (sendW ws sh x j) sh (item x j 2) ≡ load ws sh (item x j 2))
-      × (load (sendW ws sh x j) sh (item x j 3) ≡ sentRights (load ws sh) x j) × (load (sendW ws sh x j) sh (item x j 4) ≡ load ws sh (item x j 4))
+  send-at : (ws : List ℕ) (j : ℕ) → total sh ≤ length ws → x < sh .rows → j < batchMax → (load (sendW ws sh x j) sh (item x j itemObject) ≡ load ws sh (item x j itemObject))
+      × (load (sendW ws sh x j) sh (item x j itemRights) ≡ sentRights (load ws sh) x j) × (load (sendW ws sh x j) sh (item x j itemFlags) ≡ load ws sh (item x j itemFlags))
   unfolding sendW
   send-at ws j h low few =
-      let a = load-save ws sh h (item x j 3) (sentRights (load ws sh) x j) (in-item sh x j 3 low few (omega arith)) in
-      (a (item x j 2), a (item x j 3) ∙ rw (eq-eqb j j refl, eq-eqb x x refl), a (item x j 4))
+      let a = load-save ws sh h (item x j itemRights) (sentRights (load ws sh) x j) (in-item sh x j itemRights low few (omega arith)) in
+      (a (item x j itemObject), a (item x j itemRights) ∙ rw (eq-eqb j j refl, eq-eqb x x refl), a (item x j itemFlags))
 
   -- THE HANDLES, of entries that stood in the items from j on
-  pub sent-items : x < sh .rows → (m : Mem) (es : List Entry) (ws : List ℕ) (j : ℕ) → total sh ≤ length ws → j + length es ≤ 64 → ((i f : ℕ) → j ≤ i → load ws sh (item x i f) ≡ m (item x i f))
+  pub sent-items : x < sh .rows → (m : Mem) (es : List Entry) (ws : List ℕ) (j : ℕ) → total sh ≤ length ws → j + length es ≤ batchMax → ((i f : ℕ) → j ≤ i → load ws sh (item x i f) ≡ m (item x i f))
       → Items (EntryIs m x) j es → Items (HandleIs (load (each (λ (vs : List ℕ) (j : ℕ). sendW vs sh x j) ws j (length es)) sh) x) j (map sentOf es)
   unfolding each
   sent-items low m [] ws j h few e its = tt

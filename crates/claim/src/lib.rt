@@ -10,13 +10,18 @@ ghost use Rattle.claim.specs.Ops.{claimLink, undoW, undoneW, rolledW, ro
 ghost use Rattle.claim.specs.Ops.{paired, filledW, directW, directCommitR, directRollbackR};
 use codec::ReservationId;
 use layout::Shape;
+use layout::field;
+use layout::value;
 
 // The place of the open claim with an id, plus 1; 0 if there is none.
 pub fn claim_of(s: &[u64], sh: Shape, id: ReservationId) -> u64
     ensures { λ r. ⌜ r ≡ claimLink (loadAt (now (s .entry)) sh) sh (id .0) ⌝ }
 {
     let link = book::row_of(s, sh, id.0);
-    if words::eq(layout::row_word(s, sh, words::dec(link), 1), book::CLAIM) {
+    if words::eq(
+        layout::row_word(s, sh, words::dec(link), field::ROW_KIND),
+        value::KIND_CLAIM,
+    ) {
         return link;
     }
     0
@@ -27,11 +32,14 @@ pub fn claim_of(s: &[u64], sh: Shape, id: ReservationId) -> u64
 fn undo_entry(s: &mut [u64], sh: Shape, b: u64, x: u64, j: u64)
     ensures words { λ _. ⌜ now (s .exit) ≡ undoW (now (s .entry)) sh b x j ⌝ }
 {
-    let o = layout::item_word(s, sh, x, j, 2);
-    if words::eq(layout::item_word(s, sh, x, j, 0), book::MOVE) {
-        let k = layout::item_word(s, sh, x, j, 1);
-        let r = layout::item_word(s, sh, x, j, 3);
-        let f = layout::item_word(s, sh, x, j, 4);
+    let o = layout::item_word(s, sh, x, j, field::ITEM_OBJECT);
+    if words::eq(
+        layout::item_word(s, sh, x, j, field::ITEM_OPERATION),
+        value::OPERATION_MOVE,
+    ) {
+        let k = layout::item_word(s, sh, x, j, field::ITEM_MOVED);
+        let r = layout::item_word(s, sh, x, j, field::ITEM_RIGHTS);
+        let f = layout::item_word(s, sh, x, j, field::ITEM_FLAGS);
         storage::occupy(s, sh, b, k, o, r, f);
         return;
     }
@@ -53,8 +61,8 @@ fn undo_entries(s: &mut [u64], sh: Shape, b: u64, x: u64, n: u64)
 fn rollback_row(s: &mut [u64], sh: Shape, x: u64)
     ensures words { λ _. ⌜ now (s .exit) ≡ rolledW (now (s .entry)) sh x ⌝ }
 {
-    let b = layout::row_word(s, sh, x, 2);
-    let n = layout::row_word(s, sh, x, 3);
+    let b = layout::row_word(s, sh, x, field::ROW_TABLE);
+    let n = layout::row_word(s, sh, x, field::ROW_LENGTH);
     undo_entries(s, sh, b, x, n);
     book::close_row(s, sh, x);
 }
@@ -76,18 +84,24 @@ pub fn rollback(s: &mut [u64], sh: Shape, id: ReservationId, out: &mut [u64], ba
 fn sent_rights(s: &[u64], sh: Shape, x: u64, j: u64) -> u64
     ensures { λ r. ⌜ r ≡ sentRights (loadAt (now (s .entry)) sh) x j ⌝ }
 {
-    if words::eq(layout::item_word(s, sh, x, j, 0), book::MOVE) {
-        return layout::item_word(s, sh, x, j, 5);
+    if words::eq(
+        layout::item_word(s, sh, x, j, field::ITEM_OPERATION),
+        value::OPERATION_MOVE,
+    ) {
+        return layout::item_word(s, sh, x, j, field::ITEM_GRANTED);
     }
-    layout::item_word(s, sh, x, j, 3)
+    layout::item_word(s, sh, x, j, field::ITEM_RIGHTS)
 }
 
 // The slot that entry j moves, if it moves one, falls vacant.
 fn leave_entry(s: &mut [u64], sh: Shape, b: u64, x: u64, j: u64)
     ensures words { λ _. ⌜ now (s .exit) ≡ leaveW (now (s .entry)) sh b x j ⌝ }
 {
-    if words::eq(layout::item_word(s, sh, x, j, 0), book::MOVE) {
-        let k = layout::item_word(s, sh, x, j, 1);
+    if words::eq(
+        layout::item_word(s, sh, x, j, field::ITEM_OPERATION),
+        value::OPERATION_MOVE,
+    ) {
+        let k = layout::item_word(s, sh, x, j, field::ITEM_MOVED);
         storage::vacate(s, sh, b, k);
     }
 }
@@ -107,9 +121,12 @@ fn leave_entries(s: &mut [u64], sh: Shape, b: u64, x: u64, n: u64)
 fn send_entry(s: &mut [u64], sh: Shape, x: u64, j: u64)
     ensures words { λ _. ⌜ now (s .exit) ≡ sendW (now (s .entry)) sh x j ⌝ }
 {
-    if words::eq(layout::item_word(s, sh, x, j, 0), book::MOVE) {
-        let r = layout::item_word(s, sh, x, j, 5);
-        layout::put_item(s, sh, x, j, 3, r);
+    if words::eq(
+        layout::item_word(s, sh, x, j, field::ITEM_OPERATION),
+        value::OPERATION_MOVE,
+    ) {
+        let r = layout::item_word(s, sh, x, j, field::ITEM_GRANTED);
+        layout::put_item(s, sh, x, j, field::ITEM_RIGHTS, r);
     }
 }
 
@@ -128,11 +145,11 @@ fn send_entries(s: &mut [u64], sh: Shape, x: u64, n: u64)
 fn commit_row(s: &mut [u64], sh: Shape, x: u64)
     ensures words { λ _. ⌜ now (s .exit) ≡ committedW (now (s .entry)) sh x ⌝ }
 {
-    let b = layout::row_word(s, sh, x, 2);
-    let n = layout::row_word(s, sh, x, 3);
+    let b = layout::row_word(s, sh, x, field::ROW_TABLE);
+    let n = layout::row_word(s, sh, x, field::ROW_LENGTH);
     leave_entries(s, sh, b, x, n);
     send_entries(s, sh, x, n);
-    layout::put_row(s, sh, x, 1, book::PARCEL);
+    layout::put_row(s, sh, x, field::ROW_KIND, value::KIND_PARCEL);
 }
 
 // "Commit turns a claim's row into a parcel of the same id."
@@ -158,8 +175,8 @@ fn paired(s: &[u64], sh: Shape, l: u64, k: u64) -> bool
     if words::eq(k, 0) {
         return false;
     }
-    let n = layout::row_word(s, sh, words::dec(l), 3);
-    let m = layout::row_word(s, sh, words::dec(k), 3);
+    let n = layout::row_word(s, sh, words::dec(l), field::ROW_LENGTH);
+    let m = layout::row_word(s, sh, words::dec(k), field::ROW_LENGTH);
     words::eq(n, m)
 }
 
@@ -169,10 +186,10 @@ fn fill_slots(s: &mut [u64], sh: Shape, c: u64, to: u64, from: u64, n: u64)
 {
     let mut j: u64 = 0;
     while j < n {
-        let k = layout::item_word(s, sh, to, j, 0);
-        let o = layout::item_word(s, sh, from, j, 2);
+        let k = layout::item_word(s, sh, to, j, field::ITEM_SLOT);
+        let o = layout::item_word(s, sh, from, j, field::ITEM_OBJECT);
         let r = sent_rights(s, sh, from, j);
-        let f = layout::item_word(s, sh, from, j, 4);
+        let f = layout::item_word(s, sh, from, j, field::ITEM_FLAGS);
         storage::occupy(s, sh, c, k, o, r, f);
         j += 1;
     }
@@ -182,9 +199,9 @@ fn fill_slots(s: &mut [u64], sh: Shape, c: u64, to: u64, from: u64, n: u64)
 fn direct_rows(s: &mut [u64], sh: Shape, from: u64, to: u64)
     ensures words { λ _. ⌜ now (s .exit) ≡ directW (now (s .entry)) sh from to ⌝ }
 {
-    let b = layout::row_word(s, sh, from, 2);
-    let n = layout::row_word(s, sh, from, 3);
-    let c = layout::row_word(s, sh, to, 2);
+    let b = layout::row_word(s, sh, from, field::ROW_TABLE);
+    let n = layout::row_word(s, sh, from, field::ROW_LENGTH);
+    let c = layout::row_word(s, sh, to, field::ROW_TABLE);
     leave_entries(s, sh, b, from, n);
     fill_slots(s, sh, c, to, from, n);
     book::close_row(s, sh, from);

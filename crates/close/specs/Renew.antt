@@ -20,6 +20,8 @@ use Rattle.invariant.specs.Pages.{till-sane, busy-there, busy-vacant, busy-othe
 use Rattle.invariant.specs.Orders.{Sound, attached-below, attached-of, place-busy}
 use Rattle.layout.specs.declared.Shape.{Shape}
 use Rattle.layout.specs.Layout.{Mem, head, entry, load, save, writes}
+use Rattle.layout.specs.Fields.{headPages, headFirstFree, headFirstEntry, entryHigh, slotTag, slotGeneration, slotNextFree, slotPreviousFree, slotObject, slotRights, slotFlags}
+use Rattle.layout.specs.Sizes.{pageSize}
 use Rattle.representation.specs.Represents.{linkOf, frameOf, tagged, isMarked}
 use Rattle.storage.specs.Order.{chain-frame}
 use Rattle.storage.specs.Sight.{Spot, Spot.hd, Spot.pg, Spot.sl, look, Put.toPage, Put.toSlot, puts, cellP, Moves, moves, moves-then, moves-fit, moves-size, still-only, still-frame}
@@ -36,21 +38,21 @@ slotW ws sh b k f x = done ws sh b (toSlot (suc k) f x ∷ [])
 
 -- page p has had the generation g
 unfoldable pub highW : List ℕ → Shape → ℕ → ℕ → ℕ → List ℕ
-highW ws sh b p g = done ws sh b (toPage (suc p) 1 (max (seen ws sh b (pg p 1)) g) ∷ [])
+highW ws sh b p g = done ws sh b (toPage (suc p) entryHigh (max (seen ws sh b (pg p entryHigh)) g) ∷ [])
 
 -- slot k gets the generation g and the rights r
 unfoldable pub renewW : List ℕ → Shape → ℕ → ℕ → ℕ → ℕ → List ℕ
-renewW ws sh b k g r = highW (slotW (slotW ws sh b k 1 g) sh b k 3 r) sh b (k / 64) g
+renewW ws sh b k g r = highW (slotW (slotW ws sh b k 1 g) sh b k 3 r) sh b (k / pageSize) g
 
 -- what the table shows after each part
 abbrev slotV₁ : (Spot → ℕ) → ℕ → ℕ → ℕ → Spot → ℕ
 slotV₁ v k f x = puts v (toSlot (suc k) f x ∷ [])
 
 abbrev highV : (Spot → ℕ) → ℕ → ℕ → Spot → ℕ
-highV v p g = puts v (toPage (suc p) 1 (max (v (pg p 1)) g) ∷ [])
+highV v p g = puts v (toPage (suc p) entryHigh (max (v (pg p entryHigh)) g) ∷ [])
 
 abbrev renewV : (Spot → ℕ) → ℕ → ℕ → ℕ → Spot → ℕ
-renewV v k g r = highV (slotV₁ (slotV₁ v k 1 g) k 3 r) (k / 64) g
+renewV v k g r = highV (slotV₁ (slotV₁ v k 1 g) k 3 r) (k / pageSize) g
 
 -- ---- the table
 
@@ -68,8 +70,8 @@ module _ (m : Mem) (v : Spot → ℕ) (t : Table) (z : Seen m v t) (o : Sound ti
   busy₀ : isBusy (t .slots k) ≡ true
   busy₀ = ap isBusy was
 
-  under : k / 64 < t .size
-  under = attached-below till t (t .free) o (k / 64) (attached-of till t (t .free) o k (busy-there (t .slots k) busy₀))
+  under : k / pageSize < t .size
+  under = attached-below till t (t .free) o (k / pageSize) (attached-of till t (t .free) o k (busy-there (t .slots k) busy₀))
 
   -- a slot of the free order is another
   free-other : (i : ℕ) → 0 < occurs i (t .free) → suc k ≡ suc i → ⊥
@@ -91,15 +93,15 @@ module _ (m : Mem) (v : Spot → ℕ) (t : Table) (z : Seen m v t) (o : Sound ti
     epoch = z .epoch;
     size = z .size;
     frame = λ p l. z .frame p l ∙ ap linkOf (sym (place-alike till t k (occupied g (withRights x r)) .frame p));
-    high = λ p l. bool (eqb p (k / 64))
-        (λ e. rw (e, eqb-true p (k / 64) e, eq-eqb (suc (k / 64)) (suc (k / 64)) refl, z .high (k / 64) under))
-        (λ e. rw (e, ne-eqb (suc (k / 64)) (suc p) (λ y. eqb-false p (k / 64) e (omega arith))) (z .high p l));
+    high = λ p l. bool (eqb p (k / pageSize))
+        (λ e. rw (e, eqb-true p (k / pageSize) e, eq-eqb (suc (k / pageSize)) (suc (k / pageSize)) refl, z .high (k / pageSize) under))
+        (λ e. rw (e, ne-eqb (suc (k / pageSize)) (suc p) (λ y. eqb-false p (k / pageSize) e (omega arith))) (z .high p l));
     busy = λ p l a. z .busy p l (sym (ap isSome (place-alike till t k (occupied g (withRights x r)) .frame p)) ∙ a) ∙ sym (busy-same p);
     slots = λ i. bool (eqb i k)
         (λ e. rw (e, eqb-true i k e, eq-eqb (suc k) (suc k) refl)
-        (renewed-slot m (frameV v k) (v (sl k 0)) (v (sl k 1)) (v (sl k 2)) (v (sl k 3)) (v (sl k 4)) g₀ x (z .slots k ∙ was) g r))
+        (renewed-slot m (frameV v k) (v (sl k slotTag)) (v (sl k slotGeneration)) (v (sl k slotObject)) (v (sl k slotRights)) (v (sl k slotFlags)) g₀ x (z .slots k ∙ was) g r))
         (λ e. rw (e, ne-eqb (suc k) (suc i) (λ y. eqb-false i k e (omega arith))) (z .slots i));
-    free = chain-frame (λ i. v (sl i 2)) (λ i. v (sl i 3)) _ _ (v (hd 6)) 0 (t .free) (z .free) (λ i q. (refl, rw (ne-eqb (suc k) (suc i) (free-other i q))));
+    free = chain-frame (λ i. v (sl i slotNextFree)) (λ i. v (sl i slotPreviousFree)) _ _ (v (hd headFirstFree)) 0 (t .free) (z .free) (λ i q. (refl, rw (ne-eqb (suc k) (suc i) (free-other i q))));
     freeCount = z .freeCount;
     empty = rw busy₀ (z .empty);
     detached = z .detached;
@@ -115,7 +117,7 @@ module _ (ws : List ℕ) (sh : Shape) (b : ℕ) (t : Table) (ready : Ready ws sh
   unfolding look
   there₀ = slot-there (load ws sh) (look (load ws sh) b) t seen₀ k (busy-there (t .slots k) (ap isBusy was))
 
-  under₀ : k / 64 < load ws sh (head b 5)
+  under₀ : k / pageSize < load ws sh (head b headPages)
   under₀ = rw (ready .table .size) (under (load ws sh) (look (load ws sh) b) t seen₀ (ready .sound) k g₀ x was g r)
 
   -- after other stores into the table: word f of the slot
@@ -127,12 +129,12 @@ module _ (ws : List ℕ) (sh : Shape) (b : ℕ) (t : Table) (ready : Ready ws sh
       (moves ws₁ sh b v (λ w. toSlot (suc k) f y ∷ []) (omega (arith, p .long, ready .room)) (moves-fit ws ws₁ sh b v p (ready .fit)) (p .shows) ((l, own), tt))
 
   -- and the mark of its page
-  high-moves : (ws₁ : List ℕ) (v : Spot → ℕ) → Moves ws ws₁ sh b v → Moves ws (highW ws₁ sh b (k / 64) g) sh b (highV v (k / 64) g)
+  high-moves : (ws₁ : List ℕ) (v : Spot → ℕ) → Moves ws ws₁ sh b v → Moves ws (highW ws₁ sh b (k / pageSize) g) sh b (highV v (k / pageSize) g)
   unfolding highW
   high-moves ws₁ v p =
-      let own : (q : ℕ) → suc (k / 64) ≡ suc q → q < load ws₁ sh (head b 5) = λ q e. omega (arith, moves-size ws ws₁ sh b v p, under₀) in
-      moves-then ws ws₁ _ sh b v (highV v (k / 64) g) p
-      (moves ws₁ sh b v (λ w. toPage (suc (k / 64)) 1 (max (w (pg (k / 64) 1)) g) ∷ []) (omega (arith, p .long, ready .room)) (moves-fit ws ws₁ sh b v p (ready .fit)) (p .shows)
+      let own : (q : ℕ) → suc (k / pageSize) ≡ suc q → q < load ws₁ sh (head b headPages) = λ q e. omega (arith, moves-size ws ws₁ sh b v p, under₀) in
+      moves-then ws ws₁ _ sh b v (highV v (k / pageSize) g) p
+      (moves ws₁ sh b v (λ w. toPage (suc (k / pageSize)) entryHigh (max (w (pg (k / pageSize) entryHigh)) g) ∷ []) (omega (arith, p .long, ready .room)) (moves-fit ws ws₁ sh b v p (ready .fit)) (p .shows)
       ((omega arith, omega arith, own), tt))
 
   renew-moves : Moves ws (renewW ws sh b k g r) sh b (renewV (look (load ws sh) b) k g r)
@@ -179,12 +181,12 @@ renew-held ws sh s h b l k g₀ x was g r good =
 
 -- ---- what the code says
 
-pub high-is : (ws w₁ : List ℕ) (sh : Shape) (b p g e n y : ℕ) → e ≡ load ws sh (head b 10) → n ≡ load ws sh (entry (e + p) 1) → y ≡ max n g → w₁ ≡ save ws sh (entry (e + p) 1) y
+pub high-is : (ws w₁ : List ℕ) (sh : Shape) (b p g e n y : ℕ) → e ≡ load ws sh (head b headFirstEntry) → n ≡ load ws sh (entry (e + p) entryHigh) → y ≡ max n g → w₁ ≡ save ws sh (entry (e + p) entryHigh) y
     → w₁ ≡ highW ws sh b p g
 unfolding highW look
 high-is ws w₁ sh b p g e n y e₁ e₂ e₃ a = rw (a, e₃, e₂, e₁)
 
-pub renew-is : (ws w₁ w₂ w₃ : List ℕ) (sh : Shape) (b k g r : ℕ) → w₁ ≡ writes ws sh (cellP (frameOf (load ws sh) b k) (k % 64) 1 g)
-    → w₂ ≡ writes w₁ sh (cellP (frameOf (load w₁ sh) b k) (k % 64) 3 r) → w₃ ≡ highW w₂ sh b (k / 64) g → w₃ ≡ renewW ws sh b k g r
+pub renew-is : (ws w₁ w₂ w₃ : List ℕ) (sh : Shape) (b k g r : ℕ) → w₁ ≡ writes ws sh (cellP (frameOf (load ws sh) b k) (k % pageSize) slotGeneration g)
+    → w₂ ≡ writes w₁ sh (cellP (frameOf (load w₁ sh) b k) (k % pageSize) slotRights r) → w₃ ≡ highW w₂ sh b (k / pageSize) g → w₃ ≡ renewW ws sh b k g r
 unfolding renewW
 renew-is ws w₁ w₂ w₃ sh b k g r a₁ a₂ a₃ = rw (a₃, a₂, a₁)

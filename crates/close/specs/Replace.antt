@@ -17,6 +17,7 @@ use Rattle.model.specs.Step.{replaceOf, decide}
 use Rattle.model.specs.Words.{usedWords}
 use Rattle.layout.specs.declared.Shape.{Shape}
 use Rattle.layout.specs.Layout.{head, load}
+use Rattle.layout.specs.Fields.{headMask}
 use Rattle.representation.specs.Represents.{Rep}
 use Rattle.storage.specs.Whole.{placed-of}
 use Rattle.storage.specs.Reps.{Held}
@@ -33,7 +34,7 @@ use Rattle.close.specs.Renew.{renewW, renew-held}
 unfoldable pub replacedR : List ℕ → List ℕ → Shape → ℕ → ℕ → ℕ → PreparedHandle → Both
 replacedR ws os sh base b r h =
     pick (contains (h .rights) r)
-    (both (renewW ws sh b (h .slot) (nextGeneration (h .generation)) r) (answered os base (0 ∷ encode (load ws sh (head b 1)) (h .slot) (nextGeneration (h .generation)) ∷ [])))
+    (both (renewW ws sh b (h .slot) (nextGeneration (h .generation)) r) (answered os base (0 ∷ encode (load ws sh (head b headMask)) (h .slot) (nextGeneration (h .generation)) ∷ [])))
     (refuseR ws os base 5)
 
 unfoldable pub replaceR : List ℕ → List ℕ → Shape → ℕ → ℕ → ℕ → ℕ → Both
@@ -74,7 +75,7 @@ module _ (ws ws′ os os′ : List ℕ) (sh : Shape) (base b r : ℕ) (h : Prepa
   unfolding replacedR
   replace-denied z p q = no-is _ _ _ _ (sym e ∙ z) (rw (p, q))
 
-  pub replace-said : (g mask value : ℕ) → t ≡ true → g ≡ nextGeneration (h .generation) → mask ≡ load ws sh (head b 1) → value ≡ encode mask (h .slot) g
+  pub replace-said : (g mask value : ℕ) → t ≡ true → g ≡ nextGeneration (h .generation) → mask ≡ load ws sh (head b headMask) → value ≡ encode mask (h .slot) g
       → ws′ ≡ renewW ws sh b (h .slot) g r → os′ ≡ answered os base (0 ∷ value ∷ []) → both ws′ os′ ≡ replacedR ws os sh base b r h
   unfolding replacedR
   replace-said g mask value z e₁ e₂ e₃ p q = yes-is _ _ _ _ (sym e ∙ z) (rw (p, q, e₃, e₂, e₁))

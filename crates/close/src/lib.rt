@@ -12,6 +12,8 @@ use authority::Rights;
 use codec::HandleCodec;
 use codec::HandleValue;
 use layout::Shape;
+use layout::field;
+use layout::size;
 use lookup::Opened;
 use lookup::PreparedHandle;
 
@@ -43,19 +45,19 @@ pub fn close(s: &mut [u64], sh: Shape, b: u64, v: HandleValue, out: &mut [u64], 
 fn raise_mark(s: &mut [u64], sh: Shape, b: u64, p: u64, g: u64)
     ensures { λ _. ⌜ now (s .exit) ≡ highW (now (s .entry)) sh b p g ⌝ }
 {
-    let e = layout::head_word(s, sh, b, 10);
-    let high = storage::page_word(s, sh, e, p, 1);
+    let e = layout::head_word(s, sh, b, field::HEAD_FIRST_ENTRY);
+    let high = storage::page_word(s, sh, e, p, field::ENTRY_HIGH);
     let mark = words::larger(high, g);
-    storage::put_page(s, sh, e, p, 1, mark);
+    storage::put_page(s, sh, e, p, field::ENTRY_HIGH, mark);
 }
 
 // Slot k, which is occupied, keeps its object and its flags and gets the generation g and other rights; its page's high mark rises to g.
 pub fn renew(s: &mut [u64], sh: Shape, b: u64, k: u64, g: u64, rights: u64)
     ensures { λ _. ⌜ now (s .exit) ≡ renewW (now (s .entry)) sh b k g rights ⌝ }
 {
-    storage::put_slot_word(s, sh, b, k, 1, g);
-    storage::put_slot_word(s, sh, b, k, 3, rights);
-    raise_mark(s, sh, b, k / 64, g);
+    storage::put_slot_word(s, sh, b, k, field::SLOT_GENERATION, g);
+    storage::put_slot_word(s, sh, b, k, field::SLOT_RIGHTS, rights);
+    raise_mark(s, sh, b, k / size::PAGE_SIZE, g);
 }
 
 // The handle found: with fewer rights, of the next generation; its new value is answered.
@@ -74,7 +76,7 @@ fn replace_handle(
     if held.contains(rights) {
         let g = codec::next_generation(h.generation);
         let codec = HandleCodec {
-            mask: layout::head_word(s, sh, b, 1),
+            mask: layout::head_word(s, sh, b, field::HEAD_MASK),
         };
         let value = codec.encode(h.slot, g);
         renew(s, sh, b, h.slot, g, rights.0);

@@ -10,6 +10,8 @@ use lib.Dec.{leb}
 use borrow.Author.Tests.{ne-eqb}
 use Rattle.layout.specs.declared.Shape.{Shape}
 use Rattle.layout.specs.Layout.{Mem, total, root, index, row, item, load}
+use Rattle.layout.specs.Fields.{rootUsedRows, rowKind, rowLength, itemObject}
+use Rattle.layout.specs.Sizes.{batchMax}
 use Rattle.counts.specs.Found.{gather, holdsHandles, inRow, inBook, countsB, OffObjects, book-same}
 use Rattle.counts.specs.Shift.{shifted, shifted-append, shifted-off}
 
@@ -30,12 +32,12 @@ holds-no (suc (suc (suc (suc g)))) a b = rw (ne-eqb (suc (suc (suc (suc g)))) 2 
 
 module _ (ws : List ℕ) (sh : Shape) (d : ℕ) where
   -- `note_row`
-  pub row-no : (x g : ℕ) → g ≡ load ws sh (row x 1) → (g ≡ 2 → ⊥) → (g ≡ 3 → ⊥) → ws ≡ shifted ws sh d (inRow (load ws sh) x)
-  row-no x g a p q = let y : holdsHandles (load ws sh (row x 1)) ≡ false = ap holdsHandles (sym a) ∙ holds-no g p q in rw y
+  pub row-no : (x g : ℕ) → g ≡ load ws sh (row x rowKind) → (g ≡ 2 → ⊥) → (g ≡ 3 → ⊥) → ws ≡ shifted ws sh d (inRow (load ws sh) x)
+  row-no x g a p q = let y : holdsHandles (load ws sh (row x rowKind)) ≡ false = ap holdsHandles (sym a) ∙ holds-no g p q in rw y
 
-  pub row-yes : (x g c n : ℕ) (vs : List ℕ) → g ≡ load ws sh (row x 1) → 2 ≤ g → g ≤ 3 → c ≡ load ws sh (row x 3) → n ≡ min c 64
-      → vs ≡ shifted ws sh d (gather n (λ j. load ws sh (item x j 2) ∷ [])) → vs ≡ shifted ws sh d (inRow (load ws sh) x)
-  row-yes x g c n vs a p q b e k = let y : holdsHandles (load ws sh (row x 1)) ≡ true = ap holdsHandles (sym a) ∙ holds-yes g p q in k ∙ rw (y, e, b)
+  pub row-yes : (x g c n : ℕ) (vs : List ℕ) → g ≡ load ws sh (row x rowKind) → 2 ≤ g → g ≤ 3 → c ≡ load ws sh (row x rowLength) → n ≡ min c batchMax
+      → vs ≡ shifted ws sh d (gather n (λ j. load ws sh (item x j itemObject) ∷ [])) → vs ≡ shifted ws sh d (inRow (load ws sh) x)
+  row-yes x g c n vs a p q b e k = let y : holdsHandles (load ws sh (row x rowKind)) ≡ true = ap holdsHandles (sym a) ∙ holds-yes g p q in k ∙ rw (y, e, b)
 
 -- a loop over lists that do not depend on the objects
 module _ (sh : Shape) (d : ℕ) (f : Mem → ℕ → List ℕ) (same : (m n : Mem) → OffObjects m n → (k : ℕ) → f n k ≡ f m k) where
@@ -61,7 +63,7 @@ countsIn ws sh = leb (total sh) (length ws) && countsB (load ws sh) sh
 
 -- what the walks over a table and over the rows leave
 module _ (ws : List ℕ) (sh : Shape) (d : ℕ) where
-  pub book-by : (z n : ℕ) (vs : List ℕ) → z ≡ load ws sh (root 6) → n ≡ min z (sh .rows)
+  pub book-by : (z n : ℕ) (vs : List ℕ) → z ≡ load ws sh (root rootUsedRows) → n ≡ min z (sh .rows)
       → vs ≡ shifted ws sh d (gather n (λ i. inRow (load ws sh) (load ws sh (index i)))) → vs ≡ shifted ws sh d (inBook (load ws sh) sh)
   book-by z n vs p q k = k ∙ rw (q, p)
 

@@ -13,6 +13,8 @@ use Rattle.model.specs.Sums.{sum-part}
 use Rattle.model.specs.WellFormed.{All, BodyRange, RowRange, handleCount, WellFormed}
 use Rattle.layout.specs.declared.Shape.{Shape}
 use Rattle.layout.specs.Layout.{Mem, total, object, index, row, load}
+use Rattle.layout.specs.Fields.{objectActive, rowLength}
+use Rattle.layout.specs.Sizes.{batchMax}
 use Rattle.representation.specs.Represents.{BodyIs, RowsAre, Represents}
 use Rattle.counts.specs.Found.{handles, countsB}
 use Rattle.counts.specs.Code.{countsIn}
@@ -21,13 +23,13 @@ use Rattle.counts.specs.Handles.{Bounds, handles-are}
 -- ---- in the words' terms
 
 module _ (m : Mem) (sh : Shape) where
-  pub counts-sound : countsB m sh ≡ true → (o : ℕ) → o < sh .objects → m (object o 6) ≡ handles m sh o
+  pub counts-sound : countsB m sh ≡ true → (o : ℕ) → o < sh .objects → m (object o objectActive) ≡ handles m sh o
   unfolding countsB
-  counts-sound e o l = eqb-true (m (object o 6)) (handles m sh o) (all-at (sh .objects) (λ i. eqb (m (object i 6)) (handles m sh i)) e o l)
+  counts-sound e o l = eqb-true (m (object o objectActive)) (handles m sh o) (all-at (sh .objects) (λ i. eqb (m (object i objectActive)) (handles m sh i)) e o l)
 
-  pub counts-complete : ((o : ℕ) → o < sh .objects → m (object o 6) ≡ handles m sh o) → countsB m sh ≡ true
+  pub counts-complete : ((o : ℕ) → o < sh .objects → m (object o objectActive) ≡ handles m sh o) → countsB m sh ≡ true
   unfolding countsB
-  counts-complete h = all-yes (sh .objects) (λ i. eqb (m (object i 6)) (handles m sh i)) (λ o l. eq-eqb (m (object o 6)) (handles m sh o) (h o l))
+  counts-complete h = all-yes (sh .objects) (λ i. eqb (m (object i objectActive)) (handles m sh i)) (λ o l. eq-eqb (m (object o objectActive)) (handles m sh o) (h o l))
 
 -- with words enough the answer is that of the memory
 pub counts-in : (ws : List ℕ) (sh : Shape) → total sh ≤ length ws → countsIn ws sh ≡ countsB (load ws sh) sh
@@ -47,13 +49,13 @@ module _ (sh : Shape) (m : Mem) (s : State) (r : Represents sh m s) (n : Bounds 
 -- ---- the bounds hold in a well-formed state
 
 module _ (m : Mem) (s : State) where
-  body-bound : (x : ℕ) (y : Body) → BodyIs m x y → BodyRange s y → m (row x 3) ≤ 64
+  body-bound : (x : ℕ) (y : Body) → BodyIs m x y → BodyRange s y → m (row x rowLength) ≤ batchMax
   unfolding maxBatch
   body-bound x (reservation b ks) p q = omega (arith, p .2, q .1 .1)
   body-bound x (claim b es) p q = omega (arith, p .2, q .1 .1)
   body-bound x (parcel hs) p q = omega (arith, p .1, q .0 .1)
 
-  rows-bound : (i : ℕ) (rs : List Row) → RowsAre m i rs → All (RowRange s) rs → (k : ℕ) → k < length rs → m (row (m (index (i + k))) 3) ≤ 64
+  rows-bound : (i : ℕ) (rs : List Row) → RowsAre m i rs → All (RowRange s) rs → (k : ℕ) → k < length rs → m (row (m (index (i + k))) rowLength) ≤ batchMax
   rows-bound i [] p q k l = absurd (omega arith)
   rows-bound i (r ∷ rs) p q zero l = let e : i + 0 ≡ i = omega arith in rw e (body-bound (m (index i)) (r .body) (p .1) (q .0))
   rows-bound i (r ∷ rs) p q (suc k) l = let e : i + suc k ≡ suc i + k = omega arith in rw e (rows-bound (suc i) rs (p .2) (q .1) k (omega arith))

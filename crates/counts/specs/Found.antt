@@ -12,6 +12,9 @@ use Rattle.model.specs.State.{till}
 use Rattle.model.specs.Storage.{slotsOf}
 use Rattle.layout.specs.declared.Shape.{Shape}
 use Rattle.layout.specs.Layout.{Addr, Addr.reg, Mem, root, head, entry, cell, object, index, row, item}
+use Rattle.layout.specs.Fields.{rootUsedRows, headPages, headFirstEntry, entryFrame, slotTag, slotObject, objectActive, rowKind, rowLength, itemObject}
+use Rattle.layout.specs.Values.{tagOccupied, kindClaim, kindParcel}
+use Rattle.layout.specs.Sizes.{batchMax}
 
 -- the lists of the first n numbers, one after the other
 abbrev pub gather : ℕ → (ℕ → List ℕ) → List ℕ
@@ -20,15 +23,15 @@ gather (suc n) f = gather n f ++ f n
 
 -- the tag of an occupied slot
 abbrev pub isOccupied : ℕ → Bool
-isOccupied t = eqb t 3
+isOccupied t = eqb t tagOccupied
 
 -- what a row that holds handles is: a claim or a parcel
 abbrev pub holdsHandles : ℕ → Bool
-holdsHandles g = eqb g 2 || eqb g 3
+holdsHandles g = eqb g kindClaim || eqb g kindParcel
 
 -- slot j of a frame, if it is occupied
 abbrev pub inCell : Mem → ℕ → ℕ → List ℕ
-inCell m fr j = pick (isOccupied (m (cell fr j 0))) (m (cell fr j 2) ∷ []) []
+inCell m fr j = pick (isOccupied (m (cell fr j slotTag))) (m (cell fr j slotObject) ∷ []) []
 
 -- what a frame has, given as a link
 abbrev pub onLink : ℕ → (ℕ → List ℕ) → List ℕ
@@ -37,19 +40,19 @@ onLink (suc fr) f = f fr
 
 -- page p of the table whose first entry is e
 abbrev pub inPage : Mem → ℕ → ℕ → List ℕ
-inPage m e p = onLink (m (entry (e + p) 0)) (λ fr. gather (slotsOf till p) (inCell m fr))
+inPage m e p = onLink (m (entry (e + p) entryFrame)) (λ fr. gather (slotsOf till p) (inCell m fr))
 
 -- the pages that table b has had; there are no more than the state has entries
 abbrev pub inTable : Mem → Shape → ℕ → List ℕ
-inTable m sh b = gather (min (m (head b 5)) (sh .pages)) (inPage m (m (head b 10)))
+inTable m sh b = gather (min (m (head b headPages)) (sh .pages)) (inPage m (m (head b headFirstEntry)))
 
--- a claim's or a parcel's items, which are at most 64
+-- a claim's or a parcel's items, which are at most batchMax
 abbrev pub inRow : Mem → ℕ → List ℕ
-inRow m x = pick (holdsHandles (m (row x 1))) (gather (min (m (row x 3)) 64) (λ j. m (item x j 2) ∷ [])) []
+inRow m x = pick (holdsHandles (m (row x rowKind))) (gather (min (m (row x rowLength)) batchMax) (λ j. m (item x j itemObject) ∷ [])) []
 
 -- the rows in use, by rank; there are no more than the state has places
 abbrev pub inBook : Mem → Shape → List ℕ
-inBook m sh = gather (min (m (root 6)) (sh .rows)) (λ i. inRow m (m (index i)))
+inBook m sh = gather (min (m (root rootUsedRows)) (sh .rows)) (λ i. inRow m (m (index i)))
 
 -- the objects of all handles: in occupied slots, open claims and parcels
 abbrev pub found : Mem → Shape → List ℕ
@@ -61,7 +64,7 @@ handles m sh o = occurs o (found m sh)
 
 -- "stored counts equal what they count, object counts included"
 unfoldable pub countsB : Mem → Shape → Bool
-countsB m sh = all (sh .objects) (λ o. eqb (m (object o 6)) (handles m sh o))
+countsB m sh = all (sh .objects) (λ o. eqb (m (object o objectActive)) (handles m sh o))
 
 -- ---- the walk does not look at objects
 
@@ -86,8 +89,8 @@ module _ (m n : Mem) (h : OffObjects m n) where
   pub book-same : (sh : Shape) → inBook n sh ≡ inBook m sh
   book-same sh = ap (λ (u : Mem). inBook u sh) (hide-same m n h)
 
-  pub item-same : (x j : ℕ) → _≡_ {A = List ℕ} (n (item x j 2) ∷ []) (m (item x j 2) ∷ [])
-  item-same x j = ap (λ (u : Mem). u (item x j 2) ∷ []) (hide-same m n h)
+  pub item-same : (x j : ℕ) → _≡_ {A = List ℕ} (n (item x j itemObject) ∷ []) (m (item x j itemObject) ∷ [])
+  item-same x j = ap (λ (u : Mem). u (item x j itemObject) ∷ []) (hide-same m n h)
 
   pub rank-same : (i : ℕ) → inRow n (n (index i)) ≡ inRow m (m (index i))
   rank-same i = ap (λ (u : Mem). inRow u (u (index i))) (hide-same m n h)

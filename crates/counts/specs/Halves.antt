@@ -18,6 +18,8 @@ use Rattle.model.specs.Storage.{slotsOf}
 use Rattle.model.specs.Tests.{bit-small}
 use Rattle.layout.specs.declared.Shape.{Shape}
 use Rattle.layout.specs.Layout.{Addr, Addr.reg, Mem, total, root, head, entry, cell, row, item, index, objectsAt, object, isIn, in-no, same, same-all, place, place-low, in-object, load, save, load-out, length-save, save-past, loads-same}
+use Rattle.layout.specs.Fields.{rootUsedRows, headPages, headFirstEntry, entryFrame, slotTag, slotObject, objectActive, rowKind, rowLength, itemObject}
+use Rattle.layout.specs.Sizes.{pageSize, slotsMax, batchMax}
 use Rattle.counts.specs.Found.{gather, isOccupied, holdsHandles, onLink, inCell, inPage, inTable, inRow, inBook, found, handles, countsB}
 use Rattle.counts.specs.Shift.{plus, unit, shiftW, shifted, length-shift, length-shifted, load-other, object-load, object-save}
 use Rattle.counts.specs.Objects.{objectsB, objects-sound}
@@ -28,14 +30,14 @@ halfB c = eqb (c % 4294967296) (c / 4294967296)
 
 -- of the first n objects' counts
 abbrev pub halvesTo : Mem → ℕ → Bool
-halvesTo m n = all n λ o. halfB (m (object o 6))
+halvesTo m n = all n λ o. halfB (m (object o objectActive))
 
 unfoldable pub halvesB : Mem → Shape → Bool
 halvesB m sh = halvesTo m (sh .objects)
 
 -- the count of object o with its lower half alone
 unfoldable pub lowerW : List ℕ → Shape → ℕ → List ℕ
-lowerW ws sh o = save ws sh (object o 6) (load ws sh (object o 6) % 4294967296)
+lowerW ws sh o = save ws sh (object o objectActive) (load ws sh (object o objectActive) % 4294967296)
 
 -- those of the first n objects
 unfoldable pub lowered : List ℕ → Shape → ℕ → List ℕ
@@ -47,7 +49,7 @@ settledW ws sh = lowered ws sh (sh .objects)
 
 -- every object's count is below 2^32
 abbrev pub Low : List ℕ → Shape → Type 0
-Low ws sh = (o : ℕ) → o < sh .objects → load ws sh (object o 6) < 4294967296
+Low ws sh = (o : ℕ) → o < sh .objects → load ws sh (object o objectActive) < 4294967296
 
 -- where the objects' fields are in range it is
 pub objects-low : (ws : List ℕ) (sh : Shape) → objectsB (load ws sh) sh ≡ true → Low ws sh
@@ -70,23 +72,23 @@ module _ (ws : List ℕ) (sh : Shape) (a : Addr) (v : ℕ) where
 module _ (ws : List ℕ) (sh : Shape) where
   pub length-lower : (o : ℕ) → length (lowerW ws sh o) ≡ length ws
   unfolding lowerW
-  length-lower o = length-save ws sh (object o 6) (load ws sh (object o 6) % 4294967296)
+  length-lower o = length-save ws sh (object o objectActive) (load ws sh (object o objectActive) % 4294967296)
 
-  lower-own : (o : ℕ) → load (lowerW ws sh o) sh (object o 6) ≡ load ws sh (object o 6) % 4294967296
+  lower-own : (o : ℕ) → load (lowerW ws sh o) sh (object o objectActive) ≡ load ws sh (object o objectActive) % 4294967296
   unfolding lowerW
-  lower-own o = let v : ℕ = load ws sh (object o 6) % 4294967296 in bool (ltb (place (length ws) sh (object o 6)) (length ws))
-      (λ e. own-in ws sh (object o 6) v (ltb-true (place (length ws) sh (object o 6)) (length ws) e))
-      (λ e. let z = own-past ws sh (object o 6) v (ltb-false (place (length ws) sh (object o 6)) (length ws) e) in omega (arith, z .0, z .1))
+  lower-own o = let v : ℕ = load ws sh (object o objectActive) % 4294967296 in bool (ltb (place (length ws) sh (object o objectActive)) (length ws))
+      (λ e. own-in ws sh (object o objectActive) v (ltb-true (place (length ws) sh (object o objectActive)) (length ws) e))
+      (λ e. let z = own-past ws sh (object o objectActive) v (ltb-false (place (length ws) sh (object o objectActive)) (length ws) e) in omega (arith, z .0, z .1))
 
-  lower-other : (o : ℕ) (a : Addr) → same (object o 6) a ≡ false → load (lowerW ws sh o) sh a ≡ load ws sh a
+  lower-other : (o : ℕ) (a : Addr) → same (object o objectActive) a ≡ false → load (lowerW ws sh o) sh a ≡ load ws sh a
   unfolding lowerW
-  lower-other o a e = load-other ws sh (object o 6) a (load ws sh (object o 6) % 4294967296) e
+  lower-other o a e = load-other ws sh (object o objectActive) a (load ws sh (object o objectActive) % 4294967296) e
 
   lower-past : (o i : ℕ) → total sh ≤ i → getD (lowerW ws sh o) i 0 ≡ getD ws i 0
   unfolding lowerW
-  lower-past o i h = save-past ws sh (object o 6) (load ws sh (object o 6) % 4294967296) i h
+  lower-past o i h = save-past ws sh (object o objectActive) (load ws sh (object o objectActive) % 4294967296) i h
 
-count-apart : (o p : ℕ) → (p ≡ o → ⊥) → same (object o 6) (object p 6) ≡ false
+count-apart : (o p : ℕ) → (p ≡ o → ⊥) → same (object o objectActive) (object p objectActive) ≡ false
 count-apart o p h = same-all 8 o 0 6 8 p 0 6 ∙ rw (ne-eqb p o h)
 
 module _ (ws : List ℕ) (sh : Shape) where
@@ -96,20 +98,20 @@ module _ (ws : List ℕ) (sh : Shape) where
   length-lowered (suc n) = length-lower (lowered ws sh n) sh n ∙ length-lowered n
 
   -- what is not one of their counts is as it was
-  lowered-other : (n : ℕ) (a : Addr) → ((o : ℕ) → o < n → same (object o 6) a ≡ false) → load (lowered ws sh n) sh a ≡ load ws sh a
+  lowered-other : (n : ℕ) (a : Addr) → ((o : ℕ) → o < n → same (object o objectActive) a ≡ false) → load (lowered ws sh n) sh a ≡ load ws sh a
   unfolding lowered
   lowered-other zero a h = refl
   lowered-other (suc n) a h = lower-other (lowered ws sh n) sh n a (h n (omega arith)) ∙ lowered-other n a (λ o l. h o (omega arith))
 
-  pub lowered-later : (n o : ℕ) → n ≤ o → load (lowered ws sh n) sh (object o 6) ≡ load ws sh (object o 6)
-  lowered-later n o h = lowered-other n (object o 6) (λ p l. count-apart p o (λ e. omega arith))
+  pub lowered-later : (n o : ℕ) → n ≤ o → load (lowered ws sh n) sh (object o objectActive) ≡ load ws sh (object o objectActive)
+  lowered-later n o h = lowered-other n (object o objectActive) (λ p l. count-apart p o (λ e. omega arith))
 
-  lowered-own : (n o : ℕ) → o < n → load (lowered ws sh n) sh (object o 6) ≡ load ws sh (object o 6) % 4294967296
+  lowered-own : (n o : ℕ) → o < n → load (lowered ws sh n) sh (object o objectActive) ≡ load ws sh (object o objectActive) % 4294967296
   unfolding lowered
   lowered-own zero o h = absurd (omega arith)
   lowered-own (suc n) o h = bool (eqb o n)
       (λ e. rw (eqb-true o n e) (lower-own (lowered ws sh n) sh n ∙ ap (λ (c : ℕ). c % 4294967296) (lowered-later n n (omega arith))))
-      (λ e. let y : o ≡ n → ⊥ = eqb-false o n e in lower-other (lowered ws sh n) sh n (object o 6) (count-apart n o y) ∙ lowered-own n o (omega arith))
+      (λ e. let y : o ≡ n → ⊥ = eqb-false o n e in lower-other (lowered ws sh n) sh n (object o objectActive) (count-apart n o y) ∙ lowered-own n o (omega arith))
 
   lowered-past : (n i : ℕ) → total sh ≤ i → getD (lowered ws sh n) i 0 ≡ getD ws i 0
   unfolding lowered
@@ -119,27 +121,27 @@ module _ (ws : List ℕ) (sh : Shape) where
 -- ---- one more in an upper half leaves the lower halves
 
 module _ (sh : Shape) where
-  shift-own : (ws : List ℕ) (o : ℕ) → load (shiftW ws sh unit o) sh (object o 6) % 4294967296 ≡ load ws sh (object o 6) % 4294967296
+  shift-own : (ws : List ℕ) (o : ℕ) → load (shiftW ws sh unit o) sh (object o objectActive) % 4294967296 ≡ load ws sh (object o objectActive) % 4294967296
   unfolding shiftW
-  shift-own ws o = let c : ℕ = load ws sh (object o 6) in let v : ℕ = plus c unit in bool (ltb (place (length ws) sh (object o 6)) (length ws))
-      (λ e. ap (λ (x : ℕ). x % 4294967296) (own-in ws sh (object o 6) v (ltb-true (place (length ws) sh (object o 6)) (length ws) e)) ∙ omega arith)
-      (λ e. let z = own-past ws sh (object o 6) v (ltb-false (place (length ws) sh (object o 6)) (length ws) e) in omega (arith, z .0, z .1))
+  shift-own ws o = let c : ℕ = load ws sh (object o objectActive) in let v : ℕ = plus c unit in bool (ltb (place (length ws) sh (object o objectActive)) (length ws))
+      (λ e. ap (λ (x : ℕ). x % 4294967296) (own-in ws sh (object o objectActive) v (ltb-true (place (length ws) sh (object o objectActive)) (length ws) e)) ∙ omega arith)
+      (λ e. let z = own-past ws sh (object o objectActive) v (ltb-false (place (length ws) sh (object o objectActive)) (length ws) e) in omega (arith, z .0, z .1))
 
-  shift-other : (ws : List ℕ) (x : ℕ) (a : Addr) → same (object x 6) a ≡ false → load (shiftW ws sh unit x) sh a ≡ load ws sh a
+  shift-other : (ws : List ℕ) (x : ℕ) (a : Addr) → same (object x objectActive) a ≡ false → load (shiftW ws sh unit x) sh a ≡ load ws sh a
   unfolding shiftW
-  shift-other ws x a e = load-other ws sh (object x 6) a (plus (load ws sh (object x 6)) unit) e
+  shift-other ws x a e = load-other ws sh (object x objectActive) a (plus (load ws sh (object x objectActive)) unit) e
 
   shift-past : (ws : List ℕ) (x i : ℕ) → total sh ≤ i → getD (shiftW ws sh unit x) i 0 ≡ getD ws i 0
   unfolding shiftW
-  shift-past ws x i h = save-past ws sh (object x 6) (plus (load ws sh (object x 6)) unit) i h
+  shift-past ws x i h = save-past ws sh (object x objectActive) (plus (load ws sh (object x objectActive)) unit) i h
 
-  shifted-low : (ws : List ℕ) (os : List ℕ) (o : ℕ) → load (shifted ws sh unit os) sh (object o 6) % 4294967296 ≡ load ws sh (object o 6) % 4294967296
+  shifted-low : (ws : List ℕ) (os : List ℕ) (o : ℕ) → load (shifted ws sh unit os) sh (object o objectActive) % 4294967296 ≡ load ws sh (object o objectActive) % 4294967296
   shifted-low ws [] o = refl
   shifted-low ws (x ∷ os) o = shifted-low (shiftW ws sh unit x) os o ∙ bool (eqb o x)
       (λ e. rw (eqb-true o x e) (shift-own ws x))
-      (λ e. ap (λ (c : ℕ). c % 4294967296) (shift-other ws x (object o 6) (count-apart x o (eqb-false o x e))))
+      (λ e. ap (λ (c : ℕ). c % 4294967296) (shift-other ws x (object o objectActive) (count-apart x o (eqb-false o x e))))
 
-  shifted-other : (ws : List ℕ) (os : List ℕ) (a : Addr) → ((o : ℕ) → same (object o 6) a ≡ false) → load (shifted ws sh unit os) sh a ≡ load ws sh a
+  shifted-other : (ws : List ℕ) (os : List ℕ) (a : Addr) → ((o : ℕ) → same (object o objectActive) a ≡ false) → load (shifted ws sh unit os) sh a ≡ load ws sh a
   shifted-other ws [] a h = refl
   shifted-other ws (x ∷ os) a h = shifted-other (shiftW ws sh unit x) os a h ∙ shift-other ws x a (h x)
 
@@ -159,13 +161,13 @@ settled-kept ws sh os low = loads-same (lowered vs sh n) ws sh (length-lowered v
     n : ℕ
     n = sh .objects
 
-    count : (x : ℕ) → load (lowered vs sh n) sh (object x 6) ≡ load ws sh (object x 6)
+    count : (x : ℕ) → load (lowered vs sh n) sh (object x objectActive) ≡ load ws sh (object x objectActive)
     count x = bool (ltb x n)
         (λ e. let l : x < n = ltb-true x n e in lowered-own vs sh n x l ∙ shifted-low sh ws os x ∙ omega (arith, low x l))
-        (λ e. let o : isIn sh (object x 6) ≡ false = in-no sh (object x 6) (λ i. omega (arith, i .xs, ltb-false x n e)) in
-        load-out (lowered vs sh n) sh (object x 6) o ∙ sym (load-out ws sh (object x 6) o))
+        (λ e. let o : isIn sh (object x objectActive) ≡ false = in-no sh (object x objectActive) (λ i. omega (arith, i .xs, ltb-false x n e)) in
+        load-out (lowered vs sh n) sh (object x objectActive) o ∙ sym (load-out ws sh (object x objectActive) o))
 
-    rest : (a : Addr) → ((o : ℕ) → same (object o 6) a ≡ false) → load (lowered vs sh n) sh a ≡ load ws sh a
+    rest : (a : Addr) → ((o : ℕ) → same (object o objectActive) a ≡ false) → load (lowered vs sh n) sh a ≡ load ws sh a
     rest a h = lowered-other vs sh n a (λ o l. h o) ∙ shifted-other sh ws os a h
 
     at : (a : Addr) → load (lowered vs sh n) sh a ≡ load ws sh a
@@ -189,29 +191,29 @@ occurs-length o (x ∷ xs) = omega (arith, occurs-length o xs, bit-small (eqb o 
 
 module _ (m : Mem) where
   page-length : (e p : ℕ) → length (inPage m e p) ≤ slotsOf till p
-  page-length e p = go (m (entry (e + p) 0))
+  page-length e p = go (m (entry (e + p) entryFrame))
     where
       go : (l : ℕ) → length (onLink l (λ fr. gather (slotsOf till p) (inCell m fr))) ≤ slotsOf till p
       go zero = omega arith
       go (suc fr) = let h = gather-length (slotsOf till p) 1 (inCell m fr)
-          (λ j. pick-has (λ (l : List ℕ). length l ≤ 1) (isOccupied (m (cell fr j 0))) (m (cell fr j 2) ∷ []) [] (λ e. omega arith) (λ e. omega arith)) in omega (arith, h)
+          (λ j. pick-has (λ (l : List ℕ). length l ≤ 1) (isOccupied (m (cell fr j slotTag))) (m (cell fr j slotObject) ∷ []) [] (λ e. omega arith) (λ e. omega arith)) in omega (arith, h)
 
   -- a table has no more slots than that, however many pages it is said to have
-  pages-length : (e n : ℕ) → (length (gather n (inPage m e)) ≤ n * 64) × (length (gather n (inPage m e)) ≤ 16777215)
+  pages-length : (e n : ℕ) → (length (gather n (inPage m e)) ≤ n * pageSize) × (length (gather n (inPage m e)) ≤ slotsMax)
   unfolding maxSlots
   pages-length e zero = (omega arith, omega arith)
   pages-length e (suc n) = let h = pages-length e n in let a = length-append (gather n (inPage m e)) (inPage m e n) in let b = page-length e n in
       (omega (arith, h .0, a, b), omega (arith, h .0, h .1, a, b))
 
-  row-length : (x : ℕ) → length (inRow m x) ≤ 64
-  row-length x = pick-has (λ (l : List ℕ). length l ≤ 64) (holdsHandles (m (row x 1))) (gather (min (m (row x 3)) 64) (λ j. m (item x j 2) ∷ [])) []
-      (λ e. let h = gather-length (min (m (row x 3)) 64) 1 (λ j. m (item x j 2) ∷ []) (λ j. omega arith) in omega (arith, h))
+  row-length : (x : ℕ) → length (inRow m x) ≤ batchMax
+  row-length x = pick-has (λ (l : List ℕ). length l ≤ batchMax) (holdsHandles (m (row x rowKind))) (gather (min (m (row x rowLength)) batchMax) (λ j. m (item x j itemObject) ∷ [])) []
+      (λ e. let h = gather-length (min (m (row x rowLength)) batchMax) 1 (λ j. m (item x j itemObject) ∷ []) (λ j. omega arith) in omega (arith, h))
       (λ e. omega arith)
 
   pub found-length : (sh : Shape) → sh .tables < 256 → sh .rows < 65536 → length (found m sh) < 4294967296
   found-length sh a b =
-      let u = gather-length (sh .tables) 16777215 (inTable m sh) (λ k. pages-length (m (head k 10)) (min (m (head k 5)) (sh .pages)) .1) in
-      let v = gather-length (min (m (root 6)) (sh .rows)) 64 (λ i. inRow m (m (index i))) (λ i. row-length (m (index i))) in
+      let u = gather-length (sh .tables) slotsMax (inTable m sh) (λ k. pages-length (m (head k headFirstEntry)) (min (m (head k headPages)) (sh .pages)) .1) in
+      let v = gather-length (min (m (root rootUsedRows)) (sh .rows)) batchMax (λ i. inRow m (m (index i))) (λ i. row-length (m (index i))) in
       omega (arith, length-append (gather (sh .tables) (inTable m sh)) (inBook m sh), u, v)
 
 -- ---- the answer
@@ -225,15 +227,15 @@ half-is c n a b =
     rw (e, x, y)
 
 module _ (sh : Shape) (o : ℕ) (l : o < sh .objects) where
-  shift-count : (ws : List ℕ) (x : ℕ) → total sh ≤ length ws → load ws sh (object o 6) < 18446744073709551616
-      → load (shiftW ws sh unit x) sh (object o 6) ≡ plus (load ws sh (object o 6)) (bit (eqb o x) * 4294967296)
+  shift-count : (ws : List ℕ) (x : ℕ) → total sh ≤ length ws → load ws sh (object o objectActive) < 18446744073709551616
+      → load (shiftW ws sh unit x) sh (object o objectActive) ≡ plus (load ws sh (object o objectActive)) (bit (eqb o x) * 4294967296)
   unfolding shiftW
   shift-count ws x room h = bool (eqb o x)
-      (λ e. rw (e, ← eqb-true o x e) (own-in ws sh (object o 6) (plus (load ws sh (object o 6)) unit) (omega (arith, place-low (length ws) sh (object o 6) (in-object sh o 6 l (omega arith)))) ∙ omega arith))
-      (λ e. rw e (load-other ws sh (object x 6) (object o 6) (plus (load ws sh (object x 6)) unit) (count-apart x o (eqb-false o x e)) ∙ omega (arith, h)))
+      (λ e. rw (e, ← eqb-true o x e) (own-in ws sh (object o objectActive) (plus (load ws sh (object o objectActive)) unit) (omega (arith, place-low (length ws) sh (object o objectActive) (in-object sh o objectActive l (omega arith)))) ∙ omega arith))
+      (λ e. rw e (load-other ws sh (object x objectActive) (object o objectActive) (plus (load ws sh (object x objectActive)) unit) (count-apart x o (eqb-false o x e)) ∙ omega (arith, h)))
 
-  shifted-count : (ws : List ℕ) (os : List ℕ) → total sh ≤ length ws → load ws sh (object o 6) < 18446744073709551616
-      → load (shifted ws sh unit os) sh (object o 6) ≡ plus (load ws sh (object o 6)) (occurs o os * 4294967296)
+  shifted-count : (ws : List ℕ) (os : List ℕ) → total sh ≤ length ws → load ws sh (object o objectActive) < 18446744073709551616
+      → load (shifted ws sh unit os) sh (object o objectActive) ≡ plus (load ws sh (object o objectActive)) (occurs o os * 4294967296)
   shifted-count ws [] room h = omega (arith, h)
   shifted-count ws (x ∷ os) room h = let a = shift-count ws x room h in
       shifted-count (shiftW ws sh unit x) os (omega (arith, length-shift ws sh unit x)) (omega (arith, a)) ∙ ap (λ (c : ℕ). plus c (occurs o os * 4294967296)) a ∙ omega arith
@@ -243,7 +245,7 @@ pub halves-counts : (ws : List ℕ) (sh : Shape) → total sh ≤ length ws → 
     → halvesB (load (shifted ws sh unit (found (load ws sh) sh)) sh) sh ≡ countsB (load ws sh) sh
 unfolding halvesB countsB handles
 halves-counts ws sh room low a b = let os : List ℕ = found (load ws sh) sh in
-    all-same (sh .objects) _ _ (λ o l. let c : ℕ = load ws sh (object o 6) in let h : c < 4294967296 = low o l in
+    all-same (sh .objects) _ _ (λ o l. let c : ℕ = load ws sh (object o objectActive) in let h : c < 4294967296 = low o l in
     ap halfB (shifted-count sh o l ws os room (omega (arith, h))) ∙ half-is c (occurs o os) h (omega (arith, occurs-length o os, found-length (load ws sh) sh a b)))
 
 -- ---- what the functions' bodies go by
@@ -251,20 +253,20 @@ halves-counts ws sh room low a b = let os : List ℕ = found (load ws sh) sh in
 module _ (ws : List ℕ) (sh : Shape) where
   -- `settle_one`
   module _ (first o : ℕ) (h : first ≡ objectsAt sh) (l : o < sh .objects) where
-    count-at : getD ws (first + o * 8 + 6) 0 ≡ load ws sh (object o 6)
+    count-at : getD ws (first + o * 8 + 6) 0 ≡ load ws sh (object o objectActive)
     count-at = object-load ws sh first o h l (first + o * 8 + 6) 6 (omega arith) refl
 
-    pub one-none : getD ws (first + o * 8 + 6) 0 ≡ 0 → (ws ≡ lowerW ws sh o) × (true ≡ halfB (load ws sh (object o 6)))
+    pub one-none : getD ws (first + o * 8 + 6) 0 ≡ 0 → (ws ≡ lowerW ws sh o) × (true ≡ halfB (load ws sh (object o objectActive)))
     unfolding lowerW
-    one-none z = let c : load ws sh (object o 6) ≡ 0 = sym count-at ∙ z in
+    one-none z = let c : load ws sh (object o objectActive) ≡ 0 = sym count-at ∙ z in
         (sym (set-getD ws (first + o * 8 + 6) 0) ∙ object-save ws sh first o h l (first + o * 8 + 6) 6 (omega arith) refl (getD ws (first + o * 8 + 6) 0) ∙ rw (z, c), rw c)
 
     pub one-words : (vs : List ℕ) → vs ≡ set ws (first + o * 8 + 6) (getD ws (first + o * 8 + 6) 0 % 4294967296) → vs ≡ lowerW ws sh o
     unfolding lowerW
     one-words vs e = e ∙ object-save ws sh first o h l (first + o * 8 + 6) 6 (omega arith) refl (getD ws (first + o * 8 + 6) 0 % 4294967296)
-        ∙ ap (λ (x : ℕ). save ws sh (object o 6) (x % 4294967296)) count-at
+        ∙ ap (λ (x : ℕ). save ws sh (object o objectActive) (x % 4294967296)) count-at
 
-    pub one-answer : (r : Bool) → r ≡ eqb (getD ws (first + o * 8 + 6) 0 % 4294967296) (getD ws (first + o * 8 + 6) 0 / 4294967296) → r ≡ halfB (load ws sh (object o 6))
+    pub one-answer : (r : Bool) → r ≡ eqb (getD ws (first + o * 8 + 6) 0 % 4294967296) (getD ws (first + o * 8 + 6) 0 / 4294967296) → r ≡ halfB (load ws sh (object o objectActive))
     one-answer r e = e ∙ ap halfB count-at
 
   -- `settle`
@@ -276,10 +278,10 @@ module _ (ws : List ℕ) (sh : Shape) where
   unfolding lowered
   words-more o vs us a b = rw add-one (b ∙ ap (λ (w : List ℕ). lowerW w sh o) a)
 
-  pub halves-more : (o : ℕ) (vs : List ℕ) (e t r : Bool) → vs ≡ lowered ws sh o → e ≡ halvesTo (load ws sh) o → t ≡ halfB (load vs sh (object o 6)) → r ≡ (e && t) → r ≡ halvesTo (load ws sh) (o + 1)
+  pub halves-more : (o : ℕ) (vs : List ℕ) (e t r : Bool) → vs ≡ lowered ws sh o → e ≡ halvesTo (load ws sh) o → t ≡ halfB (load vs sh (object o objectActive)) → r ≡ (e && t) → r ≡ halvesTo (load ws sh) (o + 1)
   unfolding all
   halves-more o vs e t r a p q b =
-      let d : t ≡ halfB (load ws sh (object o 6)) = q ∙ ap (λ (w : List ℕ). halfB (load w sh (object o 6))) a ∙ ap halfB (lowered-later ws sh o o (omega arith)) in
+      let d : t ≡ halfB (load ws sh (object o objectActive)) = q ∙ ap (λ (w : List ℕ). halfB (load w sh (object o objectActive))) a ∙ ap halfB (lowered-later ws sh o o (omega arith)) in
       rw add-one (b ∙ rw (p, d))
 
   pub words-end : (o : ℕ) (vs : List ℕ) → vs ≡ lowered ws sh o → o ≡ sh .objects → vs ≡ settledW ws sh

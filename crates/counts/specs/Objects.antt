@@ -1,5 +1,5 @@
 -- The fields of an object's record: their ranges, and the object that they show. Assumes nothing.
-use mathlib.Core.Path.{_≡_, refl, sym, ap, _∙_}
+use mathlib.Core.Path.{_≡_, refl, sym, _∙_}
 use mathlib.Core.Bool.{Bool, true, false, _&&_, _||_}
 use mathlib.Core.List.{List, [], _∷_}
 use Prim.Native.Nat.{ℕ, zero, suc, _+_, _*_, _/_, _^_, _≤_, _<_}
@@ -16,6 +16,8 @@ use Rattle.model.specs.WellFormed.{ObjectRange, StageCount, WellFormed}
 use Rattle.model.specs.Tests.{bit-small}
 use Rattle.layout.specs.declared.Shape.{Shape}
 use Rattle.layout.specs.Layout.{Addr.reg, Mem, objectsAt, object, load}
+use Rattle.layout.specs.Fields.{objectKoid, objectKind, objectClass, objectSupported, objectExportable, objectStage, objectActive, objectLimit}
+use Rattle.layout.specs.Values.{stageNew, stageActive, stageRetired, classNever}
 use Rattle.representation.specs.Represents.{classWord, stageWord, ObjectIs, Represents}
 use Rattle.counts.specs.Shift.{object-load}
 
@@ -29,26 +31,26 @@ stageB (suc (suc (suc g))) n = false
 -- "limits and field ranges hold", and "none is above its limit"
 unfoldable pub objectB : Mem → ℕ → Bool
 objectB m o =
-    leb 1 (m (object o 0))
-    && (leb (m (object o 1)) 4294967295
-    && (leb (m (object o 2)) 2
-    && (leb (m (object o 4)) 1
-    && (leb (m (object o 7)) 4294967295
-    && (leb (m (object o 6)) (m (object o 7))
-    && stageB (m (object o 5)) (m (object o 6)))))))
+    leb 1 (m (object o objectKoid))
+    && (leb (m (object o objectKind)) 4294967295
+    && (leb (m (object o objectClass)) classNever
+    && (leb (m (object o objectExportable)) 1
+    && (leb (m (object o objectLimit)) 4294967295
+    && (leb (m (object o objectActive)) (m (object o objectLimit))
+    && stageB (m (object o objectStage)) (m (object o objectActive)))))))
 
 unfoldable pub objectsB : Mem → Shape → Bool
 objectsB m sh = all (sh .objects) (objectB m)
 
 -- what the tests say of object o
 pub record ObjectFits (m : Mem) (o : ℕ) : Type 0 where
-  pub koid : 1 ≤ m (object o 0)
-  pub kind : m (object o 1) ≤ 4294967295
-  pub class : m (object o 2) ≤ 2
-  pub exportable : m (object o 4) ≤ 1
-  pub limit : m (object o 7) ≤ 4294967295
-  pub within : m (object o 6) ≤ m (object o 7)
-  pub staged : stageB (m (object o 5)) (m (object o 6)) ≡ true
+  pub koid : 1 ≤ m (object o objectKoid)
+  pub kind : m (object o objectKind) ≤ 4294967295
+  pub class : m (object o objectClass) ≤ 2
+  pub exportable : m (object o objectExportable) ≤ 1
+  pub limit : m (object o objectLimit) ≤ 4294967295
+  pub within : m (object o objectActive) ≤ m (object o objectLimit)
+  pub staged : stageB (m (object o objectStage)) (m (object o objectActive)) ≡ true
 
 module _ (m : Mem) (o : ℕ) where
   pub object-sound : objectB m o ≡ true → ObjectFits m o
@@ -74,12 +76,12 @@ module _ (m : Mem) (o : ℕ) where
   unfolding objectB
   object-complete f =
       rw (
-        le-leb 1 (m (object o 0)) (f .koid),
-        le-leb (m (object o 1)) 4294967295 (f .kind),
-        le-leb (m (object o 2)) 2 (f .class),
-        le-leb (m (object o 4)) 1 (f .exportable),
-        le-leb (m (object o 7)) 4294967295 (f .limit),
-        le-leb (m (object o 6)) (m (object o 7)) (f .within),
+        le-leb 1 (m (object o objectKoid)) (f .koid),
+        le-leb (m (object o objectKind)) 4294967295 (f .kind),
+        le-leb (m (object o objectClass)) classNever (f .class),
+        le-leb (m (object o objectExportable)) 1 (f .exportable),
+        le-leb (m (object o objectLimit)) 4294967295 (f .limit),
+        le-leb (m (object o objectActive)) (m (object o objectLimit)) (f .within),
       ) (f .staged)
 
   -- a failed test
@@ -103,14 +105,14 @@ stageOf (suc (suc n)) = nowRetired
 
 abbrev pub objectFrom : Mem → ℕ → Object
 objectFrom m o = record {
-  koid = m (object o 0);
-  kind = m (object o 1);
-  class = classOf (m (object o 2));
-  supported = m (object o 3);
-  exportable = eqb (m (object o 4)) 1;
-  limit = m (object o 7);
-  stage = stageOf (m (object o 5));
-  count = m (object o 6);
+  koid = m (object o objectKoid);
+  kind = m (object o objectKind);
+  class = classOf (m (object o objectClass));
+  supported = m (object o objectSupported);
+  exportable = eqb (m (object o objectExportable)) 1;
+  limit = m (object o objectLimit);
+  stage = stageOf (m (object o objectStage));
+  count = m (object o objectActive);
 }
 
 class-word : (n : ℕ) → n ≤ 2 → n ≡ classWord (classOf n)
@@ -138,20 +140,20 @@ module _ (m : Mem) (o : ℕ) (f : ObjectFits m o) where
   from-is = record {
     koid = refl;
     kind = refl;
-    class = class-word (m (object o 2)) (f .class);
+    class = class-word (m (object o objectClass)) (f .class);
     supported = refl;
-    exportable = bit-word (m (object o 4)) (f .exportable);
-    stage = stage-word (m (object o 5)) (m (object o 6)) (f .staged);
+    exportable = bit-word (m (object o objectExportable)) (f .exportable);
+    stage = stage-word (m (object o objectStage)) (m (object o objectActive)) (f .staged);
     count = refl;
     limit = refl;
   }
 
-  pub from-range : m (object o 0) < 2 ^ 64 → m (object o 3) < 2 ^ 64 → ObjectRange (objectFrom m o)
+  pub from-range : m (object o objectKoid) < 2 ^ 64 → m (object o objectSupported) < 2 ^ 64 → ObjectRange (objectFrom m o)
   unfolding maxLimit
   from-range a b = record { koid = (f .koid, a); kind = omega (arith, f .kind); supported = b; limit = f .limit }
 
   pub from-staged : StageCount (objectFrom m o .stage) (objectFrom m o .count)
-  from-staged = stage-count (m (object o 5)) (m (object o 6)) (f .staged)
+  from-staged = stage-count (m (object o objectStage)) (m (object o objectActive)) (f .staged)
 
 -- ---- and back: the words of a well-formed state's object fit
 
@@ -185,14 +187,14 @@ objects-fit sh m s r w = objects-complete m sh (λ o l. let i : o < s .objectCou
 -- ---- what the code's tests say
 
 -- a stage and a count of 0: new or retired
-pub stage-none : (g n : ℕ) (r : Bool) → n ≡ 0 → r ≡ (eqb g 0 || eqb g 2) → r ≡ stageB g n
+pub stage-none : (g n : ℕ) (r : Bool) → n ≡ 0 → r ≡ (eqb g stageNew || eqb g stageRetired) → r ≡ stageB g n
 stage-none zero n r h q = q ∙ rw h
 stage-none (suc zero) n r h q = q ∙ rw h
 stage-none (suc (suc zero)) n r h q = q
 stage-none (suc (suc (suc g))) n r h q = q ∙ rw (ne-eqb (suc (suc (suc g))) 0 (λ e. omega arith), ne-eqb (suc (suc (suc g))) 2 (λ e. omega arith))
 
 -- a stage and a count above 0: active or retired
-pub stage-some : (g n : ℕ) (r : Bool) → 1 ≤ n → r ≡ (eqb g 1 || eqb g 2) → r ≡ stageB g n
+pub stage-some : (g n : ℕ) (r : Bool) → 1 ≤ n → r ≡ (eqb g stageActive || eqb g stageRetired) → r ≡ stageB g n
 stage-some zero n r h q = q ∙ sym (ne-eqb n 0 (λ e. omega arith))
 stage-some (suc zero) n r h q = q ∙ sym (le-leb 1 n h)
 stage-some (suc (suc zero)) n r h q = q
@@ -203,8 +205,8 @@ abbrev pub fields : ℕ → ℕ → ℕ → ℕ → ℕ → ℕ → ℕ → Mem
 fields koid kind class exportable stage count limit (reg k x y f) = getD (koid ∷ kind ∷ class ∷ 0 ∷ exportable ∷ stage ∷ count ∷ limit ∷ []) f 0
 
 -- the tests look at an object's fields alone
-pub fields-are : (m : Mem) (o a b c d g f e : ℕ) (r : Bool) → a ≡ m (object o 0) → b ≡ m (object o 1) → c ≡ m (object o 2) → d ≡ m (object o 4) → g ≡ m (object o 5) → f ≡ m (object o 6)
-    → e ≡ m (object o 7) → r ≡ objectB (fields a b c d g f e) 0 → r ≡ objectB m o
+pub fields-are : (m : Mem) (o a b c d g f e : ℕ) (r : Bool) → a ≡ m (object o objectKoid) → b ≡ m (object o objectKind) → c ≡ m (object o objectClass) → d ≡ m (object o objectExportable) → g ≡ m (object o objectStage) → f ≡ m (object o objectActive)
+    → e ≡ m (object o objectLimit) → r ≡ objectB (fields a b c d g f e) 0 → r ≡ objectB m o
 unfolding objectB
 fields-are m o a b c d g f e r pa pb pc pd pg pf pe q = q ∙ rw (pa, pb, pc, pd, pg, pf, pe)
 
@@ -222,17 +224,17 @@ module _ (ws : List ℕ) (sh : Shape) (first o : ℕ) (h : first ≡ objectsAt s
       (field-at (i + 4) 4 (omega arith) refl) (field-at (i + 5) 5 (omega arith) refl) (field-at (i + 6) 6 (omega arith) refl) (field-at (i + 7) 7 (omega arith) refl) q
 
 -- `fields_ok`: no upper part stands, and with every test before the last passed
-pub object-last : (m : Mem) (o a b c d e f g : ℕ) (r : Bool) → a ≡ m (object o 0) → b ≡ m (object o 1) → c ≡ m (object o 2) → d ≡ m (object o 4) → e ≡ m (object o 7) → f ≡ m (object o 6)
-    → g ≡ m (object o 5) → b / 4294967296 + e / 4294967296 + d / 2 ≡ 0 → 1 ≤ a → c ≤ 2 → f ≤ e → r ≡ stageB g f → r ≡ objectB m o
+pub object-last : (m : Mem) (o a b c d e f g : ℕ) (r : Bool) → a ≡ m (object o objectKoid) → b ≡ m (object o objectKind) → c ≡ m (object o objectClass) → d ≡ m (object o objectExportable) → e ≡ m (object o objectLimit) → f ≡ m (object o objectActive)
+    → g ≡ m (object o objectStage) → b / 4294967296 + e / 4294967296 + d / 2 ≡ 0 → 1 ≤ a → c ≤ 2 → f ≤ e → r ≡ stageB g f → r ≡ objectB m o
 unfolding objectB
 object-last m o a b c d e f g r pa pb pc pd pe pf pg hw ha hc hf q =
     q ∙ rw (pg, pf) (rw (
-      le-leb 1 (m (object o 0)) (omega arith),
-      le-leb (m (object o 1)) 4294967295 (omega arith),
-      le-leb (m (object o 2)) 2 (omega arith),
-      le-leb (m (object o 4)) 1 (omega arith),
-      le-leb (m (object o 7)) 4294967295 (omega arith),
-      le-leb (m (object o 6)) (m (object o 7)) (omega arith),
+      le-leb 1 (m (object o objectKoid)) (omega arith),
+      le-leb (m (object o objectKind)) 4294967295 (omega arith),
+      le-leb (m (object o objectClass)) classNever (omega arith),
+      le-leb (m (object o objectExportable)) 1 (omega arith),
+      le-leb (m (object o objectLimit)) 4294967295 (omega arith),
+      le-leb (m (object o objectActive)) (m (object o objectLimit)) (omega arith),
     ))
 
 -- `check_objects`

@@ -11,6 +11,7 @@ use Rattle.words.specs.Pick.{bool, clash}
 use Rattle.layout.specs.declared.Shape.{Shape}
 use Rattle.layout.specs.Regions.{region, one-place, inside-is, in-place}
 use Rattle.layout.specs.Layout.{Addr, Addr.reg, total, layout, layout-stacked, objectsAt, object, in-object, isIn, place, same, same-all, load, save, length-save, load-out, save-out}
+use Rattle.layout.specs.Fields.{objectActive}
 use Rattle.counts.specs.Found.{OffObjects}
 
 -- a word with d more: past the largest it starts again
@@ -23,7 +24,7 @@ unit = 4294967296
 
 -- the count of object o with d more
 unfoldable pub shiftW : List ℕ → Shape → ℕ → ℕ → List ℕ
-shiftW ws sh d o = save ws sh (object o 6) (plus (load ws sh (object o 6)) d)
+shiftW ws sh d o = save ws sh (object o objectActive) (plus (load ws sh (object o objectActive)) d)
 
 -- of each object of a list in turn
 abbrev pub shifted : List ℕ → Shape → ℕ → List ℕ → List ℕ
@@ -36,7 +37,7 @@ shifted-append ws sh d (x ∷ xs) ys = shifted-append (shiftW ws sh d x) sh d xs
 
 pub length-shift : (ws : List ℕ) (sh : Shape) (d o : ℕ) → length (shiftW ws sh d o) ≡ length ws
 unfolding shiftW
-length-shift ws sh d o = length-save ws sh (object o 6) (plus (load ws sh (object o 6)) d)
+length-shift ws sh d o = length-save ws sh (object o objectActive) (plus (load ws sh (object o objectActive)) d)
 
 pub length-shifted : (ws : List ℕ) (sh : Shape) (d : ℕ) (os : List ℕ) → length (shifted ws sh d os) ≡ length ws
 length-shifted ws sh d [] = refl
@@ -64,7 +65,7 @@ module _ (ws : List ℕ) (sh : Shape) where
 
 pub shift-off : (ws : List ℕ) (sh : Shape) (d o : ℕ) → OffObjects (load ws sh) (load (shiftW ws sh d o) sh)
 unfolding shiftW
-shift-off ws sh d o k x y f h = load-other ws sh (object o 6) (reg k x y f) (plus (load ws sh (object o 6)) d) (same-all 8 o 0 6 k x y f ∙ rw (ne-eqb k 8 h))
+shift-off ws sh d o k x y f h = load-other ws sh (object o objectActive) (reg k x y f) (plus (load ws sh (object o objectActive)) d) (same-all 8 o 0 6 k x y f ∙ rw (ne-eqb k 8 h))
 
 pub shifted-off : (ws : List ℕ) (sh : Shape) (d : ℕ) (os : List ℕ) → OffObjects (load ws sh) (load (shifted ws sh d os) sh)
 shifted-off ws sh d [] k x y f h = refl
@@ -88,4 +89,4 @@ module _ (ws : List ℕ) (sh : Shape) (first o : ℕ) (h : first ≡ objectsAt s
 pub shift-at : (ws vs : List ℕ) (sh : Shape) (first o : ℕ) → first ≡ objectsAt sh → o < sh .objects → vs ≡ set ws (first + o * 8 + 6) (plus (getD ws (first + o * 8 + 6) 0) unit) → vs ≡ shiftW ws sh unit o
 unfolding shiftW
 shift-at ws vs sh first o h l e = let i : ℕ = first + o * 8 + 6 in
-    e ∙ object-save ws sh first o h l i 6 (omega arith) refl (plus (getD ws i 0) unit) ∙ ap (λ (c : ℕ). save ws sh (object o 6) (plus c unit)) (object-load ws sh first o h l i 6 (omega arith) refl)
+    e ∙ object-save ws sh first o h l i 6 (omega arith) refl (plus (getD ws i 0) unit) ∙ ap (λ (c : ℕ). save ws sh (object o objectActive) (plus c unit)) (object-load ws sh first o h l i 6 (omega arith) refl)

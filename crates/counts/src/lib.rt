@@ -10,11 +10,16 @@ ghost use Prim.Native.Nat.{_≤_, _<_};
 ghost use lib.Dec.{eqb};
 ghost use lib.ListN.{length};
 ghost use Rattle.layout.specs.Layout.{objectsAt, total, load as loadAt, object, index, item};
+ghost use Rattle.layout.specs.Fields.{objectActive, itemObject};
 ghost use Rattle.counts.specs.Found.{gather, inRow, inBook};
 ghost use Rattle.counts.specs.Shift.{plus, shiftW, shifted, unit};
 ghost use Rattle.counts.specs.Objects.{fields, objectB, objectsB};
 ghost use Rattle.counts.specs.Halves.{halfB, halvesB, lowerW, settledW};
 use layout::Shape;
+use layout::field;
+use layout::place;
+use layout::size;
+use layout::value;
 
 // One more in the upper half of a word.
 const UNIT: u64 = 4294967296;
@@ -48,33 +53,33 @@ fn fields_ok(
     if koid < 1 {
         return false;
     }
-    if class > 2 {
+    if class > value::CLASS_NEVER {
         return false;
     }
     if count == 0 {
-        return either(stage, 0, 2);
+        return either(stage, value::STAGE_NEW, value::STAGE_RETIRED);
     }
     if count > limit {
         return false;
     }
-    either(stage, 1, 2)
+    either(stage, value::STAGE_ACTIVE, value::STAGE_RETIRED)
 }
 
-// Of object o, whose record starts 8 * o words after the first one's.
+// Of object o, whose record starts o records after the first one's.
 fn object_ok(s: &[u64], sh: Shape, first: u64, o: u64) -> bool
     requires { ⌜ (first ≡ objectsAt sh) × (o < sh .objects) ⌝ }
     requires { ⌜ total sh ≤ length (now s) ⌝ }
     ensures { λ r. ⌜ r ≡ objectB (loadAt (now (s .entry)) sh) o ⌝ }
 {
-    let at = (first + o * 8) as usize;
+    let at = (first + o * size::OBJECT_SIZE) as usize;
     fields_ok(
         s[at],
-        s[at + 1],
-        s[at + 2],
-        s[at + 4],
-        s[at + 5],
-        s[at + 6],
-        s[at + 7],
+        s[at + place::OBJECT_KIND],
+        s[at + place::OBJECT_CLASS],
+        s[at + place::OBJECT_EXPORTABLE],
+        s[at + place::OBJECT_STAGE],
+        s[at + place::OBJECT_ACTIVE],
+        s[at + place::OBJECT_LIMIT],
     )
 }
 
@@ -107,8 +112,8 @@ fn added(c: u64) -> u64
 fn note_count(s: &mut [u64], sh: Shape, o: u64)
     ensures { λ _. ⌜ now (s .exit) ≡ shiftW (now (s .entry)) sh unit o ⌝ }
 {
-    let c = layout::object_word(s, sh, o, 6);
-    layout::put_object(s, sh, o, 6, added(c));
+    let c = layout::object_word(s, sh, o, field::OBJECT_ACTIVE);
+    layout::put_object(s, sh, o, field::OBJECT_ACTIVE, added(c));
 }
 
 // The same where o is one of the state's objects and all words are lent: no further test.
@@ -118,21 +123,21 @@ pub fn note_handle(s: &mut [u64], sh: Shape, o: u64)
     ensures { λ _. ⌜ now (s .exit) ≡ shiftW (now (s .entry)) sh unit o ⌝ }
 {
     let first = layout::region_of(sh, layout::OBJECT).low;
-    let at = (first + o * 8 + 6) as usize;
+    let at = (first + o * size::OBJECT_SIZE + field::OBJECT_ACTIVE) as usize;
     s[at] = added(s[at]);
 }
 
 // For item j of the row in place x.
 fn note_item(s: &mut [u64], sh: Shape, x: u64, j: u64)
-    ensures { λ _. ⌜ now (s .exit) ≡ shifted (now (s .entry)) sh unit (loadAt (now (s .entry)) sh (item x j 2) ∷ []) ⌝ }
+    ensures { λ _. ⌜ now (s .exit) ≡ shifted (now (s .entry)) sh unit (loadAt (now (s .entry)) sh (item x j itemObject) ∷ []) ⌝ }
 {
-    let o = layout::item_word(s, sh, x, j, 2);
+    let o = layout::item_word(s, sh, x, j, field::ITEM_OBJECT);
     note_count(s, sh, o);
 }
 
 // For the first n items of the row in place x.
 fn note_items(s: &mut [u64], sh: Shape, x: u64, n: u64)
-    ensures { λ _. ⌜ now (s .exit) ≡ shifted (now (s .entry)) sh unit (gather n (λ j. loadAt (now (s .entry)) sh (item x j 2) ∷ [])) ⌝ }
+    ensures { λ _. ⌜ now (s .exit) ≡ shifted (now (s .entry)) sh unit (gather n (λ j. loadAt (now (s .entry)) sh (item x j itemObject) ∷ [])) ⌝ }
 {
     let mut j: u64 = 0;
     while j < n {
@@ -145,15 +150,15 @@ fn note_items(s: &mut [u64], sh: Shape, x: u64, n: u64)
 fn note_row(s: &mut [u64], sh: Shape, x: u64)
     ensures { λ _. ⌜ now (s .exit) ≡ shifted (now (s .entry)) sh unit (inRow (loadAt (now (s .entry)) sh) x) ⌝ }
 {
-    let kind = layout::row_word(s, sh, x, 1);
-    if kind < 2 {
+    let kind = layout::row_word(s, sh, x, field::ROW_KIND);
+    if kind < value::KIND_CLAIM {
         return;
     }
-    if kind > 3 {
+    if kind > value::KIND_PARCEL {
         return;
     }
-    let count = layout::row_word(s, sh, x, 3);
-    let n = words::smaller(count, 64);
+    let count = layout::row_word(s, sh, x, field::ROW_LENGTH);
+    let n = words::smaller(count, size::BATCH_MAX);
     note_items(s, sh, x, n);
 }
 
@@ -169,7 +174,7 @@ fn note_rank(s: &mut [u64], sh: Shape, i: u64)
 pub fn note_rows(s: &mut [u64], sh: Shape)
     ensures { λ _. ⌜ now (s .exit) ≡ shifted (now (s .entry)) sh unit (inBook (loadAt (now (s .entry)) sh) sh) ⌝ }
 {
-    let used = layout::root_word(s, sh, 6);
+    let used = layout::root_word(s, sh, field::ROOT_USED_ROWS);
     let n = words::smaller(used, sh.rows as u64);
     let mut i: u64 = 0;
     while i < n {
@@ -190,9 +195,9 @@ fn settle_one(s: &mut [u64], sh: Shape, first: u64, o: u64) -> bool
     requires { ⌜ (first ≡ objectsAt sh) × (o < sh .objects) ⌝ }
     requires { ⌜ total sh ≤ length (now s) ⌝ }
     ensures words { λ _. ⌜ now (s .exit) ≡ lowerW (now (s .entry)) sh o ⌝ }
-    ensures answer { λ r. ⌜ r ≡ halfB (loadAt (now (s .entry)) sh (object o 6)) ⌝ }
+    ensures answer { λ r. ⌜ r ≡ halfB (loadAt (now (s .entry)) sh (object o objectActive)) ⌝ }
 {
-    let at = (first + o * 8 + 6) as usize;
+    let at = (first + o * size::OBJECT_SIZE + field::OBJECT_ACTIVE) as usize;
     let c = s[at];
     if c == 0 {
         return true;

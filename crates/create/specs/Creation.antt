@@ -14,6 +14,7 @@ use Rattle.layout.specs.Layout.{Addr.reg, total, root, head, object, index, ran
 use Rattle.layout.specs.ShapeOf.{onShape}
 use Rattle.codec.specs.Codec.{maskOf}
 use Rattle.layout.specs.Turns.{turns}
+use Rattle.layout.specs.Fields.{rootVersion, rootTables, rootFrames, rootObjects, rootRows, rootNextId, rootFreeFrames, rootPages, headPageLimit, headMask, headFirstEntry, objectKoid, objectKind, objectClass, objectSupported, objectExportable, objectLimit}
 use Rattle.create.specs.Parameters.{tableFrom, objectPlace, objectOf, pageSum, planOf}
 
 -- words 0 to n - 1 are 0
@@ -24,15 +25,15 @@ clearedW ws (suc n) = set (clearedW ws n) n 0
 -- the header: version 1, the counts, next id 1; all frames are free
 abbrev pub headerP : Shape → List Write
 headerP sh =
-    at (root 0) 1 ∷ at (root 1) (sh .tables) ∷ at (root 2) (sh .frames) ∷ at (root 3) (sh .objects) ∷ at (root 4) (sh .rows)
-    ∷ at (root 5) 1 ∷ at (root 7) (sh .frames) ∷ at (root 8) (sh .pages) ∷ []
+    at (root rootVersion) 1 ∷ at (root rootTables) (sh .tables) ∷ at (root rootFrames) (sh .frames) ∷ at (root rootObjects) (sh .objects) ∷ at (root rootRows) (sh .rows)
+    ∷ at (root rootNextId) 1 ∷ at (root rootFreeFrames) (sh .frames) ∷ at (root rootPages) (sh .pages) ∷ []
 
 unfoldable pub headerW : List ℕ → Shape → List ℕ
 headerW ws sh = writes ws sh (headerP sh)
 
 -- a table's head: limit, mask, and its first page entry after those of the tables before it
 abbrev pub headP : List ℕ → ℕ → List Write
-headP ps b = at (head b 0) (tableFrom ps b .pages) ∷ at (head b 1) (maskOf (tableFrom ps b .seed)) ∷ at (head b 10) (pageSum ps b) ∷ []
+headP ps b = at (head b headPageLimit) (tableFrom ps b .pages) ∷ at (head b headMask) (maskOf (tableFrom ps b .seed)) ∷ at (head b headFirstEntry) (pageSum ps b) ∷ []
 
 abbrev pub headsW : List ℕ → Shape → List ℕ → ℕ → List ℕ
 headsW ws sh ps n = turns ws sh (headP ps) n
@@ -40,8 +41,8 @@ headsW ws sh ps n = turns ws sh (headP ps) n
 -- an object, new and without handles
 abbrev pub objectP : List ℕ → ℕ → ℕ → List Write
 objectP ps t o =
-    at (object o 0) (objectOf ps t o .koid) ∷ at (object o 1) (objectOf ps t o .kind) ∷ at (object o 2) (objectOf ps t o .class)
-    ∷ at (object o 3) (objectOf ps t o .supported) ∷ at (object o 4) (objectOf ps t o .exportable) ∷ at (object o 7) (objectOf ps t o .limit) ∷ []
+    at (object o objectKoid) (objectOf ps t o .koid) ∷ at (object o objectKind) (objectOf ps t o .kind) ∷ at (object o objectClass) (objectOf ps t o .class)
+    ∷ at (object o objectSupported) (objectOf ps t o .supported) ∷ at (object o objectExportable) (objectOf ps t o .exportable) ∷ at (object o objectLimit) (objectOf ps t o .limit) ∷ []
 
 abbrev pub objectsW : List ℕ → Shape → List ℕ → ℕ → List ℕ
 objectsW ws sh ps n = turns ws sh (objectP ps (sh .tables)) n
@@ -105,9 +106,9 @@ cleared-at ws k n us e q = rw (← q) e
 
 -- ---- what the stores say
 
-pub header-by : (ws : List ℕ) (sh : Shape) (s1 s2 s3 s4 s5 s6 s7 s8 : List ℕ) → s1 ≡ save ws sh (root 0) 1 → s2 ≡ save s1 sh (root 1) (sh .tables) → s3 ≡ save s2 sh (root 2) (sh .frames)
-    → s4 ≡ save s3 sh (root 3) (sh .objects) → s5 ≡ save s4 sh (root 4) (sh .rows) → s6 ≡ save s5 sh (root 5) 1 → s7 ≡ save s6 sh (root 7) (sh .frames)
-    → s8 ≡ save s7 sh (root 8) (sh .pages) → s8 ≡ headerW ws sh
+pub header-by : (ws : List ℕ) (sh : Shape) (s1 s2 s3 s4 s5 s6 s7 s8 : List ℕ) → s1 ≡ save ws sh (root rootVersion) 1 → s2 ≡ save s1 sh (root rootTables) (sh .tables) → s3 ≡ save s2 sh (root rootFrames) (sh .frames)
+    → s4 ≡ save s3 sh (root rootObjects) (sh .objects) → s5 ≡ save s4 sh (root rootRows) (sh .rows) → s6 ≡ save s5 sh (root rootNextId) 1 → s7 ≡ save s6 sh (root rootFreeFrames) (sh .frames)
+    → s8 ≡ save s7 sh (root rootPages) (sh .pages) → s8 ≡ headerW ws sh
 unfolding headerW
 header-by ws sh s1 s2 s3 s4 s5 s6 s7 s8 e1 e2 e3 e4 e5 e6 e7 e8 = cc
 
@@ -116,14 +117,14 @@ unfolding headerW
 header-length ws us sh e = ap length e ∙ length-writes ws sh (headerP sh)
 
 pub head-by : (ws : List ℕ) (sh : Shape) (ps : List ℕ) (b pages seed mask first : ℕ) (s1 s2 s3 : List ℕ) → pages ≡ getD ps (4 + b * 2) 0 → seed ≡ getD ps (4 + b * 2 + 1) 0 → mask ≡ maskOf seed → first ≡ pageSum ps b
-    → s1 ≡ save ws sh (head b 0) pages → s2 ≡ save s1 sh (head b 1) mask → s3 ≡ save s2 sh (head b 10) first → s3 ≡ writes ws sh (headP ps b)
+    → s1 ≡ save ws sh (head b headPageLimit) pages → s2 ≡ save s1 sh (head b headMask) mask → s3 ≡ save s2 sh (head b headFirstEntry) first → s3 ≡ writes ws sh (headP ps b)
 head-by ws sh ps b pages seed mask first s1 s2 s3 a d e f e1 e2 e3 =
     rw (← a, ← d, ← e, ← f) (cc)
 
 pub object-by : (ws : List ℕ) (sh : Shape) (ps : List ℕ) (t o i v1 v2 v3 v4 v5 v6 : ℕ) (s1 s2 s3 s4 s5 s6 : List ℕ) → i ≡ objectPlace t o → v1 ≡ getD ps i 0 → v2 ≡ getD ps (i + 1) 0
     → v3 ≡ getD ps (i + 2) 0 → v4 ≡ getD ps (i + 3) 0 → v5 ≡ getD ps (i + 4) 0 → v6 ≡ getD ps (i + 5) 0
-    → s1 ≡ save ws sh (object o 0) v1 → s2 ≡ save s1 sh (object o 1) v2 → s3 ≡ save s2 sh (object o 2) v3
-    → s4 ≡ save s3 sh (object o 3) v4 → s5 ≡ save s4 sh (object o 4) v5 → s6 ≡ save s5 sh (object o 7) v6 → s6 ≡ writes ws sh (objectP ps t o)
+    → s1 ≡ save ws sh (object o objectKoid) v1 → s2 ≡ save s1 sh (object o objectKind) v2 → s3 ≡ save s2 sh (object o objectClass) v3
+    → s4 ≡ save s3 sh (object o objectSupported) v4 → s5 ≡ save s4 sh (object o objectExportable) v5 → s6 ≡ save s5 sh (object o objectLimit) v6 → s6 ≡ writes ws sh (objectP ps t o)
 object-by ws sh ps t o i v1 v2 v3 v4 v5 v6 s1 s2 s3 s4 s5 s6 q a1 a2 a3 a4 a5 a6 e1 e2 e3 e4 e5 e6 =
     rw (← q, ← a1, ← a2, ← a3, ← a4, ← a5, ← a6) (cc)
 

@@ -12,6 +12,9 @@ use Rattle.words.specs.Pick.{bool, both, clash}
 use Rattle.codec.specs.Codec.{maskOf}
 use Rattle.layout.specs.Layout.{Mem, total, head, object}
 use Rattle.layout.specs.ShapeOf.{Permitted, Roots}
+use Rattle.layout.specs.Fields.{headPageLimit, headMask, headLifecycle, headEpoch, headPages, headFirstFree, headFreeSlots, headFirstEmpty, headFirstDetached, objectKoid, objectKind, objectClass, objectSupported, objectExportable, objectStage, objectActive, objectLimit}
+use Rattle.layout.specs.Values.{lifeActive, stageNew}
+use Rattle.layout.specs.Sizes.{pageSize, pagesMax}
 use Rattle.model.specs.Base.{bit, nth, every, range, occurs, sum}
 use Rattle.model.specs.State.{till, Slot.absent, maxSlots}
 use Rattle.model.specs.Create.{TableParameters, ObjectParameters, tablePermitted, objectPermitted, permitted, classOf, newTable, newObjectRecord, created}
@@ -66,9 +69,9 @@ group-count F a (suc n) = bool (ltb (a + n) F)
 -- ---- the parts of a new state
 
 -- no page, no slot
-slot-none : (m : Mem) (b k : ℕ) → m (head b 5) ≡ 0 → slotIn m b k ≡ absent
+slot-none : (m : Mem) (b k : ℕ) → m (head b headPages) ≡ 0 → slotIn m b k ≡ absent
 slot-none m b k e = bool (ltb k maxSlots)
-    (λ q. rw (q, e, le-ltb (k / 64) 0 (omega arith)))
+    (λ q. rw (q, e, le-ltb (k / pageSize) 0 (omega arith)))
     (λ q. rw q)
 
 class-word : (n : ℕ) → n < 3 → n ≡ classWord (classOf n)
@@ -82,8 +85,8 @@ bit-word zero h = refl
 bit-word (suc zero) h = refl
 bit-word (suc (suc n)) h = absurd (omega arith)
 
-table-made : (m : Mem) (b : ℕ) (q : TableParameters) → m (head b 0) ≡ q .pages → m (head b 1) ≡ maskOf (q .seed) → m (head b 2) ≡ 0 → m (head b 4) ≡ 0 → m (head b 5) ≡ 0
-    → m (head b 6) ≡ 0 → m (head b 7) ≡ 0 → m (head b 8) ≡ 0 → m (head b 9) ≡ 0 → TableIs m b (newTable (some q))
+table-made : (m : Mem) (b : ℕ) (q : TableParameters) → m (head b headPageLimit) ≡ q .pages → m (head b headMask) ≡ maskOf (q .seed) → m (head b headLifecycle) ≡ lifeActive → m (head b headEpoch) ≡ 0 → m (head b headPages) ≡ 0
+    → m (head b headFirstFree) ≡ 0 → m (head b headFreeSlots) ≡ 0 → m (head b headFirstEmpty) ≡ 0 → m (head b headFirstDetached) ≡ 0 → TableIs m b (newTable (some q))
 table-made m b q e0 e1 e2 e4 e5 e6 e7 e8 e9 = record {
   limit = e0;
   mask = e1;
@@ -100,8 +103,8 @@ table-made m b q e0 e1 e2 e4 e5 e6 e7 e8 e9 = record {
   detached = e9;
 }
 
-object-made : (m : Mem) (o : ℕ) (q : ObjectParameters) → ObjectGood q → m (object o 0) ≡ q .koid → m (object o 1) ≡ q .kind → m (object o 2) ≡ q .class → m (object o 3) ≡ q .supported
-    → m (object o 4) ≡ q .exportable → m (object o 5) ≡ 0 → m (object o 6) ≡ 0 → m (object o 7) ≡ q .limit → ObjectIs m o (newObjectRecord (some q))
+object-made : (m : Mem) (o : ℕ) (q : ObjectParameters) → ObjectGood q → m (object o objectKoid) ≡ q .koid → m (object o objectKind) ≡ q .kind → m (object o objectClass) ≡ q .class → m (object o objectSupported) ≡ q .supported
+    → m (object o objectExportable) ≡ q .exportable → m (object o objectStage) ≡ stageNew → m (object o objectActive) ≡ 0 → m (object o objectLimit) ≡ q .limit → ObjectIs m o (newObjectRecord (some q))
 object-made m o q g e0 e1 e2 e3 e4 e5 e6 e7 = record {
   koid = e0;
   kind = e1;
@@ -131,11 +134,11 @@ module _ (ps : List ℕ) (g : Good ps) where
   object-good o h = object-is (objectOf ps (getD ps 0 0) o) (every-from objectPermitted (objectOf ps (getD ps 0 0)) 0 (getD ps 2 0) o o (good-checked ps g .objects) h (omega arith))
 
   -- a table has as many pages as its word says
-  limit-at : (b : ℕ) → b < getD ps 0 0 → min (tableFrom ps b .pages) 262144 ≡ newTable (nth (tablesIn ps (getD ps 0 0)) b) .limit
+  limit-at : (b : ℕ) → b < getD ps 0 0 → min (tableFrom ps b .pages) pagesMax ≡ newTable (nth (tablesIn ps (getD ps 0 0)) b) .limit
   limit-at b h = rw (table-at b h) (omega (arith, table-good b h .few-pages))
 
   limits-sum : (n : ℕ) → n ≤ getD ps 0 0 → pageSum ps n ≡ (sum n λ b. newTable (nth (tablesIn ps (getD ps 0 0)) b) .limit)
-  limits-sum n h = sum-equal n (λ b. min (tableFrom ps b .pages) 262144) (λ b. newTable (nth (tablesIn ps (getD ps 0 0)) b) .limit) (λ b i. limit-at b (omega arith))
+  limits-sum n h = sum-equal n (λ b. min (tableFrom ps b .pages) pagesMax) (λ b. newTable (nth (tablesIn ps (getD ps 0 0)) b) .limit) (λ b i. limit-at b (omega arith))
 
   some-pages : (n : ℕ) → n ≤ getD ps 0 0 → n ≤ pageSum ps n
   some-pages zero h = omega arith

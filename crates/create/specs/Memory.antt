@@ -13,6 +13,8 @@ use Rattle.layout.specs.declared.Shape.{Shape}
 use Rattle.layout.specs.Layout.{Addr, Mem, total, root, head, owner, group, object, index, rank, load, place, place-low, isIn, in-is, load-out, Write, writes, upds, length-writes, load-writes, writes-past}
 use Rattle.layout.specs.Layout.{in-root, in-head, in-object, in-index, in-rank}
 use Rattle.layout.specs.Turns.{hit, length-turns, load-turns, miss, turns, turns-past, turnsM}
+use Rattle.layout.specs.Fields.{rootVersion, rootTables, rootFrames, rootObjects, rootRows, rootNextId, rootFreeFrames, rootPages, headPageLimit, headMask, headLifecycle, headEpoch, headPages, headFirstFree, headFreeSlots, headFirstEmpty, headFirstDetached, headFirstEntry, objectKoid, objectKind, objectClass, objectSupported, objectExportable, objectStage, objectActive, objectLimit}
+use Rattle.layout.specs.Values.{lifeActive, stageNew}
 use Rattle.create.specs.Parameters.{tableFrom, objectOf, pageSum}
 use Rattle.create.specs.Creation.{clearedW, headerP, headerW, headP, objectP, groupP, levelsW, placeP, builtW}
 
@@ -100,12 +102,12 @@ module _ (ps : List ℕ) (sh : Shape) where
       (load-turns w3 sh (groupP sh 4 16) (omega arith) ((sh .frames + 15) / 16) (λ i g. (record { xs = g; ys = omega arith; fs = omega arith }, tt))
       ∙ ap (λ (m : Mem). turnsM m (groupP sh 4 16) ((sh .frames + 15) / 16))
       (load-turns w2 sh (objectP ps (sh .tables)) (omega arith) (sh .objects)
-      (λ i g. (in-object sh i 0 g (omega arith), (in-object sh i 1 g (omega arith), (in-object sh i 2 g (omega arith), (in-object sh i 3 g (omega arith), (in-object sh i 4 g (omega arith), (in-object sh i 7 g (omega arith), tt)))))))
+      (λ i g. (in-object sh i objectKoid g (omega arith), (in-object sh i objectKind g (omega arith), (in-object sh i objectClass g (omega arith), (in-object sh i objectSupported g (omega arith), (in-object sh i objectExportable g (omega arith), (in-object sh i objectLimit g (omega arith), tt)))))))
       ∙ ap (λ (m : Mem). turnsM m (objectP ps (sh .tables)) (sh .objects))
-      (load-turns w1 sh (headP ps) (omega arith) (sh .tables) (λ i g. (in-head sh i 0 g (omega arith), (in-head sh i 1 g (omega arith), (in-head sh i 10 g (omega arith), tt))))
+      (load-turns w1 sh (headP ps) (omega arith) (sh .tables) (λ i g. (in-head sh i headPageLimit g (omega arith), (in-head sh i headMask g (omega arith), (in-head sh i headFirstEntry g (omega arith), tt))))
       ∙ ap (λ (m : Mem). turnsM m (headP ps) (sh .tables))
       (load-writes w0 sh (omega arith) (headerP sh)
-      (in-root sh 0 (omega arith), (in-root sh 1 (omega arith), (in-root sh 2 (omega arith), (in-root sh 3 (omega arith), (in-root sh 4 (omega arith), (in-root sh 5 (omega arith), (in-root sh 7 (omega arith), (in-root sh 8 (omega arith), tt))))))))
+      (in-root sh rootVersion (omega arith), (in-root sh rootTables (omega arith), (in-root sh rootFrames (omega arith), (in-root sh rootObjects (omega arith), (in-root sh rootRows (omega arith), (in-root sh rootNextId (omega arith), (in-root sh rootFreeFrames (omega arith), (in-root sh rootPages (omega arith), tt))))))))
       ∙ ap (λ (m : Mem). upds m (headerP sh)) (load-cleared ws sh)))))))
 
   pub length-built : (ws : List ℕ) → length (builtW ws ps sh) ≡ length ws
@@ -156,36 +158,36 @@ module _ (ps : List ℕ) (sh : Shape) where
       offPlaces (head b f) (λ i k. refl) ∙ offGroups (head b f) (λ i k. refl) (λ i k. refl) (λ i k. refl)
       ∙ miss mHeads (objectP ps (sh .tables)) (head b f) (λ i k. refl) (sh .objects)
 
-  pub new-limit : (b : ℕ) → b < sh .tables → mNew (head b 0) ≡ tableFrom ps b .pages
-  new-limit b h = new-head b 0 ∙ own mRoot (headP ps) (head b 0) (λ j. tableFrom ps j .pages) b (λ j k. refl) (sh .tables) h
+  pub new-limit : (b : ℕ) → b < sh .tables → mNew (head b headPageLimit) ≡ tableFrom ps b .pages
+  new-limit b h = new-head b 0 ∙ own mRoot (headP ps) (head b headPageLimit) (λ j. tableFrom ps j .pages) b (λ j k. refl) (sh .tables) h
 
-  pub new-mask : (b : ℕ) → b < sh .tables → mNew (head b 1) ≡ maskOf (tableFrom ps b .seed)
-  new-mask b h = new-head b 1 ∙ own mRoot (headP ps) (head b 1) (λ j. maskOf (tableFrom ps j .seed)) b (λ j k. refl) (sh .tables) h
+  pub new-mask : (b : ℕ) → b < sh .tables → mNew (head b headMask) ≡ maskOf (tableFrom ps b .seed)
+  new-mask b h = new-head b 1 ∙ own mRoot (headP ps) (head b headMask) (λ j. maskOf (tableFrom ps j .seed)) b (λ j k. refl) (sh .tables) h
 
-  pub new-first : (b : ℕ) → b < sh .tables → mNew (head b 10) ≡ pageSum ps b
-  new-first b h = new-head b 10 ∙ own mRoot (headP ps) (head b 10) (λ j. pageSum ps j) b (λ j k. refl) (sh .tables) h
+  pub new-first : (b : ℕ) → b < sh .tables → mNew (head b headFirstEntry) ≡ pageSum ps b
+  new-first b h = new-head b 10 ∙ own mRoot (headP ps) (head b headFirstEntry) (λ j. pageSum ps j) b (λ j k. refl) (sh .tables) h
 
   -- the other fields of a head
-  pub new-life : (b : ℕ) → mNew (head b 2) ≡ 0
-  new-life b = new-head b 2 ∙ miss mRoot (headP ps) (head b 2) (λ i k. refl) (sh .tables)
+  pub new-life : (b : ℕ) → mNew (head b headLifecycle) ≡ lifeActive
+  new-life b = new-head b 2 ∙ miss mRoot (headP ps) (head b headLifecycle) (λ i k. refl) (sh .tables)
 
-  pub new-epoch : (b : ℕ) → mNew (head b 4) ≡ 0
-  new-epoch b = new-head b 4 ∙ miss mRoot (headP ps) (head b 4) (λ i k. refl) (sh .tables)
+  pub new-epoch : (b : ℕ) → mNew (head b headEpoch) ≡ 0
+  new-epoch b = new-head b 4 ∙ miss mRoot (headP ps) (head b headEpoch) (λ i k. refl) (sh .tables)
 
-  pub new-size : (b : ℕ) → mNew (head b 5) ≡ 0
-  new-size b = new-head b 5 ∙ miss mRoot (headP ps) (head b 5) (λ i k. refl) (sh .tables)
+  pub new-size : (b : ℕ) → mNew (head b headPages) ≡ 0
+  new-size b = new-head b 5 ∙ miss mRoot (headP ps) (head b headPages) (λ i k. refl) (sh .tables)
 
-  pub new-free : (b : ℕ) → mNew (head b 6) ≡ 0
-  new-free b = new-head b 6 ∙ miss mRoot (headP ps) (head b 6) (λ i k. refl) (sh .tables)
+  pub new-free : (b : ℕ) → mNew (head b headFirstFree) ≡ 0
+  new-free b = new-head b 6 ∙ miss mRoot (headP ps) (head b headFirstFree) (λ i k. refl) (sh .tables)
 
-  pub new-count : (b : ℕ) → mNew (head b 7) ≡ 0
-  new-count b = new-head b 7 ∙ miss mRoot (headP ps) (head b 7) (λ i k. refl) (sh .tables)
+  pub new-count : (b : ℕ) → mNew (head b headFreeSlots) ≡ 0
+  new-count b = new-head b 7 ∙ miss mRoot (headP ps) (head b headFreeSlots) (λ i k. refl) (sh .tables)
 
-  pub new-empty : (b : ℕ) → mNew (head b 8) ≡ 0
-  new-empty b = new-head b 8 ∙ miss mRoot (headP ps) (head b 8) (λ i k. refl) (sh .tables)
+  pub new-empty : (b : ℕ) → mNew (head b headFirstEmpty) ≡ 0
+  new-empty b = new-head b 8 ∙ miss mRoot (headP ps) (head b headFirstEmpty) (λ i k. refl) (sh .tables)
 
-  pub new-detached : (b : ℕ) → mNew (head b 9) ≡ 0
-  new-detached b = new-head b 9 ∙ miss mRoot (headP ps) (head b 9) (λ i k. refl) (sh .tables)
+  pub new-detached : (b : ℕ) → mNew (head b headFirstDetached) ≡ 0
+  new-detached b = new-head b 9 ∙ miss mRoot (headP ps) (head b headFirstDetached) (λ i k. refl) (sh .tables)
 
   pub new-owner : (f : ℕ) → mNew (owner f) ≡ 0
   new-owner f =
@@ -212,29 +214,29 @@ module _ (ps : List ℕ) (sh : Shape) where
   new-object o f = offPlaces (object o f) (λ i k. refl) ∙ offGroups (object o f) (λ i k. refl) (λ i k. refl) (λ i k. refl)
 
   module _ (o : ℕ) (h : o < sh .objects) where
-    pub new-koid : mNew (object o 0) ≡ objectOf ps (sh .tables) o .koid
-    new-koid = new-object o 0 ∙ own mHeads (objectP ps (sh .tables)) (object o 0) (λ j. objectOf ps (sh .tables) j .koid) o (λ j k. refl) (sh .objects) h
+    pub new-koid : mNew (object o objectKoid) ≡ objectOf ps (sh .tables) o .koid
+    new-koid = new-object o 0 ∙ own mHeads (objectP ps (sh .tables)) (object o objectKoid) (λ j. objectOf ps (sh .tables) j .koid) o (λ j k. refl) (sh .objects) h
 
-    pub new-kind : mNew (object o 1) ≡ objectOf ps (sh .tables) o .kind
-    new-kind = new-object o 1 ∙ own mHeads (objectP ps (sh .tables)) (object o 1) (λ j. objectOf ps (sh .tables) j .kind) o (λ j k. refl) (sh .objects) h
+    pub new-kind : mNew (object o objectKind) ≡ objectOf ps (sh .tables) o .kind
+    new-kind = new-object o 1 ∙ own mHeads (objectP ps (sh .tables)) (object o objectKind) (λ j. objectOf ps (sh .tables) j .kind) o (λ j k. refl) (sh .objects) h
 
-    pub new-class : mNew (object o 2) ≡ objectOf ps (sh .tables) o .class
-    new-class = new-object o 2 ∙ own mHeads (objectP ps (sh .tables)) (object o 2) (λ j. objectOf ps (sh .tables) j .class) o (λ j k. refl) (sh .objects) h
+    pub new-class : mNew (object o objectClass) ≡ objectOf ps (sh .tables) o .class
+    new-class = new-object o 2 ∙ own mHeads (objectP ps (sh .tables)) (object o objectClass) (λ j. objectOf ps (sh .tables) j .class) o (λ j k. refl) (sh .objects) h
 
-    pub new-supported : mNew (object o 3) ≡ objectOf ps (sh .tables) o .supported
-    new-supported = new-object o 3 ∙ own mHeads (objectP ps (sh .tables)) (object o 3) (λ j. objectOf ps (sh .tables) j .supported) o (λ j k. refl) (sh .objects) h
+    pub new-supported : mNew (object o objectSupported) ≡ objectOf ps (sh .tables) o .supported
+    new-supported = new-object o 3 ∙ own mHeads (objectP ps (sh .tables)) (object o objectSupported) (λ j. objectOf ps (sh .tables) j .supported) o (λ j k. refl) (sh .objects) h
 
-    pub new-exportable : mNew (object o 4) ≡ objectOf ps (sh .tables) o .exportable
-    new-exportable = new-object o 4 ∙ own mHeads (objectP ps (sh .tables)) (object o 4) (λ j. objectOf ps (sh .tables) j .exportable) o (λ j k. refl) (sh .objects) h
+    pub new-exportable : mNew (object o objectExportable) ≡ objectOf ps (sh .tables) o .exportable
+    new-exportable = new-object o 4 ∙ own mHeads (objectP ps (sh .tables)) (object o objectExportable) (λ j. objectOf ps (sh .tables) j .exportable) o (λ j k. refl) (sh .objects) h
 
-    pub new-most : mNew (object o 7) ≡ objectOf ps (sh .tables) o .limit
-    new-most = new-object o 7 ∙ own mHeads (objectP ps (sh .tables)) (object o 7) (λ j. objectOf ps (sh .tables) j .limit) o (λ j k. refl) (sh .objects) h
+    pub new-most : mNew (object o objectLimit) ≡ objectOf ps (sh .tables) o .limit
+    new-most = new-object o 7 ∙ own mHeads (objectP ps (sh .tables)) (object o objectLimit) (λ j. objectOf ps (sh .tables) j .limit) o (λ j k. refl) (sh .objects) h
 
-    pub new-stage : mNew (object o 5) ≡ 0
-    new-stage = new-object o 5 ∙ miss mHeads (objectP ps (sh .tables)) (object o 5) (λ i k. refl) (sh .objects) ∙ miss mRoot (headP ps) (object o 5) (λ i k. refl) (sh .tables)
+    pub new-stage : mNew (object o objectStage) ≡ stageNew
+    new-stage = new-object o 5 ∙ miss mHeads (objectP ps (sh .tables)) (object o objectStage) (λ i k. refl) (sh .objects) ∙ miss mRoot (headP ps) (object o objectStage) (λ i k. refl) (sh .tables)
 
-    pub new-handles : mNew (object o 6) ≡ 0
-    new-handles = new-object o 6 ∙ miss mHeads (objectP ps (sh .tables)) (object o 6) (λ i k. refl) (sh .objects) ∙ miss mRoot (headP ps) (object o 6) (λ i k. refl) (sh .tables)
+    pub new-handles : mNew (object o objectActive) ≡ 0
+    new-handles = new-object o 6 ∙ miss mHeads (objectP ps (sh .tables)) (object o objectActive) (λ i k. refl) (sh .objects) ∙ miss mRoot (headP ps) (object o objectActive) (λ i k. refl) (sh .tables)
 
   -- the row index
   pub new-index : (i : ℕ) → i < sh .rows → mNew (index i) ≡ i

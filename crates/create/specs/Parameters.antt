@@ -13,6 +13,7 @@ use Rattle.words.specs.Pick.{pick, bool, both, both-is, clash, refuted, all-six
 use Rattle.layout.specs.declared.Shape.{Shape}
 use Rattle.layout.specs.declared.ShapeRead.{ShapeRead}
 use Rattle.layout.specs.declared.ShapeRead.the-variants.{Shape as found, Bad}
+use Rattle.layout.specs.Sizes.{pagesMax, tablesMax, framesMax}
 use Rattle.model.specs.Base.{atMost, between, every, sum}
 use Rattle.model.specs.State.{till, maxTables, maxFrames, maxObjects, maxRows, maxLimit, maxSlots}
 use Rattle.model.specs.Create.{TableParameters, ObjectParameters, Parameters, maxPages, tablePermitted, objectPermitted, permitted}
@@ -66,7 +67,7 @@ need ps = 4 + getD ps 0 0 * 2 + getD ps 2 0 * 6
 
 -- the pages of the first n tables, each at most the limit
 abbrev pub pageSum : List ℕ → ℕ → ℕ
-pageSum ps n = sum n λ b. min (tableFrom ps b .pages) 262144
+pageSum ps n = sum n λ b. min (tableFrom ps b .pages) pagesMax
 
 unfoldable pub shapeIn : List ℕ → Shape
 shapeIn ps = record { tables = getD ps 0 0; pages = pageSum ps (getD ps 0 0); frames = getD ps 1 0; objects = getD ps 2 0; rows = getD ps 3 0 }
@@ -114,7 +115,7 @@ within-yes a x b h g = both-is (atMost a x) (atMost x b) (at-most-yes a x h) (at
 -- one table
 pub record TableGood (p : TableParameters) : Type 0 where
   pub some-page : 1 ≤ p .pages
-  pub few-pages : p .pages ≤ 262144
+  pub few-pages : p .pages ≤ pagesMax
   pub seed : p .seed < 2 ^ 64
 
 pub table-is : (p : TableParameters) → tablePermitted till p ≡ true → TableGood p
@@ -177,7 +178,7 @@ object-no p h = refuted (objectPermitted p) (λ e. h (object-is p e))
 pub record CountsGood (ps : List ℕ) : Type 0 where
   pub some-table : 1 ≤ getD ps 0 0
   pub few-tables : getD ps 0 0 ≤ 16
-  pub few-frames : getD ps 1 0 ≤ 65535
+  pub few-frames : getD ps 1 0 ≤ framesMax
   pub some-object : 1 ≤ getD ps 2 0
   pub few-objects : getD ps 2 0 ≤ 4096
   pub some-row : 1 ≤ getD ps 3 0
@@ -250,7 +251,7 @@ pub objects-bad : (ps : List ℕ) (t n : ℕ) (b : Bool) → t ≡ getD ps 0 0 �
 objects-bad ps t n b e d q f = plan-bad ps (λ g. clash (good-checked ps g .objects) (rw (← e, ← d) (sym q ∙ f)))
 
 module _ (ps : List ℕ) (t f o r p n : ℕ) (b d : Bool) (et : t ≡ getD ps 0 0) (ef : f ≡ getD ps 1 0) (eo : o ≡ getD ps 2 0) (er : r ≡ getD ps 3 0) (en : n ≡ length ps) where
-  pub plan-yes : 1 ≤ t → t ≤ 16 → f ≤ 65535 → 1 ≤ o → o ≤ 4096 → 1 ≤ r → r ≤ 256 → 4 + t * 2 + o * 6 ≤ n
+  pub plan-yes : 1 ≤ t → t ≤ tablesMax → f ≤ framesMax → 1 ≤ o → o ≤ 4096 → 1 ≤ r → r ≤ 256 → 4 + t * 2 + o * 6 ≤ n
       → b ≡ every (tablePermitted till) (tablesIn ps t) → b ≡ true → d ≡ every objectPermitted (objectsIn ps t o) → d ≡ true → p ≡ pageSum ps t
       → found (record { tables = t; pages = p; frames = f; objects = o; rows = r }) ≡ planOf ps
   unfolding shapeIn
@@ -272,11 +273,11 @@ module _ (ps : List ℕ) (t f o r p n : ℕ) (b d : Bool) (et : t ≡ getD ps 0 
       })))
 
 -- no sum of pages is large
-pub pages-small : (ps : List ℕ) (n : ℕ) → pageSum ps n ≤ n * 262144
+pub pages-small : (ps : List ℕ) (n : ℕ) → pageSum ps n ≤ n * pagesMax
 pages-small ps zero = omega arith
 pages-small ps (suc n) = omega (arith, pages-small ps n)
 
-pub pages-more : (ps : List ℕ) (k x v y : ℕ) → x ≡ pageSum ps k → v ≡ min (tableFrom ps k .pages) 262144 → y ≡ x + v → y ≡ pageSum ps (k + 1)
+pub pages-more : (ps : List ℕ) (k x v y : ℕ) → x ≡ pageSum ps k → v ≡ min (tableFrom ps k .pages) pagesMax → y ≡ x + v → y ≡ pageSum ps (k + 1)
 pages-more ps k x v y e q p = rw add-one (cc)
 
 pub pages-at : (ps : List ℕ) (k n x : ℕ) → x ≡ pageSum ps k → k ≡ n → x ≡ pageSum ps n

@@ -10,6 +10,9 @@ ghost use Rattle.create.specs.Meets.{Meets};
 ghost use Rattle.create.specs.Creation.{clearedW, headerW, headP, headsW, objectP, objectsW, groupsW, levelsW, placesW, builtW, placedW, after, createW};
 use layout::Shape;
 use layout::ShapeRead;
+use layout::field;
+use layout::size;
+use layout::value;
 
 // Whether a table's parameters are permitted; its seed may be any word.
 fn table_ok(p: &[u64], b: u8) -> bool
@@ -19,7 +22,7 @@ fn table_ok(p: &[u64], b: u8) -> bool
     if pages < 1 {
         return false;
     }
-    if pages > 262144 {
+    if pages > size::PAGES_MAX {
         return false;
     }
     true
@@ -54,7 +57,7 @@ fn object_ok(p: &[u64], at: u32) -> bool
     if kind > 0xffff_ffff {
         return false;
     }
-    if class > 2 {
+    if class > value::CLASS_NEVER {
         return false;
     }
     if exportable > 1 {
@@ -88,7 +91,7 @@ fn pages_of(p: &[u64], n: u8) -> u64
     let mut k: u8 = 0;
     while k < n {
         let pages = words::word(p, 4 + (k as usize) * 2);
-        sum += words::smaller(pages, 262144);
+        sum += words::smaller(pages, size::PAGES_MAX);
         k += 1;
     }
     sum
@@ -105,22 +108,22 @@ fn plan(p: &[u64]) -> ShapeRead
     if t < 1 {
         return ShapeRead::Bad;
     }
-    if t > 16 {
+    if t > size::TABLES_MAX {
         return ShapeRead::Bad;
     }
-    if f > 65535 {
+    if f > size::FRAMES_MAX {
         return ShapeRead::Bad;
     }
     if o < 1 {
         return ShapeRead::Bad;
     }
-    if o > 4096 {
+    if o > size::OBJECTS_MAX {
         return ShapeRead::Bad;
     }
     if r < 1 {
         return ShapeRead::Bad;
     }
-    if r > 256 {
+    if r > size::ROWS_MAX {
         return ShapeRead::Bad;
     }
     let n = p.len() as u64;
@@ -159,14 +162,14 @@ fn clear(s: &mut [u64], n: u64)
 fn make_header(s: &mut [u64], sh: Shape)
     ensures { λ _. ⌜ now (s .exit) ≡ headerW (now (s .entry)) sh ⌝ }
 {
-    layout::put_root(s, sh, 0, 1);
-    layout::put_root(s, sh, 1, sh.tables as u64);
-    layout::put_root(s, sh, 2, sh.frames as u64);
-    layout::put_root(s, sh, 3, sh.objects as u64);
-    layout::put_root(s, sh, 4, sh.rows as u64);
-    layout::put_root(s, sh, 5, 1);
-    layout::put_root(s, sh, 7, sh.frames as u64);
-    layout::put_root(s, sh, 8, sh.pages as u64);
+    layout::put_root(s, sh, field::ROOT_VERSION, value::FORMAT_VERSION);
+    layout::put_root(s, sh, field::ROOT_TABLES, sh.tables as u64);
+    layout::put_root(s, sh, field::ROOT_FRAMES, sh.frames as u64);
+    layout::put_root(s, sh, field::ROOT_OBJECTS, sh.objects as u64);
+    layout::put_root(s, sh, field::ROOT_ROWS, sh.rows as u64);
+    layout::put_root(s, sh, field::ROOT_NEXT_ID, 1);
+    layout::put_root(s, sh, field::ROOT_FREE_FRAMES, sh.frames as u64);
+    layout::put_root(s, sh, field::ROOT_PAGES, sh.pages as u64);
 }
 
 // The head of table b.
@@ -179,9 +182,9 @@ fn make_head(s: &mut [u64], sh: Shape, p: &[u64], b: u8)
     let c = codec::HandleCodec::new(seed);
     let first = pages_of(p, b);
     let t = b as u64;
-    layout::put_head(s, sh, t, 0, pages);
-    layout::put_head(s, sh, t, 1, c.mask);
-    layout::put_head(s, sh, t, 10, first);
+    layout::put_head(s, sh, t, field::HEAD_PAGE_LIMIT, pages);
+    layout::put_head(s, sh, t, field::HEAD_MASK, c.mask);
+    layout::put_head(s, sh, t, field::HEAD_FIRST_ENTRY, first);
 }
 
 fn make_heads(s: &mut [u64], sh: Shape, p: &[u64])
@@ -200,12 +203,12 @@ fn make_object(s: &mut [u64], sh: Shape, p: &[u64], o: u16)
 {
     let at = 4 + (sh.tables as usize) * 2 + (o as usize) * 6;
     let n = o as u64;
-    layout::put_object(s, sh, n, 0, words::word(p, at));
-    layout::put_object(s, sh, n, 1, words::word(p, at + 1));
-    layout::put_object(s, sh, n, 2, words::word(p, at + 2));
-    layout::put_object(s, sh, n, 3, words::word(p, at + 3));
-    layout::put_object(s, sh, n, 4, words::word(p, at + 4));
-    layout::put_object(s, sh, n, 7, words::word(p, at + 5));
+    layout::put_object(s, sh, n, field::OBJECT_KOID, words::word(p, at));
+    layout::put_object(s, sh, n, field::OBJECT_KIND, words::word(p, at + 1));
+    layout::put_object(s, sh, n, field::OBJECT_CLASS, words::word(p, at + 2));
+    layout::put_object(s, sh, n, field::OBJECT_SUPPORTED, words::word(p, at + 3));
+    layout::put_object(s, sh, n, field::OBJECT_EXPORTABLE, words::word(p, at + 4));
+    layout::put_object(s, sh, n, field::OBJECT_LIMIT, words::word(p, at + 5));
 }
 
 fn make_objects(s: &mut [u64], sh: Shape, p: &[u64])

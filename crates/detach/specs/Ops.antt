@@ -7,6 +7,9 @@ use Rattle.model.specs.State.{till}
 use Rattle.model.specs.Storage.{slotsOf}
 use Rattle.layout.specs.declared.Shape.{Shape}
 use Rattle.layout.specs.Layout.{Mem, head, entry, load, Write, Write.at, writes}
+use Rattle.layout.specs.Fields.{headLifecycle, headEpoch, headFirstFree, headFreeSlots, headFirstEmpty, headFirstDetached, entryFrame, entryNext, slotNextFree, slotPreviousFree}
+use Rattle.layout.specs.Values.{lifeActive}
+use Rattle.layout.specs.Sizes.{pageSize}
 use Rattle.representation.specs.Represents.{entryAt}
 use Rattle.answer.specs.Does.{Both, both, answered, refuseR}
 use Rattle.head.specs.Head.{nextEpoch}
@@ -25,9 +28,9 @@ linkW ws sh b l f x = done ws sh b (toSlot l f x ∷ [])
 -- mod.rs `unlink_free_slot`: slot k leaves the free order, wherever it stands; its own words stay. The slot before it and the slot after it are linked
 unfoldable pub unlinkW : List ℕ → Shape → ℕ → ℕ → List ℕ
 unlinkW ws sh b k =
-    done (linkW (linkW ws sh b (seen ws sh b (sl k 3)) 2 (seen ws sh b (sl k 2))) sh b (seen ws sh b (sl k 2)) 3 (seen ws sh b (sl k 3))) sh b
-    (toHead 6 (firstAfter (seen ws sh b (sl k 3)) (seen ws sh b (sl k 2)) (seen ws sh b (hd 6)))
-    ∷ toHead 7 (seen ws sh b (hd 7) - 1)
+    done (linkW (linkW ws sh b (seen ws sh b (sl k slotPreviousFree)) slotNextFree (seen ws sh b (sl k slotNextFree))) sh b (seen ws sh b (sl k slotNextFree)) slotPreviousFree (seen ws sh b (sl k slotPreviousFree))) sh b
+    (toHead headFirstFree (firstAfter (seen ws sh b (sl k slotPreviousFree)) (seen ws sh b (sl k slotNextFree)) (seen ws sh b (hd headFirstFree)))
+    ∷ toHead headFreeSlots (seen ws sh b (hd headFreeSlots) - 1)
     ∷ [])
 
 -- n slots from a on, one by one
@@ -37,15 +40,15 @@ unlinkAll ws sh b a (suc n) = unlinkW (unlinkAll ws sh b a n) sh b (a + n)
 
 -- the slots of page p
 unfoldable pub unlinkPageW : List ℕ → Shape → ℕ → ℕ → List ℕ
-unlinkPageW ws sh b p = unlinkAll ws sh b (p * 64) (slotsOf till p)
+unlinkPageW ws sh b p = unlinkAll ws sh b (p * pageSize) (slotsOf till p)
 
 -- page p has no frame and goes to the head of the detached pages' order; its high mark stays, and the epoch advances
 abbrev pub joinDetachedP : Mem → ℕ → ℕ → List Write
 joinDetachedP m b p =
-    at (entry (entryAt m b p) 0) 0
-    ∷ at (entry (entryAt m b p) 3) (m (head b 9))
-    ∷ at (head b 9) (up p)
-    ∷ at (head b 4) (nextEpoch (m (head b 4)))
+    at (entry (entryAt m b p) entryFrame) 0
+    ∷ at (entry (entryAt m b p) entryNext) (m (head b headFirstDetached))
+    ∷ at (head b headFirstDetached) (up p)
+    ∷ at (head b headEpoch) (nextEpoch (m (head b headEpoch)))
     ∷ []
 
 unfoldable pub joinDetachedW : List ℕ → Shape → ℕ → ℕ → List ℕ
@@ -53,12 +56,12 @@ joinDetachedW ws sh b p = writes ws sh (joinDetachedP (load ws sh) b p)
 
 -- storage.rs `detach_empty`: the slots of page p leave the free order, the page leaves the empty pages' order and is detached, and its frame is free
 unfoldable pub detachW : List ℕ → Shape → ℕ → ℕ → List ℕ
-detachW ws sh b p = giveFrameW (joinDetachedW (leaveW (unlinkPageW ws sh b p) sh b p) sh b p) sh (seen ws sh b (pg p 0) - 1)
+detachW ws sh b p = giveFrameW (joinDetachedW (leaveW (unlinkPageW ws sh b p) sh b p) sh b p) sh (seen ws sh b (pg p entryFrame) - 1)
 
 -- "On an inactive table `remove_stopping_owner` and `take_empty_page` answer none, not a refusal; so do the end of a walk and a table with no empty page":
 -- the page that is taken, plus 1; 0 for none
 unfoldable pub firstEmpty : Mem → ℕ → ℕ
-firstEmpty m b = pick (eqb (m (head b 2)) 0) (m (head b 8)) 0
+firstEmpty m b = pick (eqb (m (head b headLifecycle)) lifeActive) (m (head b headFirstEmpty)) 0
 
 -- "Unknown table, object or row first"; "take_empty_page: 1 whether a page was taken (0 or 1), 2 its page number"
 unfoldable pub takePageR : List ℕ → List ℕ → Shape → ℕ → ℕ → Both

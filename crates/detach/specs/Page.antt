@@ -18,6 +18,8 @@ use Rattle.invariant.specs.Orders.{Sound}
 use Rattle.invariant.specs.Growth.{busy-nowhere}
 use Rattle.layout.specs.declared.Shape.{Shape}
 use Rattle.layout.specs.Layout.{total, load}
+use Rattle.layout.specs.Fields.{headFirstFree, headFreeSlots, slotNextFree, slotPreviousFree}
+use Rattle.layout.specs.Sizes.{pageSize}
 use Rattle.representation.specs.Represents.{frameOf}
 use Rattle.storage.specs.Sight.{Spot, Spot.hd, Spot.sl, Put.toHead, Put.toSlot, look, puts, Fit, OnlyTable, still-only, still-frame, still-fit, Moves, moves, moves-then, moves-fit, only-then}
 use Rattle.storage.specs.Slots.{Seen, see, slot-there, free-vacant}
@@ -58,13 +60,13 @@ drop-same f g e [] = refl
 drop-same f g e (x ∷ l) = rw (e x, drop-same f g e l)
 
 -- the slots of a page are a run
-run-page : (p x : ℕ) → inRun (p * 64) (slotsOf till p) x ≡ onPage till p x
-run-page p x = bool (inRun (p * 64) (slotsOf till p) x)
-    (λ e. let q = run-is (p * 64) (slotsOf till p) x e in e ∙ sym (on-page till till-sane p x (q .0) (q .1)))
+run-page : (p x : ℕ) → inRun (p * pageSize) (slotsOf till p) x ≡ onPage till p x
+run-page p x = bool (inRun (p * pageSize) (slotsOf till p) x)
+    (λ e. let q = run-is (p * pageSize) (slotsOf till p) x e in e ∙ sym (on-page till till-sane p x (q .0) (q .1)))
     (λ e. e ∙ sym (bool (onPage till p x)
-    (λ d. let q = both (eqb (x / 64) p) (ltb x maxSlots) d in
-    let i = page-in till till-sane p x (eqb-true (x / 64) p (q .0)) (ltb-true x maxSlots (q .1)) in
-    clash (run-yes (p * 64) (slotsOf till p) x (i .0) (i .1)) e)
+    (λ d. let q = both (eqb (x / pageSize) p) (ltb x maxSlots) d in
+    let i = page-in till till-sane p x (eqb-true (x / pageSize) p (q .0)) (ltb-true x maxSlots (q .1)) in
+    clash (run-yes (p * pageSize) (slotsOf till p) x (i .0) (i .1)) e)
     (λ d. d)))
 
 -- ---- the slots of an empty page are vacant
@@ -77,31 +79,31 @@ idle-vacant (transferReserved g i) e d = clash refl d
 idle-vacant (occupied g h) e d = clash refl d
 
 page-vacant : (t : Table) (fr : List ℕ) → Sound till t fr → (p : ℕ) → isAttached t p ≡ true → busyOf till (t .slots) p ≡ 0
-    → (i : ℕ) → p * 64 ≤ i → i < p * 64 + slotsOf till p → isVacant (t .slots i) ≡ true
+    → (i : ℕ) → p * pageSize ≤ i → i < p * pageSize + slotsOf till p → isVacant (t .slots i) ≡ true
 page-vacant t fr o p att none i h l = idle-vacant (t .slots i)
     (o .there i ∙ rw (page-of till till-sane p i h l, att, lt-ltb i maxSlots (page-below till till-sane p i h l)))
-    (busy-nowhere (t .slots) (p * 64) (slotsOf till p) none i h l)
+    (busy-nowhere (t .slots) (p * pageSize) (slotsOf till p) none i h l)
 
 -- ---- one slot, in the words
 
 pub unlink-moves : (ws : List ℕ) (sh : Shape) (b k : ℕ) → total sh ≤ length ws → Fit sh (load ws sh) b
-    → ((i : ℕ) → look (load ws sh) b (sl k 3) ≡ suc i → 0 < frameOf (load ws sh) b i)
-    → ((i : ℕ) → look (load ws sh) b (sl k 2) ≡ suc i → 0 < frameOf (load ws sh) b i)
+    → ((i : ℕ) → look (load ws sh) b (sl k slotPreviousFree) ≡ suc i → 0 < frameOf (load ws sh) b i)
+    → ((i : ℕ) → look (load ws sh) b (sl k slotNextFree) ≡ suc i → 0 < frameOf (load ws sh) b i)
     → Moves ws (unlinkW ws sh b k) sh b (unlinkV (look (load ws sh) b) k)
 unfolding unlinkW linkW unlinkV
 unlink-moves ws sh b k room fit before after =
     let v : Spot → ℕ = look (load ws sh) b in
-    let ws₁ : List ℕ = linkW ws sh b (v (sl k 3)) 2 (v (sl k 2)) in
-    let v₁ : Spot → ℕ = puts v (toSlot (v (sl k 3)) 2 (v (sl k 2)) ∷ []) in
-    let a : Moves ws ws₁ sh b v₁ = moves ws sh b v (λ w. toSlot (v (sl k 3)) 2 (v (sl k 2)) ∷ []) room fit refl ((omega arith, before), tt) in
-    let ws₂ : List ℕ = linkW ws₁ sh b (v (sl k 2)) 3 (v (sl k 3)) in
-    let v₂ : Spot → ℕ = puts v₁ (toSlot (v (sl k 2)) 3 (v (sl k 3)) ∷ []) in
-    let c : Moves ws₁ ws₂ sh b v₂ = moves ws₁ sh b v₁ (λ w. toSlot (v (sl k 2)) 3 (v (sl k 3)) ∷ []) (omega (arith, a .long)) (moves-fit ws ws₁ sh b v₁ a fit) (a .shows)
+    let ws₁ : List ℕ = linkW ws sh b (v (sl k slotPreviousFree)) slotNextFree (v (sl k slotNextFree)) in
+    let v₁ : Spot → ℕ = puts v (toSlot (v (sl k slotPreviousFree)) slotNextFree (v (sl k slotNextFree)) ∷ []) in
+    let a : Moves ws ws₁ sh b v₁ = moves ws sh b v (λ w. toSlot (v (sl k slotPreviousFree)) slotNextFree (v (sl k slotNextFree)) ∷ []) room fit refl ((omega arith, before), tt) in
+    let ws₂ : List ℕ = linkW ws₁ sh b (v (sl k slotNextFree)) slotPreviousFree (v (sl k slotPreviousFree)) in
+    let v₂ : Spot → ℕ = puts v₁ (toSlot (v (sl k slotNextFree)) slotPreviousFree (v (sl k slotPreviousFree)) ∷ []) in
+    let c : Moves ws₁ ws₂ sh b v₂ = moves ws₁ sh b v₁ (λ w. toSlot (v (sl k slotNextFree)) slotPreviousFree (v (sl k slotPreviousFree)) ∷ []) (omega (arith, a .long)) (moves-fit ws ws₁ sh b v₁ a fit) (a .shows)
     ((omega arith, λ i e. rw (still-frame b (load ws sh) (load ws₁ sh) (still-only b (load ws sh) (load ws₁ sh) (a .only)) i) (after i e)), tt) in
     let ac : Moves ws ws₂ sh b v₂ = moves-then ws ws₁ ws₂ sh b v₁ v₂ a c in
     let ws₃ : List ℕ = unlinkW ws sh b k in
     let v₃ : Spot → ℕ = unlinkV v k in
-    let d : Moves ws₂ ws₃ sh b v₃ = moves ws₂ sh b v₂ (λ w. toHead 6 (firstAfter (v (sl k 3)) (v (sl k 2)) (v (hd 6))) ∷ toHead 7 (v (hd 7) - 1) ∷ [])
+    let d : Moves ws₂ ws₃ sh b v₃ = moves ws₂ sh b v₂ (λ w. toHead headFirstFree (firstAfter (v (sl k slotPreviousFree)) (v (sl k slotNextFree)) (v (hd headFirstFree))) ∷ toHead headFreeSlots (v (hd headFreeSlots) - 1) ∷ [])
     (omega (arith, ac .long)) (moves-fit ws ws₂ sh b v₂ ac fit) (ac .shows) ((omega arith, omega arith), ((omega arith, omega arith), tt)) in
     moves-then ws ws₂ ws₃ sh b v₂ v₃ ac d
 
@@ -152,5 +154,5 @@ module _ (ws : List ℕ) (sh : Shape) (b : ℕ) (t : Table) (r : Ready ws sh b t
   -- THE SLOTS OF AN EMPTY PAGE
   pub page-cleared : (p : ℕ) → isAttached t p ≡ true → busyOf till (t .slots) p ≡ 0 → Cleared ws (unlinkPageW ws sh b p) sh b t (dropIf (onPage till p) (t .free))
   unfolding unlinkPageW
-  page-cleared p att none = rw (← drop-same (inRun (p * 64) (slotsOf till p)) (onPage till p) (run-page p) (t .free))
-      (cleared-run (p * 64) (slotsOf till p) (page-vacant t (t .free) (r .sound) p att none))
+  page-cleared p att none = rw (← drop-same (inRun (p * pageSize) (slotsOf till p)) (onPage till p) (run-page p) (t .free))
+      (cleared-run (p * pageSize) (slotsOf till p) (page-vacant t (t .free) (r .sound) p att none))

@@ -19,6 +19,8 @@ use Rattle.invariant.specs.Pages.{till-sane}
 use Rattle.invariant.specs.Orders.{Sound, below-of, detach-sound}
 use Rattle.layout.specs.declared.Shape.{Shape}
 use Rattle.layout.specs.Layout.{Mem, head, entry, group, load, in-head, in-entry, InAll, length-writes, load-writes, upds, Write.at}
+use Rattle.layout.specs.Fields.{headPageLimit, headEpoch, headPages, headFirstDetached, headFirstEntry, entryFrame, entryNext}
+use Rattle.layout.specs.Sizes.{pageSize}
 use Rattle.representation.specs.Represents.{entryAt, linkOf, slotWord, TableIs, isMarked}
 use Rattle.representation.specs.Told.{marked-full}
 use Rattle.storage.specs.Sight.{Spot, Spot.sl, look, OnlyTable, Still, still-only, still-fit, Moves, only-then}
@@ -63,7 +65,7 @@ module _ (ws : List ℕ) (sh : Shape) (b : ℕ) (t : Table) (r : Ready ws sh b t
       let c : Cleared ws ws₁ sh b t (dropIf (onPage till p) (t .free)) = page-cleared ws sh b t r p att idle in
       let v₁ : Spot → ℕ = look (load ws₁ sh) b in
       let st : Still (load ws sh) (load ws₁ sh) b = still-only b (load ws sh) (load ws₁ sh) (c .only) in
-      let below : (q : ℕ) → 0 < occurs q (t .empty) → q < load ws₁ sh (head b 5) = λ q h. omega (arith, st .size, r .table .size, empty-below t o q h) in
+      let below : (q : ℕ) → 0 < occurs q (t .empty) → q < load ws₁ sh (head b headPages) = λ q h. omega (arith, st .size, r .table .size, empty-below t o q h) in
       let q : Moves ws₁ (leaveW ws₁ sh b p) sh b (leaveV v₁ p) = leave-moves ws₁ sh b v₁ p (omega (arith, c .long, r .room)) (still-fit sh b (load ws sh) (load ws₁ sh) st (r .fit)) refl
       (λ x e. below x (before-empty (load ws sh) v₁ u (c .table) p inside x e))
       (λ x e. below x (after-empty (load ws sh) v₁ u (c .table) p inside x e)) in
@@ -114,13 +116,13 @@ module _ (ws : List ℕ) (sh : Shape) (s : State) (h : Held ws sh s) (w : Frames
   low : p < t .limit
   low = omega (arith, under, sound .size)
 
-  first : n (head b 10) ≡ m₀ (head b 10)
+  first : n (head b headFirstEntry) ≡ m₀ (head b headFirstEntry)
   first = still .first
 
   in-join : InAll sh (joinDetachedP n b p)
-  in-join = let e : n (head b 10) + p < sh .pages = omega (arith, first, entry-below sh m₀ s (h .reps .memory) (h .placed) b p lb low) in
+  in-join = let e : n (head b headFirstEntry) + p < sh .pages = omega (arith, first, entry-below sh m₀ s (h .reps .memory) (h .placed) b p lb low) in
       let k : b < sh .tables = r .fit .table in
-      (in-entry sh (entryAt n b p) 0 e (omega arith), (in-entry sh (entryAt n b p) 3 e (omega arith), (in-head sh b 9 k (omega arith), (in-head sh b 4 k (omega arith), tt))))
+      (in-entry sh (entryAt n b p) entryFrame e (omega arith), (in-entry sh (entryAt n b p) entryNext e (omega arith), (in-head sh b headFirstDetached k (omega arith), (in-head sh b headEpoch k (omega arith), tt))))
 
   join-is : load ws₃ sh ≡ upds n (joinDetachedP n b p)
   unfolding joinDetachedW
@@ -133,12 +135,12 @@ module _ (ws : List ℕ) (sh : Shape) (s : State) (h : Held ws sh s) (w : Frames
   join-only : OnlyPaged b f m₀ (load ws₃ sh)
   join-only = rw join-is (
       let a : OnlyPaged b f m₀ n = table-paged b f m₀ n (omega (arith, r .table .size, r .table .limit, sound .size)) (left .only) in
-      let x : m₀ (head b 10) ≤ entryAt n b p = omega (arith, first) in
-      let y : entryAt n b p < m₀ (head b 10) + m₀ (head b 0) = omega (arith, first, low, r .table .limit) in
-      let a₁ = paged-write b f m₀ n a (entry (entryAt n b p) 0) 0 (inr (inr (inl (refl, x, y)))) in
-      let a₂ = paged-write b f m₀ _ a₁ (entry (entryAt n b p) 3) (n (head b 9)) (inr (inr (inl (refl, x, y)))) in
-      let a₃ = paged-write b f m₀ _ a₂ (head b 9) _ (inr (inl (refl, refl, omega arith, omega arith))) in
-      paged-write b f m₀ _ a₃ (head b 4) _ (inr (inl (refl, refl, omega arith, omega arith))))
+      let x : m₀ (head b headFirstEntry) ≤ entryAt n b p = omega (arith, first) in
+      let y : entryAt n b p < m₀ (head b headFirstEntry) + m₀ (head b headPageLimit) = omega (arith, first, low, r .table .limit) in
+      let a₁ = paged-write b f m₀ n a (entry (entryAt n b p) entryFrame) 0 (inr (inr (inl (refl, x, y)))) in
+      let a₂ = paged-write b f m₀ _ a₁ (entry (entryAt n b p) entryNext) (n (head b headFirstDetached)) (inr (inr (inl (refl, x, y)))) in
+      let a₃ = paged-write b f m₀ _ a₂ (head b headFirstDetached) _ (inr (inl (refl, refl, omega arith, omega arith))) in
+      paged-write b f m₀ _ a₃ (head b headEpoch) _ (inr (inl (refl, refl, omega arith, omega arith))))
 
   join-groups : (i : ℕ) → i < 3 → (g : ℕ) → upds n (joinDetachedP n b p) (group i g) ≡ n (group i g)
   join-groups zero l g = refl
@@ -161,12 +163,12 @@ module _ (ws : List ℕ) (sh : Shape) (s : State) (h : Held ws sh s) (w : Frames
   join-sound = detach-sound till till-sane t (t .free) p sound att
 
   -- a marked slot stands on another page
-  join-kept : (k : ℕ) → isMarked (detach till t p .slots k) ≡ true → (isMarked (t .slots k) ≡ true) × (k / 64 ≡ p → ⊥)
+  join-kept : (k : ℕ) → isMarked (detach till t p .slots k) ≡ true → (isMarked (t .slots k) ≡ true) × (k / pageSize ≡ p → ⊥)
   unfolding detach
   join-kept k e = bool (onPage till p k)
       (λ d. clash {b = false} (rw d at e) refl)
       (λ d. let i : isMarked (t .slots k) ≡ true = rw d at e in
-      (i, λ q. let c : onPage till p k ≡ true = rw (eq-eqb (k / 64) p q, lt-ltb k maxSlots (below-of till t (t .free) sound k (marked-there (t .slots k) i))) in clash c d))
+      (i, λ q. let c : onPage till p k ≡ true = rw (eq-eqb (k / pageSize) p q, lt-ltb k maxSlots (below-of till t (t .free) sound k (marked-there (t .slots k) i))) in clash c d))
 
   join-word : (k g : ℕ) → isMarked (detach till t p .slots k) ≡ true → slotWord (load ws₃ sh) b k g ≡ slotWord m₀ b k g
   unfolding look
@@ -177,7 +179,7 @@ module _ (ws : List ℕ) (sh : Shape) (s : State) (h : Held ws sh s) (w : Frames
   pub detach-held : Held (detachW ws sh b p) sh (paged s b (detach till (s .tables b) p) (insert f (s .frames)))
   unfolding detachW look detach
   detach-held =
-      let e : m₀ (entry (entryAt m₀ b p) 0) - 1 ≡ f = omega (arith, r .table .frame p under, ap linkOf was) in
+      let e : m₀ (entry (entryAt m₀ b p) entryFrame) - 1 ≡ f = omega (arith, r .table .frame p under, ap linkOf was) in
       rw e (held-given ws ws₃ sh s h w b lb f p join-long join-only join-pool (detach till t p) join-table join-sound refl
       (λ q d. rw (ne-eqb q p d))
       (λ k i. let c = join-kept k i in paged-mark b f m₀ (load ws₃ sh) join-only s k (join-word k 0 i) (join-word k 2 i) (join-word k 3 i) (h .reps .memory .book .marks b k lb (c .0)))

@@ -18,6 +18,8 @@ use Rattle.model.specs.Step.{takeAt, takeEmptyPageOf, decide}
 use Rattle.model.specs.Words.{usedWords}
 use Rattle.layout.specs.declared.Shape.{Shape}
 use Rattle.layout.specs.Layout.{Mem, head, entry, load}
+use Rattle.layout.specs.Fields.{headLifecycle, headCursor, headFirstEmpty, entryNext, entryPrevious}
+use Rattle.layout.specs.Values.{lifeActive}
 use Rattle.representation.specs.Represents.{entryAt, Chain, TableIs, Rep}
 use Rattle.representation.specs.Told.{life-tells}
 use Rattle.answer.specs.Does.{both, answered, Does, does-refused, does-accepted}
@@ -45,8 +47,8 @@ module _ (ws os : List ℕ) (sh : Shape) (base : ℕ) (s : State) (i : Rep ws sh
     held : Held ws sh s
     held = held-of ws sh s i
 
-    life-is : eqb (m (head b 2)) 0 ≡ isActive (t .life)
-    life-is = life-tells (m (head b 2)) (m (head b 3)) (t .life) (table .life)
+    life-is : eqb (m (head b headLifecycle)) lifeActive ≡ isActive (t .life)
+    life-is = life-tells (m (head b headLifecycle)) (m (head b headCursor)) (t .life) (table .life)
 
     inactive : isActive (t .life) ≡ false → decide till s (takeEmptyPage b) ≡ accept s (taken none)
     unfolding decide takeEmptyPageOf
@@ -74,7 +76,7 @@ module _ (ws os : List ℕ) (sh : Shape) (base : ℕ) (s : State) (i : Rep ws sh
     unfolding firstEmpty
     first-idle e = rw (life-is, e)
 
-    first-active : isActive (t .life) ≡ true → firstEmpty m b ≡ m (head b 8)
+    first-active : isActive (t .life) ≡ true → firstEmpty m b ≡ m (head b headFirstEmpty)
     unfolding firstEmpty
     first-active e = rw (life-is, e)
 
@@ -85,8 +87,8 @@ module _ (ws os : List ℕ) (sh : Shape) (base : ℕ) (s : State) (i : Rep ws sh
       where
         go : isActive (t .life) ≡ true → (l : List ℕ) → t .empty ≡ l → Does ws os sh base s (takeEmptyPage b)
             (pick (eqb (firstEmpty m b) 0) (both ws (answered os base (0 ∷ 0 ∷ []))) (both (detachW ws sh b (firstEmpty m b - 1)) (answered os base (0 ∷ 1 ∷ (firstEmpty m b - 1) ∷ []))))
-        go e [] d = let z : m (head b 8) ≡ 0 = rw d at (table .empty) in rw (first-active e, z) (none-does (on-active e [] d))
-        go e (p ∷ l) d = let c : Chain (λ q. m (entry (entryAt m b q) 3)) (λ q. m (entry (entryAt m b q) 4)) (m (head b 8)) 0 (p ∷ l) = rw d at (table .empty) in
+        go e [] d = let z : m (head b headFirstEmpty) ≡ 0 = rw d at (table .empty) in rw (first-active e, z) (none-does (on-active e [] d))
+        go e (p ∷ l) d = let c : Chain (λ q. m (entry (entryAt m b q) entryNext)) (λ q. m (entry (entryAt m b q) entryPrevious)) (m (head b headFirstEmpty)) 0 (p ∷ l) = rw d at (table .empty) in
             let y : suc p - 1 ≡ p = omega arith in
             rw (first-active e, c .0, ne-eqb (suc p) 0 (λ q. omega arith), y) (page-does p (rw d (occurs-head p l)) (on-active e (p ∷ l) d))
 

@@ -10,6 +10,9 @@ ghost use Rattle.answer.specs.Does.{both};
 ghost use Rattle.storage.specs.Ops.{leaveW};
 ghost use Rattle.detach.specs.Ops.{linkW, unlinkW, unlinkPageW, joinDetachedW, detachW, firstEmpty, takePageR};
 use layout::Shape;
+use layout::field;
+use layout::size;
+use layout::value;
 
 // Word f of slot j of a frame, given plus 1; 0 where there is none.
 fn word_in(s: &[u64], sh: Shape, fr: u64, j: u64, f: u64) -> u64
@@ -37,11 +40,11 @@ fn unlink_slot(s: &mut [u64], sh: Shape, b: u64, k: u64)
 {
     let h = head::load(s, sh, b);
     let fr = storage::frame_link(s, sh, b, k);
-    let n = word_in(s, sh, fr, k % 64, 2);
-    let q = word_in(s, sh, fr, k % 64, 3);
+    let n = word_in(s, sh, fr, k % size::PAGE_SIZE, field::SLOT_NEXT_FREE);
+    let q = word_in(s, sh, fr, k % size::PAGE_SIZE, field::SLOT_PREVIOUS_FREE);
     let t = head::take_local(h, storage::head_after(q, n, h.first_free));
-    put_link(s, sh, b, q, 2, n);
-    put_link(s, sh, b, n, 3, q);
+    put_link(s, sh, b, q, field::SLOT_NEXT_FREE, n);
+    put_link(s, sh, b, n, field::SLOT_PREVIOUS_FREE, q);
     head::store_free(s, sh, b, t);
 }
 
@@ -52,7 +55,7 @@ fn unlink_page(s: &mut [u64], sh: Shape, b: u64, p: u64)
     let n = head::slots_of(p) as u64;
     let mut j: u64 = 0;
     while j < n {
-        unlink_slot(s, sh, b, p * 64 + j);
+        unlink_slot(s, sh, b, p * size::PAGE_SIZE + j);
         j += 1;
     }
 }
@@ -66,8 +69,8 @@ fn join_detached(s: &mut [u64], sh: Shape, b: u64, p: u64)
     let x = storage::leave_order(s, sh, e, p, h.first_empty);
     let t = head::empty_local(h, x);
     let u = head::detach_local(t, words::inc(p));
-    storage::put_page(s, sh, e, p, 0, 0);
-    storage::put_page(s, sh, e, p, 3, h.first_detached);
+    storage::put_page(s, sh, e, p, field::ENTRY_FRAME, 0);
+    storage::put_page(s, sh, e, p, field::ENTRY_NEXT, h.first_detached);
     head::store_detached(s, sh, b, u);
 }
 
@@ -75,8 +78,8 @@ fn join_detached(s: &mut [u64], sh: Shape, b: u64, p: u64)
 pub fn detach_page(s: &mut [u64], sh: Shape, b: u64, p: u64)
     ensures words { λ _. ⌜ now (s .exit) ≡ detachW (now (s .entry)) sh b p ⌝ }
 {
-    let e = layout::head_word(s, sh, b, 10);
-    let f = words::dec(storage::page_word(s, sh, e, p, 0));
+    let e = layout::head_word(s, sh, b, field::HEAD_FIRST_ENTRY);
+    let f = words::dec(storage::page_word(s, sh, e, p, field::ENTRY_FRAME));
     unlink_page(s, sh, b, p);
     join_detached(s, sh, b, p);
     frames::give_frame(s, sh, f);
@@ -86,8 +89,11 @@ pub fn detach_page(s: &mut [u64], sh: Shape, b: u64, p: u64)
 fn first_empty(s: &[u64], sh: Shape, b: u64) -> u64
     ensures { λ r. ⌜ r ≡ firstEmpty (loadAt (now (s .entry)) sh) b ⌝ }
 {
-    if words::eq(layout::head_word(s, sh, b, 2), 0) {
-        return layout::head_word(s, sh, b, 8);
+    if words::eq(
+        layout::head_word(s, sh, b, field::HEAD_LIFECYCLE),
+        value::LIFE_ACTIVE,
+    ) {
+        return layout::head_word(s, sh, b, field::HEAD_FIRST_EMPTY);
     }
     0
 }

@@ -14,6 +14,7 @@ use Rattle.model.specs.Tests.{apart}
 use Rattle.invariant.specs.Orders.{Sound}
 use Rattle.layout.specs.declared.Shape.{Shape}
 use Rattle.layout.specs.Layout.{Addr.reg, Mem, total, head, entry, load}
+use Rattle.layout.specs.Fields.{headFirstEntry}
 use Rattle.representation.specs.Represents.{slotWord, linkOf, TableIs, isMarked}
 use Rattle.storage.specs.Order.{same?}
 use Rattle.storage.specs.Sight.{Spot, Spot.hd, Spot.pg, Spot.sl, look}
@@ -52,7 +53,7 @@ module _ (f : ℕ) (m n : Mem) (o : OnlyPool f m n) where
     where
       shows : (c : Spot) → look n b c ≡ look m b c
       shows (hd g) = pool-head b g
-      shows (pg p g) = ap (λ (x : ℕ). n (entry (x + p) g)) (pool-head b 10) ∙ pool-entry (m (head b 10) + p) g
+      shows (pg p g) = ap (λ (x : ℕ). n (entry (x + p) g)) (pool-head b 10) ∙ pool-entry (m (head b headFirstEntry) + p) g
       shows (sl k g) = pool-slot b k g
 
   pub pool-table : (b : ℕ) (u : Table) → TableIs m b u → TableIs n b u

@@ -18,6 +18,8 @@ use Rattle.model.specs.Sums.{sum-put}
 use Rattle.invariant.specs.Frames.{owned, rising-tail}
 use Rattle.layout.specs.declared.Shape.{Shape}
 use Rattle.layout.specs.Layout.{Mem, head, owner}
+use Rattle.layout.specs.Fields.{headFirstEntry}
+use Rattle.layout.specs.Sizes.{framesMax}
 use Rattle.representation.specs.Represents.{entryAt, FramesAre, Represents}
 use Rattle.representation.specs.Unique.{rising-above}
 use Rattle.storage.specs.Order.{same?, occurs-head, length-below}
@@ -59,7 +61,7 @@ frames-of m s r h = record {
 pub some-is : (f g : ℕ) → _≡_ {A = Option ℕ} (some f) (some g) → g ≡ f
 some-is f g e = cc
 
-module _ (m n : Mem) (s : State) (b p f : ℕ) (u : Table) (firsts : (c : ℕ) → n (head c 10) ≡ m (head c 10))
+module _ (m n : Mem) (s : State) (b p f : ℕ) (u : Table) (firsts : (c : ℕ) → n (head c headFirstEntry) ≡ m (head c headFirstEntry))
     (frame : (q : ℕ) → (q ≡ p → ⊥) → u .pages q .frame ≡ s .tables b .pages q .frame) where
   entry-same : (c q : ℕ) → entryAt n c q ≡ entryAt m c q
   entry-same c q = ap (λ (x : ℕ). x + q) (firsts c)
@@ -86,7 +88,7 @@ module _ (m n : Mem) (s : State) (b p f : ℕ) (u : Table) (firsts : (c : ℕ) �
       old c q g i = t .owners g (λ (z : g ≡ f). let y : m (owner g) ≡ m (owner f) = ap (λ (x : ℕ). m (owner x)) z in omega (arith, free)) ∙ i ∙ ap suc (sym (entry-same c q))
 
   -- PAGE p LOSES ITS FRAME f
-  pub framesAre-given : (sh : Shape) → Represents sh m s → Placed s → b < s .tableCount → p < s .tables b .size → s .tables b .pages p .frame ≡ some f → length (s .frames) ≤ 65535
+  pub framesAre-given : (sh : Shape) → Represents sh m s → Placed s → b < s .tableCount → p < s .tables b .size → s .tables b .pages p .frame ≡ some f → length (s .frames) ≤ framesMax
       → Pooled up m n f 0 → u .pages p .frame ≡ none → u .size ≡ s .tables b .size → FramesAre n (paged s b u (insert f (s .frames)))
   framesAre-given sh r pl lb lp was small t now size = frames-of n (paged s b u (insert f (s .frames)))
       (give-counted m n (s .frameCount) f 0 (s .frames) (counted-of m s (r .frames)) small t)
@@ -105,7 +107,7 @@ module _ (m n : Mem) (s : State) (b p f : ℕ) (u : Table) (firsts : (c : ℕ) �
           t .owners g (λ (z : g ≡ f).
           let y : m (owner g) ≡ m (owner f) = ap (λ (x : ℕ). m (owner x)) z in
           let w : c ≡ b = entries-apart sh m s r pl c b q p l lb (omega (arith, pl .sound c l .size)) (omega (arith, pl .sound b lb .size)) (omega (arith, owned)) in
-          let v : m (head c 10) ≡ m (head b 10) = ap (λ (x : ℕ). m (head x 10)) w in
+          let v : m (head c headFirstEntry) ≡ m (head b headFirstEntry) = ap (λ (x : ℕ). m (head x headFirstEntry)) w in
           other w (omega (arith, owned)))
           ∙ i ∙ ap suc (sym (entry-same c q))
 

@@ -10,6 +10,7 @@ use lib.Dec.{eqb}
 use Rattle.words.specs.Pick.{pick, yes-is, no-is}
 use Rattle.layout.specs.declared.Shape.{Shape}
 use Rattle.layout.specs.Layout.{Addr.reg, Mem, root, owner, group, load, Write, Write.at, writes}
+use Rattle.layout.specs.Fields.{rootFreeFrames}
 use Rattle.storage.specs.Order.{same?}
 use Rattle.storage.specs.Ops.{up}
 use Rattle.frames.specs.Pool.{down}
@@ -18,11 +19,11 @@ use Rattle.frames.specs.Pool.{down}
 
 -- the words of frame f in the pool: its owner, the counts of its three groups, and the count of all
 abbrev pub poolP : ℕ → ℕ → ℕ → ℕ → ℕ → ℕ → List Write
-poolP f o a b c n = at (owner f) o ∷ at (group 0 (f / 16)) a ∷ at (group 1 (f / 256)) b ∷ at (group 2 (f / 4096)) c ∷ at (root 7) n ∷ []
+poolP f o a b c n = at (owner f) o ∷ at (group 0 (f / 16)) a ∷ at (group 1 (f / 256)) b ∷ at (group 2 (f / 4096)) c ∷ at (root rootFreeFrames) n ∷ []
 
 -- the owner is o, and each count goes on by a step
 abbrev pub stepP : (ℕ → ℕ) → Mem → ℕ → ℕ → List Write
-stepP step m f o = poolP f o (step (m (group 0 (f / 16)))) (step (m (group 1 (f / 256)))) (step (m (group 2 (f / 4096)))) (step (m (root 7)))
+stepP step m f o = poolP f o (step (m (group 0 (f / 16)))) (step (m (group 1 (f / 256)))) (step (m (group 2 (f / 4096)))) (step (m (root rootFreeFrames)))
 
 -- frame f is taken for page entry e
 unfoldable pub takeFrameW : List ℕ → Shape → ℕ → ℕ → List ℕ
@@ -34,12 +35,12 @@ giveFrameW ws sh f = writes ws sh (stepP up (load ws sh) f 0)
 
 -- the code's stores
 pub take-is : (ws vs : List ℕ) (sh : Shape) (f e o a₀ b₀ c₀ n₀ a b c n : ℕ) → o ≡ up e → a₀ ≡ load ws sh (group 0 (f / 16)) → b₀ ≡ load ws sh (group 1 (f / 256))
-    → c₀ ≡ load ws sh (group 2 (f / 4096)) → n₀ ≡ load ws sh (root 7) → a ≡ a₀ - 1 → b ≡ b₀ - 1 → c ≡ c₀ - 1 → n ≡ n₀ - 1 → vs ≡ writes ws sh (poolP f o a b c n) → vs ≡ takeFrameW ws sh f e
+    → c₀ ≡ load ws sh (group 2 (f / 4096)) → n₀ ≡ load ws sh (root rootFreeFrames) → a ≡ a₀ - 1 → b ≡ b₀ - 1 → c ≡ c₀ - 1 → n ≡ n₀ - 1 → vs ≡ writes ws sh (poolP f o a b c n) → vs ≡ takeFrameW ws sh f e
 unfolding takeFrameW
 take-is ws vs sh f e o a₀ b₀ c₀ n₀ a b c n p p₀ p₁ p₂ p₃ q₀ q₁ q₂ q₃ w = rw (w, q₃, q₂, q₁, q₀, p₃, p₂, p₁, p₀, p)
 
 pub give-is : (ws vs : List ℕ) (sh : Shape) (f a₀ b₀ c₀ n₀ a b c n : ℕ) → a₀ ≡ load ws sh (group 0 (f / 16)) → b₀ ≡ load ws sh (group 1 (f / 256))
-    → c₀ ≡ load ws sh (group 2 (f / 4096)) → n₀ ≡ load ws sh (root 7) → a ≡ up a₀ → b ≡ up b₀ → c ≡ up c₀ → n ≡ up n₀ → vs ≡ writes ws sh (poolP f 0 a b c n) → vs ≡ giveFrameW ws sh f
+    → c₀ ≡ load ws sh (group 2 (f / 4096)) → n₀ ≡ load ws sh (root rootFreeFrames) → a ≡ up a₀ → b ≡ up b₀ → c ≡ up c₀ → n ≡ up n₀ → vs ≡ writes ws sh (poolP f 0 a b c n) → vs ≡ giveFrameW ws sh f
 unfolding giveFrameW
 give-is ws vs sh f a₀ b₀ c₀ n₀ a b c n p₀ p₁ p₂ p₃ q₀ q₁ q₂ q₃ w = rw (w, q₃, q₂, q₁, q₀, p₃, p₂, p₁, p₀)
 

@@ -9,6 +9,7 @@ use Rattle.model.specs.State.{State}
 use Rattle.model.specs.Counting.{sum-next, runs-apart}
 use Rattle.layout.specs.declared.Shape.{Shape}
 use Rattle.layout.specs.Layout.{Addr, Addr.reg, Mem, root, head, entry, owner, cell, same, same-is, Write.at, upd}
+use Rattle.layout.specs.Fields.{headPageLimit, headPages, headFirstEntry, entryFrame, slotPlace}
 use Rattle.representation.specs.Represents.{entryAt, slotWord, TableIs, Represents}
 use Rattle.representation.specs.Told.{link-some}
 use Rattle.storage.specs.Sight.{OnlyTable}
@@ -17,7 +18,7 @@ use Rattle.storage.specs.Whole.{Placed}
 
 -- a page of table b has the frame x
 abbrev pub Has : Mem → ℕ → ℕ → Type 0
-Has m b x = (p : ℕ) × (p < m (head b 5)) × (m (entry (entryAt m b p) 0) ≡ suc x)
+Has m b x = (p : ℕ) × (p < m (head b headPages)) × (m (entry (entryAt m b p) entryFrame) ≡ suc x)
 
 -- the addresses that a change of table b's pages in the frame fr may change: the head but for the limit, the mask, the lifecycle and the first entry; all of the table's
 -- page entries; the owner of fr; the counts of free frames; and slots in fr and in the table's frames
@@ -25,7 +26,7 @@ abbrev pub Pages : Mem → ℕ → ℕ → Addr → Type 0
 Pages m b fr (reg k x y f) =
     ((k ≡ 0) × (f ≡ 7))
     ⊎ ((k ≡ 1) × (x ≡ b) × (4 ≤ f) × (f ≤ 9))
-    ⊎ ((k ≡ 2) × (m (head b 10) ≤ x) × (x < m (head b 10) + m (head b 0)))
+    ⊎ ((k ≡ 2) × (m (head b headFirstEntry) ≤ x) × (x < m (head b headFirstEntry) + m (head b headPageLimit)))
     ⊎ ((k ≡ 3) × (x ≡ fr))
     ⊎ ((4 ≤ k) × (k ≤ 6))
     ⊎ ((k ≡ 7) × ((x ≡ fr) ⊎ Has m b x))
@@ -36,7 +37,7 @@ OnlyPaged b fr m n = (a : Addr) → (Pages m b fr a → ⊥) → n a ≡ m a
 
 -- an address that is none of these
 pub outside : (m : Mem) (b fr k x y f : ℕ) → (k ≡ 0 → f ≡ 7 → ⊥) → (k ≡ 1 → x ≡ b → 4 ≤ f → f ≤ 9 → ⊥)
-    → (k ≡ 2 → m (head b 10) ≤ x → x < m (head b 10) + m (head b 0) → ⊥) → (k ≡ 3 → x ≡ fr → ⊥) → (4 ≤ k → k ≤ 6 → ⊥)
+    → (k ≡ 2 → m (head b headFirstEntry) ≤ x → x < m (head b headFirstEntry) + m (head b headPageLimit) → ⊥) → (k ≡ 3 → x ≡ fr → ⊥) → (4 ≤ k → k ≤ 6 → ⊥)
     → (k ≡ 7 → (x ≡ fr) ⊎ Has m b x → ⊥) → Pages m b fr (reg k x y f) → ⊥
 outside m b fr k x y f r h e o g c =
     ⊎-elim (λ i. r (i .0) (i .1)) (⊎-elim (λ i. h (i .0) (i .1) (i .2) (i .3)) (⊎-elim (λ i. e (i .0) (i .1) (i .2)) (⊎-elim (λ i. o (i .0) (i .1))
@@ -60,7 +61,7 @@ module _ (b fr : ℕ) (m n : Mem) (o : OnlyPaged b fr m n) where
   pub paged-head : (c f : ℕ) → (4 ≤ f → f ≤ 9 → ⊥) → n (head c f) ≡ m (head c f)
   paged-head c f h = o (head c f) (outside m b fr 1 c 0 f (λ e q. omega arith) (λ e q s t. h s t) (λ e q s. omega arith) (λ e q. omega arith) (λ e q. omega arith) (λ e q. omega arith))
 
-  pub paged-first : (c : ℕ) → n (head c 10) ≡ m (head c 10)
+  pub paged-first : (c : ℕ) → n (head c headFirstEntry) ≡ m (head c headFirstEntry)
   paged-first c = paged-head c 10 (λ s t. omega arith)
 
   -- regions above the frames
@@ -72,7 +73,7 @@ module _ (b fr : ℕ) (m n : Mem) (o : OnlyPaged b fr m n) where
   paged-rows = rows-stay m n (λ k x y f l. paged-high k x y f (omega arith))
 
   -- a change of the table as it stands in n, whose frames are fr and those that it had
-  pub paged-table : (l : Mem) → OnlyTable b n l → n (head b 5) ≤ m (head b 0) → ((x : ℕ) → Has n b x → (x ≡ fr) ⊎ Has m b x) → OnlyPaged b fr m l
+  pub paged-table : (l : Mem) → OnlyTable b n l → n (head b headPages) ≤ m (head b headPageLimit) → ((x : ℕ) → Has n b x → (x ≡ fr) ⊎ Has m b x) → OnlyPaged b fr m l
   paged-table l t s h (reg k x y f) i = t (reg k x y f) (⊎-elim
       (λ q. i (inr (inl (q .0, q .1, omega arith, omega arith))))
       (⊎-elim
@@ -81,7 +82,7 @@ module _ (b fr : ℕ) (m n : Mem) (o : OnlyPaged b fr m n) where
       ∙ o (reg k x y f) i
 
 -- a change of one table that leaves its place
-pub table-paged : (b fr : ℕ) (m n : Mem) → m (head b 5) ≤ m (head b 0) → OnlyTable b m n → OnlyPaged b fr m n
+pub table-paged : (b fr : ℕ) (m n : Mem) → m (head b headPages) ≤ m (head b headPageLimit) → OnlyTable b m n → OnlyPaged b fr m n
 table-paged b fr m n s t = paged-table b fr m m (λ a i. refl) n t s (λ x h. inr h)
 
 -- ---- runs of entries do not meet
@@ -127,8 +128,8 @@ module _ (sh : Shape) (m : Mem) (s : State) (r : Represents sh m s) (pl : Placed
     other-stays : Stays m n c
     other-stays = record {
       heads = λ f. o (head c f) (outside m b fr 1 c 0 f (λ e q. omega arith) (λ e q i j. ne q) (λ e q i. omega arith) (λ e q. omega arith) (λ e q. omega arith) (λ e q. omega arith));
-      pages = λ p f h. o (entry (entryAt m c p) f) (outside m b fr 2 (m (head c 10) + p) 0 f (λ e q. omega arith) (λ e q i j. omega arith)
-          (λ e q i. ne (entries-apart sh m s r pl c b p (m (head c 10) + p - m (head b 10)) lc lb
+      pages = λ p f h. o (entry (entryAt m c p) f) (outside m b fr 2 (m (head c headFirstEntry) + p) 0 f (λ e q. omega arith) (λ e q i j. omega arith)
+          (λ e q i. ne (entries-apart sh m s r pl c b p (m (head c headFirstEntry) + p - m (head b headFirstEntry)) lc lb
           (omega (arith, r .tables c lc .size, pl .sound c lc .size)) (omega (arith, r .tables b lb .limit)) (omega arith)))
           (λ e q. omega arith) (λ e q. omega arith) (λ e q. omega arith));
       cells = λ p x j f h e. let w : Has m c x = (p, h, e) in
@@ -141,4 +142,4 @@ module _ (sh : Shape) (m : Mem) (s : State) (r : Represents sh m s) (pl : Placed
 
     -- THE OTHER TABLES are as they were
     pub other-table : TableIs n c (s .tables c)
-    other-table = sound-kept m n c other-stays (s .tables c) (r .tables c lc) (pl .sound c lc) (λ k e. paged-rows b fr m n o .rows (slotWord m c k 2) 0)
+    other-table = sound-kept m n c other-stays (s .tables c) (r .tables c lc) (pl .sound c lc) (λ k e. paged-rows b fr m n o .rows (slotWord m c k slotPlace) 0)

@@ -14,6 +14,8 @@ use Rattle.model.specs.Tests.{bit-small}
 use Rattle.model.specs.Sums.{sum-equal, sum-zero, sum-add, occurs-insert}
 use Rattle.model.specs.Counting.{bit-same, bit-other}
 use Rattle.layout.specs.Layout.{Mem, root, owner, group}
+use Rattle.layout.specs.Fields.{rootFreeFrames}
+use Rattle.layout.specs.Sizes.{framesMax}
 use Rattle.representation.specs.Represents.{FramesAre}
 use Rattle.storage.specs.Order.{same?}
 use Rattle.storage.specs.Ops.{up}
@@ -31,7 +33,7 @@ inGroup l z g = sum z λ j. occurs (g * z + j) l
 pub record Counted (m : Mem) (n : ℕ) (l : List ℕ) : Type 0 where
   pub free : (f : ℕ) → 0 < occurs f l → m (owner f) ≡ 0
   pub groups : (i : ℕ) → i < 3 → (g : ℕ) → g * span i < n → m (group i g) ≡ inGroup l (span i) g
-  pub count : m (root 7) ≡ length l
+  pub count : m (root rootFreeFrames) ≡ length l
 
 pub counted-of : (m : Mem) (s : State) → FramesAre m s → Counted m (s .frameCount) (s .frames)
 counted-of m s r = record { free = r .free; groups = at-level; count = r .count }
@@ -91,7 +93,7 @@ pub record Pooled (step : ℕ → ℕ) (m n : Mem) (f o : ℕ) : Type 0 where
   pub owners : (g : ℕ) → (g ≡ f → ⊥) → n (owner g) ≡ m (owner g)
   pub counts : (i : ℕ) → i < 3 → n (group i (f / span i)) ≡ step (m (group i (f / span i)))
   pub groups : (i : ℕ) → i < 3 → (g : ℕ) → (g ≡ f / span i → ⊥) → n (group i g) ≡ m (group i g)
-  pub count : n (root 7) ≡ step (m (root 7))
+  pub count : n (root rootFreeFrames) ≡ step (m (root rootFreeFrames))
 
 -- one less
 abbrev pub down : ℕ → ℕ
@@ -124,7 +126,7 @@ module _ (m n : Mem) (c f o : ℕ) (l : List ℕ) where
   }
 
   -- A FRAME IS GIVEN BACK
-  pub give-counted : Counted m c l → length l ≤ 65535 → Pooled up m n f 0 → Counted n c (insert f l)
+  pub give-counted : Counted m c l → length l ≤ framesMax → Pooled up m n f 0 → Counted n c (insert f l)
   give-counted r small p = record {
     free = λ g h. pooled-owners up m n f 0 p g (n (owner g) ≡ 0)
         (λ e q. q)

@@ -17,6 +17,7 @@ use Rattle.invariant.specs.Orders.{Sound}
 use Rattle.layout.specs.declared.Shape.{Shape}
 use Rattle.layout.specs.Layout.{Mem, load}
 use Rattle.layout.specs.ShapeOf.{roots-kept}
+use Rattle.layout.specs.Fields.{slotTag, slotPlace, slotPosition}
 use Rattle.representation.specs.Represents.{slotWord, TableIs, FramesAre, isMarked, Represents}
 use Rattle.storage.specs.Kept.{object-kept, MarkIs, mark-kept, book-kept}
 use Rattle.storage.specs.Whole.{Placed, put-like}
@@ -24,7 +25,7 @@ use Rattle.storage.specs.Reps.{Held}
 use Rattle.frames.specs.Paged.{OnlyPaged, Alone, paged-root, paged-first, paged-high, paged-rows, other-slot, other-table}
 
 -- a mark on a slot whose words stay
-pub paged-mark : (b fr : ℕ) (m n : Mem) → OnlyPaged b fr m n → (s : State) (k : ℕ) → slotWord n b k 0 ≡ slotWord m b k 0 → slotWord n b k 2 ≡ slotWord m b k 2 → slotWord n b k 3 ≡ slotWord m b k 3
+pub paged-mark : (b fr : ℕ) (m n : Mem) → OnlyPaged b fr m n → (s : State) (k : ℕ) → slotWord n b k slotTag ≡ slotWord m b k slotTag → slotWord n b k slotPlace ≡ slotWord m b k slotPlace → slotWord n b k slotPosition ≡ slotWord m b k slotPosition
     → MarkIs m s b k → MarkIs n s b k
 paged-mark b fr m n o s k = mark-kept m n (paged-rows b fr m n o) s b k
 
@@ -60,7 +61,7 @@ module _ (sh : Shape) (m : Mem) (s : State) (r : Represents sh m s) (pl : Placed
   -- marks that were there, on slots whose words stay
   pub with-paged-marks : (fs : List ℕ) → FramesAre n (paged s b u fs)
       → ((k : ℕ) → isMarked (u .slots k) ≡ true
-      → (isMarked (s .tables b .slots k) ≡ true) × (slotWord n b k 0 ≡ slotWord m b k 0) × (slotWord n b k 2 ≡ slotWord m b k 2) × (slotWord n b k 3 ≡ slotWord m b k 3))
+      → (isMarked (s .tables b .slots k) ≡ true) × (slotWord n b k slotTag ≡ slotWord m b k slotTag) × (slotWord n b k slotPlace ≡ slotWord m b k slotPlace) × (slotWord n b k slotPosition ≡ slotWord m b k slotPosition))
       → Represents sh n (paged s b u fs)
   with-paged-marks fs frames h = with-paged fs frames (λ k e. let q = h k e in
       paged-mark b fr m n o s k (q .1) (q .2) (q .3) (r .book .marks b k lb (q .0)))
@@ -97,6 +98,6 @@ module _ (ws ws′ : List ℕ) (sh : Shape) (s : State) (h : Held ws sh s) (b : 
 
   -- marks that were there, on slots whose words stay
   pub held-paged-marks : ((k : ℕ) → isMarked (u .slots k) ≡ true
-      → (isMarked (s .tables b .slots k) ≡ true) × (slotWord (load ws′ sh) b k 0 ≡ slotWord (load ws sh) b k 0) × (slotWord (load ws′ sh) b k 2 ≡ slotWord (load ws sh) b k 2)
-      × (slotWord (load ws′ sh) b k 3 ≡ slotWord (load ws sh) b k 3)) → Held ws′ sh (paged s b u fs)
+      → (isMarked (s .tables b .slots k) ≡ true) × (slotWord (load ws′ sh) b k slotTag ≡ slotWord (load ws sh) b k slotTag) × (slotWord (load ws′ sh) b k slotPlace ≡ slotWord (load ws sh) b k slotPlace)
+      × (slotWord (load ws′ sh) b k slotPosition ≡ slotWord (load ws sh) b k slotPosition)) → Held ws′ sh (paged s b u fs)
   held-paged-marks marked = held-by (with-paged-marks sh (load ws sh) s (h .reps .memory) (h .placed) b lb fr alone (load ws′ sh) o u now lim fs frames marked)

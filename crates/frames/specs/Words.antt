@@ -8,6 +8,7 @@ use lib.ListN.{length}
 use borrow.Author.Tests.{eq-eqb, ne-eqb}
 use Rattle.layout.specs.declared.Shape.{Shape}
 use Rattle.layout.specs.Layout.{Addr, Addr.reg, Mem, total, root, owner, group, load, upds, InAll, length-writes, load-writes, in-root, in-owner, in-sixteen, in-hundred, in-thousand}
+use Rattle.layout.specs.Fields.{rootFreeFrames}
 use Rattle.storage.specs.Kept.{PoolSame}
 use Rattle.storage.specs.Ops.{up}
 use Rattle.frames.specs.Paged.{OnlyPaged, only-write}
@@ -70,10 +71,10 @@ module _ (step : ℕ → ℕ) (m : Mem) (f o : ℕ) where
       (group 0 (f / 16)) _ (inr (inl (omega arith, omega arith))))
       (group 1 (f / 256)) _ (inr (inl (omega arith, omega arith))))
       (group 2 (f / 4096)) _ (inr (inl (omega arith, omega arith))))
-      (root 7) _ (inr (inr (refl, refl)))
+      (root rootFreeFrames) _ (inr (inr (refl, refl)))
 
   plan-in : (sh : Shape) → f < sh .frames → InAll sh (stepP step m f o)
-  plan-in sh l = (in-owner sh f l, (in-sixteen sh f l, (in-hundred sh f l, (in-thousand sh f l, (in-root sh 7 (omega arith), tt)))))
+  plan-in sh l = (in-owner sh f l, (in-sixteen sh f l, (in-hundred sh f l, (in-thousand sh f l, (in-root sh rootFreeFrames (omega arith), tt)))))
 
 -- words that differ from others in the pool only, at frame f
 pub record Steps (step : ℕ → ℕ) (ws ws′ : List ℕ) (sh : Shape) (f o : ℕ) : Type 0 where

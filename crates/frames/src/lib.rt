@@ -4,6 +4,7 @@ ghost use Prim.Native.Nat.{_+_, _≤_};
 ghost use Rattle.layout.specs.Layout.{load as loadAt, writes};
 ghost use Rattle.frames.specs.Ops.{poolP, takeFrameW, giveFrameW, firstOf, hasFree, lowestAt};
 use layout::Shape;
+use layout::field;
 
 // Whether number x of region k, frame owners or counts of free frames, has a free frame.
 fn has_free(s: &[u64], sh: Shape, k: u64, x: u64) -> bool
@@ -51,7 +52,7 @@ fn put_pool(s: &mut [u64], sh: Shape, f: u64, o: u64, a: u64, b: u64, c: u64, n:
     layout::save(s, sh, layout::SIXTEEN, f / 16, 0, 0, a);
     layout::save(s, sh, layout::HUNDRED, f / 256, 0, 0, b);
     layout::save(s, sh, layout::THOUSAND, f / 4096, 0, 0, c);
-    layout::put_root(s, sh, 7, n);
+    layout::put_root(s, sh, field::ROOT_FREE_FRAMES, n);
 }
 
 // Frame f is taken for page entry e.
@@ -62,7 +63,7 @@ pub fn take_frame(s: &mut [u64], sh: Shape, f: u64, e: u64)
     let a = words::dec(layout::load(s, sh, layout::SIXTEEN, f / 16, 0, 0));
     let b = words::dec(layout::load(s, sh, layout::HUNDRED, f / 256, 0, 0));
     let c = words::dec(layout::load(s, sh, layout::THOUSAND, f / 4096, 0, 0));
-    let n = words::dec(layout::root_word(s, sh, 7));
+    let n = words::dec(layout::root_word(s, sh, field::ROOT_FREE_FRAMES));
     put_pool(s, sh, f, o, a, b, c, n);
 }
 
@@ -73,6 +74,6 @@ pub fn give_frame(s: &mut [u64], sh: Shape, f: u64)
     let a = words::inc(layout::load(s, sh, layout::SIXTEEN, f / 16, 0, 0));
     let b = words::inc(layout::load(s, sh, layout::HUNDRED, f / 256, 0, 0));
     let c = words::inc(layout::load(s, sh, layout::THOUSAND, f / 4096, 0, 0));
-    let n = words::inc(layout::root_word(s, sh, 7));
+    let n = words::inc(layout::root_word(s, sh, field::ROOT_FREE_FRAMES));
     put_pool(s, sh, f, 0, a, b, c, n);
 }

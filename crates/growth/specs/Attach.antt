@@ -23,6 +23,8 @@ use Rattle.invariant.specs.Orders.{Room, order-is, absent-past, attach-sound}
 use Rattle.layout.specs.declared.Shape.{Shape}
 use Rattle.layout.specs.Layout.{Mem, head, load, Write, writes, length-writes}
 use Rattle.layout.specs.Turns.{turns, length-turns}
+use Rattle.layout.specs.Fields.{headFirstFree, headFreeSlots, headFirstEntry, slotTag, slotNextFree, slotPreviousFree, slotPlace, slotPosition}
+use Rattle.layout.specs.Sizes.{pageSize}
 use Rattle.representation.specs.Represents.{entryAt, slotWord, TableIs, FramesAre, isMarked}
 use Rattle.representation.specs.Told.{marked-full}
 use Rattle.storage.specs.Order.{occurs-head, head-in}
@@ -52,16 +54,16 @@ pub length-joined : (ws : List ℕ) (sh : Shape) (b p f : ℕ) → length (joine
 unfolding joinedW builtW
 length-joined ws sh b p f =
     let g : ℕ = fresh (load ws sh) b p in
-    let h : ℕ = load ws sh (head b 6) in
+    let h : ℕ = load ws sh (head b headFirstFree) in
     let w1 : List ℕ = turns ws sh (slotsP f p g h) (slotsOf till p) in
-    let o : List (List Write) = orderP b p h (linkFrame (load ws sh) b h) (load ws sh (head b 7)) in
+    let o : List (List Write) = orderP b p h (linkFrame (load ws sh) b h) (load ws sh (head b headFreeSlots)) in
     let w2 : List ℕ = writesAll w1 sh o in
-    let x : List Write = entryP b (load ws sh (head b 10)) p f g (sizeWith (load ws sh) b p) (detachedWith (load ws sh) b p) in
+    let x : List Write = entryP b (load ws sh (head b headFirstEntry)) p f g (sizeWith (load ws sh) b p) (detachedWith (load ws sh) b p) in
     length-join (writes w2 sh x) sh b p ∙ length-writes w2 sh x ∙ length-all w1 sh o ∙ length-turns ws sh (slotsP f p g h) (slotsOf till p)
 
 pub length-attach : (ws : List ℕ) (sh : Shape) (b p f : ℕ) → length (attachW ws sh b p f) ≡ length ws
 unfolding attachW takeFrameW
-length-attach ws sh b p f = length-writes (joinedW ws sh b p f) sh (stepP down (load (joinedW ws sh b p f) sh) f (up (min (load ws sh (head b 10)) 4294967295 + p))) ∙ length-joined ws sh b p f
+length-attach ws sh b p f = length-writes (joinedW ws sh b p f) sh (stepP down (load (joinedW ws sh b p f) sh) f (up (min (load ws sh (head b headFirstEntry)) 4294967295 + p))) ∙ length-joined ws sh b p f
 
 marked-here : (x : Slot) (g : ℕ) → x ≡ vacant g → isMarked x ≡ true → ⊥
 marked-here x g e d = clash (sym (ap isMarked e) ∙ d) refl
@@ -84,7 +86,7 @@ module _ (ws : List ℕ) (sh : Shape) (s : State) (h : Held ws sh s) (b : ℕ) (
     out = λ i. omega (arith, has-owner sh (load ws sh) s r (h .placed) b f l i, r .frames .free f free-here);
   }
 
-  entry-is : min (load ws sh (head b 10)) 4294967295 + p ≡ entryAt (load ws sh) b p
+  entry-is : min (load ws sh (head b headFirstEntry)) 4294967295 + p ≡ entryAt (load ws sh) b p
   entry-is = omega (arith, ripe .pages, h .reps .shaped .limits .few-pages, h .reps .shaped .limits .few-tables)
 
   entry-low : entryAt (load ws sh) b p < 0xffff_ffff_ffff_ffff
@@ -149,23 +151,23 @@ module _ (ws : List ℕ) (sh : Shape) (s : State) (h : Held ws sh s) (b : ℕ) (
 
   -- the marks are on other pages, on slots whose words stay
   marks : (k : ℕ) → isMarked (attach till (s .tables b) p f .slots k) ≡ true
-      → (isMarked (s .tables b .slots k) ≡ true) × (slotWord (load (attachW ws sh b p f) sh) b k 0 ≡ slotWord (load ws sh) b k 0) × (slotWord (load (attachW ws sh b p f) sh) b k 2 ≡ slotWord (load ws sh) b k 2)
-      × (slotWord (load (attachW ws sh b p f) sh) b k 3 ≡ slotWord (load ws sh) b k 3)
+      → (isMarked (s .tables b .slots k) ≡ true) × (slotWord (load (attachW ws sh b p f) sh) b k slotTag ≡ slotWord (load ws sh) b k slotTag) × (slotWord (load (attachW ws sh b p f) sh) b k slotPlace ≡ slotWord (load ws sh) b k slotPlace)
+      × (slotWord (load (attachW ws sh b p f) sh) b k slotPosition ≡ slotWord (load ws sh) b k slotPosition)
   unfolding look
   marks k e =
       let d : attach till (s .tables b) p f .slots k ≡ pick (onPage till p k) (vacant (nextGeneration (s .tables b .pages p .high))) (s .tables b .slots k) = attach-slots till (s .tables b) p f k in
-      bool (eqb (k / 64) p)
+      bool (eqb (k / pageSize) p)
       (λ y. bool (ltb k maxSlots)
       (λ x. absurd (marked-here (attach till (s .tables b) p f .slots k) (nextGeneration (s .tables b .pages p .high)) (d ∙ rw (y, x)) e))
       (λ x. let a : attach till (s .tables b) p f .slots k ≡ absent = d ∙ rw (y, x) (absent-past till (s .tables b) (s .tables b .free) (h .placed .sound b l) k x) in
       clash (sym (ap isMarked a) ∙ e) refl))
       (λ y. let c : attach till (s .tables b) p f .slots k ≡ s .tables b .slots k = d ∙ rw y in
       let a : isMarked (s .tables b .slots k) ≡ true = sym (ap isMarked c) ∙ e in
-      let off : load ws sh (head b 6) ≡ suc k → ⊥ = λ z. clash (free-vacant (s .tables b) (h .placed .sound b l) k
-      (head-in (λ i. slotWord (load ws sh) b i 2) (λ i. slotWord (load ws sh) b i 3) (load ws sh (head b 6)) 0 (s .tables b .free) k (h .reps .memory .tables b l .free) z)) (marked-full (s .tables b .slots k) a) in
-      let v : (i : ℕ) → slotWord (load (attachW ws sh b p f) sh) b k i ≡ pick (eqb i 3 && eqb (load ws sh (head b 6)) (suc k)) (suc (p * 64)) (slotWord (load ws sh) b k i)
-      = λ i. ap (λ (c : Spot → ℕ). c (sl k i)) shows ∙ other-slot ws sh b (s .tables b) p f ripe k i (eqb-false (k / 64) p y) in
-      (a, v 0, v 2, v 3 ∙ rw (ne-eqb (load ws sh (head b 6)) (suc k) off)))
+      let off : load ws sh (head b headFirstFree) ≡ suc k → ⊥ = λ z. clash (free-vacant (s .tables b) (h .placed .sound b l) k
+      (head-in (λ i. slotWord (load ws sh) b i slotNextFree) (λ i. slotWord (load ws sh) b i slotPreviousFree) (load ws sh (head b headFirstFree)) 0 (s .tables b .free) k (h .reps .memory .tables b l .free) z)) (marked-full (s .tables b .slots k) a) in
+      let v : (i : ℕ) → slotWord (load (attachW ws sh b p f) sh) b k i ≡ pick (eqb i 3 && eqb (load ws sh (head b headFirstFree)) (suc k)) (suc (p * pageSize)) (slotWord (load ws sh) b k i)
+      = λ i. ap (λ (c : Spot → ℕ). c (sl k i)) shows ∙ other-slot ws sh b (s .tables b) p f ripe k i (eqb-false (k / pageSize) p y) in
+      (a, v 0, v 2, v 3 ∙ rw (ne-eqb (load ws sh (head b headFirstFree)) (suc k) off)))
 
   -- ATTACH
   pub attach-held : Held (attachW ws sh b p f) sh (withFrames (withTable s b (attach till (s .tables b) p f)) fs)

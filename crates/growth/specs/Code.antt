@@ -13,12 +13,14 @@ use Rattle.model.specs.Storage.{slotsOf}
 use Rattle.layout.specs.declared.Shape.{Shape}
 use Rattle.layout.specs.Layout.{Mem, head, entry, load, save, writes}
 use Rattle.layout.specs.Turns.{turns, turns-more}
+use Rattle.layout.specs.Fields.{headPageLimit, headPages, headFreeSlots, headFirstDetached, headFirstEntry, entryFrame, entryHigh, entryBusy}
+use Rattle.layout.specs.Sizes.{lastPage, batchMax}
 use Rattle.head.specs.declared.TableHead.{TableHead}
 use Rattle.head.specs.Head.{headAt, agedBy, nextEpoch, epochP}
 use Rattle.storage.specs.Ops.{up}
 use Rattle.frames.specs.Ops.{takeFrameW, lowestAt}
 use Rattle.growth.specs.Late.{ownP}
-use Rattle.growth.specs.Words.{nextWord, prevWord, cellsP, slotsP, builtW, joinedW, attachW, pageAt, linkAfter, sizeAfter, isFull, countFrom, pagesNeeded, attachNextW, attachAllW, advanceW, growW}
+use Rattle.growth.specs.Words.{nextWord, prevWord, cellsP, slotsP, builtW, joinedW, attachW, pageAt, linkAfter, sizeAfter, isFull, countFrom, pagesNeeded, attachNextW, attachAllW, advanceW, growW, noPlan}
 
 -- a choice by a test of equality
 pub equal-is : (x y r a b : ℕ) → x ≡ y → r ≡ a → r ≡ pick (eqb x y) a b
@@ -38,7 +40,7 @@ unfolding builtW
 built-end ws sh f p g h j n us a e l k = let d : j ≡ slotsOf till p = omega arith in e ∙ ap (turns ws sh (slotsP f p g h)) d
 
 -- `attach_page`
-pub attach-is : (ws : List ℕ) (sh : Shape) (b p f : ℕ) (e₀ e : ℕ) (w₁ w₂ : List ℕ) → e₀ ≡ load ws sh (head b 10) → e ≡ min e₀ 4294967295 → w₁ ≡ joinedW ws sh b p f
+pub attach-is : (ws : List ℕ) (sh : Shape) (b p f : ℕ) (e₀ e : ℕ) (w₁ w₂ : List ℕ) → e₀ ≡ load ws sh (head b headFirstEntry) → e ≡ min e₀ 4294967295 → w₁ ≡ joinedW ws sh b p f
     → w₂ ≡ takeFrameW w₁ sh f (e + p) → w₂ ≡ attachW ws sh b p f
 unfolding attachW
 attach-is ws sh b p f e₀ e w₁ w₂ a c d q = rw (q, d, c, a)
@@ -51,35 +53,35 @@ pub full-old : (d n l : ℕ) → (d ≡ 0 → ⊥) → false ≡ isFull d n l
 full-old d n l e = rw (ne-eqb d 0 e)
 
 -- the loop of `pages_needed`, after c of 64 turns
-module _ (m : Mem) (e l start k d n c : ℕ) (h : start ≡ countFrom m e l (64 - c) k d n c) where
-  pub count-done : (t : Bool) → c < 64 → t ≡ eqb k 0 → t ≡ true → c ≡ start
+module _ (m : Mem) (e l start k d n c : ℕ) (h : start ≡ countFrom m e l (batchMax - c) k d n c) where
+  pub count-done : (t : Bool) → c < batchMax → t ≡ eqb k 0 → t ≡ true → c ≡ start
   unfolding countFrom
-  count-done t i q y = let z : 64 - c ≡ suc (64 - (c + 1)) = omega arith in rw (h, z) (yes-is (eqb k 0) c c _ (sym q ∙ y) refl)
+  count-done t i q y = let z : batchMax - c ≡ suc (batchMax - (c + 1)) = omega arith in rw (h, z) (yes-is (eqb k 0) c c _ (sym q ∙ y) refl)
 
-  pub count-full : (t u : Bool) → c < 64 → t ≡ eqb k 0 → t ≡ false → u ≡ isFull d n l → u ≡ true → 65 ≡ start
+  pub count-full : (t u : Bool) → c < batchMax → t ≡ eqb k 0 → t ≡ false → u ≡ isFull d n l → u ≡ true → noPlan ≡ start
   unfolding countFrom
-  count-full t u i q y p x = let z : 64 - c ≡ suc (64 - (c + 1)) = omega arith in
-      rw (h, z) (no-is (eqb k 0) 65 c _ (sym q ∙ y) (yes-is (isFull d n l) 65 65 _ (sym p ∙ x) refl))
+  count-full t u i q y p x = let z : batchMax - c ≡ suc (batchMax - (c + 1)) = omega arith in
+      rw (h, z) (no-is (eqb k 0) noPlan c _ (sym q ∙ y) (yes-is (isFull d n l) noPlan noPlan _ (sym p ∙ x) refl))
 
-  pub count-more : (t u : Bool) → c < 64 → t ≡ eqb k 0 → t ≡ false → u ≡ isFull d n l → u ≡ false → (p s k′ d′ n′ : ℕ) → p ≡ pageAt d n → s ≡ slotsOf till p → k′ ≡ k - s
-      → n′ ≡ sizeAfter d n → d′ ≡ linkAfter m e d → start ≡ countFrom m e l (64 - (c + 1)) k′ d′ n′ (c + 1)
+  pub count-more : (t u : Bool) → c < batchMax → t ≡ eqb k 0 → t ≡ false → u ≡ isFull d n l → u ≡ false → (p s k′ d′ n′ : ℕ) → p ≡ pageAt d n → s ≡ slotsOf till p → k′ ≡ k - s
+      → n′ ≡ sizeAfter d n → d′ ≡ linkAfter m e d → start ≡ countFrom m e l (batchMax - (c + 1)) k′ d′ n′ (c + 1)
   unfolding countFrom
   count-more t u i q y o x p s k′ d′ n′ a₁ a₂ a₃ a₄ a₅ =
-      let z : 64 - c ≡ suc (64 - (c + 1)) = omega arith in
+      let z : batchMax - c ≡ suc (batchMax - (c + 1)) = omega arith in
       let v : c + 1 ≡ suc c = omega arith in
-      rw (h, z) (sym (no-is (eqb k 0) _ c _ (sym q ∙ y) (no-is (isFull d n l) _ 65 _ (sym o ∙ x) (rw (a₅, a₄, a₃, a₂, a₁, v)))))
+      rw (h, z) (sym (no-is (eqb k 0) _ c _ (sym q ∙ y) (no-is (isFull d n l) _ noPlan _ (sym o ∙ x) (rw (a₅, a₄, a₃, a₂, a₁, v)))))
 
-  pub count-end : c ≤ 64 → 64 ≤ c → c ≡ start
+  pub count-end : c ≤ batchMax → batchMax ≤ c → c ≡ start
   unfolding countFrom
-  count-end i j = let z : 64 - c ≡ 0 = omega arith in rw (h, z)
+  count-end i j = let z : batchMax - c ≡ 0 = omega arith in rw (h, z)
 
-pub count-start : (m : Mem) (b k e l k₀ k₁ d n : ℕ) → e ≡ m (head b 10) → l ≡ m (head b 0) → k₀ ≡ m (head b 7) → k₁ ≡ k - k₀ → d ≡ m (head b 9) → n ≡ m (head b 5)
-    → pagesNeeded m b k ≡ countFrom m e l (64 - 0) k₁ d n 0
+pub count-start : (m : Mem) (b k e l k₀ k₁ d n : ℕ) → e ≡ m (head b headFirstEntry) → l ≡ m (head b headPageLimit) → k₀ ≡ m (head b headFreeSlots) → k₁ ≡ k - k₀ → d ≡ m (head b headFirstDetached) → n ≡ m (head b headPages)
+    → pagesNeeded m b k ≡ countFrom m e l (batchMax - 0) k₁ d n 0
 unfolding pagesNeeded
 count-start m b k e l k₀ k₁ d n a₁ a₂ a₃ a₄ a₅ a₆ = rw (a₄, a₃, a₆, a₅, a₂, a₁)
 
 -- `attach_next` and its turns
-pub next-is : (ws : List ℕ) (sh : Shape) (b d n q p f : ℕ) (w : List ℕ) → d ≡ load ws sh (head b 9) → n ≡ load ws sh (head b 5) → q ≡ pageAt d n → p ≡ min q 262143 → f ≡ lowestAt (load ws sh)
+pub next-is : (ws : List ℕ) (sh : Shape) (b d n q p f : ℕ) (w : List ℕ) → d ≡ load ws sh (head b headFirstDetached) → n ≡ load ws sh (head b headPages) → q ≡ pageAt d n → p ≡ min q lastPage → f ≡ lowestAt (load ws sh)
     → w ≡ attachW ws sh b p f → w ≡ attachNextW ws sh b
 unfolding attachNextW
 next-is ws sh b d n q p f w a₁ a₂ a₃ a₄ a₅ e = rw (e, a₅, a₄, a₃, a₂, a₁)
@@ -105,8 +107,8 @@ unfolding growW
 grow-none ws sh b n us e d = yes-is (eqb n 0) us (attachAllW ws sh b n) (advanceW (attachAllW ws sh b n) sh b) d e
 
 -- the stores of `put_entry`
-pub own-is : (ws : List ℕ) (sh : Shape) (e p f g y : ℕ) (w₁ w₂ w₃ : List ℕ) → y ≡ up f → w₁ ≡ save ws sh (entry (e + p) 0) y → w₂ ≡ save w₁ sh (entry (e + p) 1) g
-    → w₃ ≡ save w₂ sh (entry (e + p) 2) 0 → w₃ ≡ writes ws sh (ownP e p f g)
+pub own-is : (ws : List ℕ) (sh : Shape) (e p f g y : ℕ) (w₁ w₂ w₃ : List ℕ) → y ≡ up f → w₁ ≡ save ws sh (entry (e + p) entryFrame) y → w₂ ≡ save w₁ sh (entry (e + p) entryHigh) g
+    → w₃ ≡ save w₂ sh (entry (e + p) entryBusy) 0 → w₃ ≡ writes ws sh (ownP e p f g)
 own-is ws sh e p f g y w₁ w₂ w₃ i a₁ a₂ a₃ = rw (a₃, a₂, a₁, i)
 
 -- `advance_epoch`

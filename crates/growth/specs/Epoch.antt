@@ -17,6 +17,8 @@ use Rattle.model.specs.Change.{withTable}
 use Rattle.invariant.specs.Orders.{recast}
 use Rattle.layout.specs.declared.Shape.{Shape}
 use Rattle.layout.specs.Layout.{Mem, head, load, Write.at, upd, in-head, length-writes, load-writes}
+use Rattle.layout.specs.Fields.{headEpoch}
+use Rattle.layout.specs.Sizes.{pageSize}
 use Rattle.representation.specs.Represents.{wordIn, frameOf, slotWord, TableIs, FramesAre}
 use Rattle.storage.specs.Sight.{Spot, Spot.hd, Spot.pg, Spot.sl, look, Put.toHead, put₁}
 use Rattle.storage.specs.Slots.{Seen, see, unsee}
@@ -28,34 +30,34 @@ use Rattle.growth.specs.Words.{advanceW}
 
 pub length-advance : (ws : List ℕ) (sh : Shape) (b : ℕ) → length (advanceW ws sh b) ≡ length ws
 unfolding advanceW
-length-advance ws sh b = length-writes ws sh (at (head b 4) ((load ws sh (head b 4) + 1) % 2 ^ 64) ∷ [])
+length-advance ws sh b = length-writes ws sh (at (head b headEpoch) ((load ws sh (head b headEpoch) + 1) % 2 ^ 64) ∷ [])
 
 module _ (ws : List ℕ) (sh : Shape) (s : State) (h : Held ws sh s) (b : ℕ) (l : b < s .tableCount) where
   abbrev x : ℕ
-  x = (load ws sh (head b 4) + 1) % 2 ^ 64
+  x = (load ws sh (head b headEpoch) + 1) % 2 ^ 64
 
   abbrev n : Mem
-  n = upd (load ws sh) (at (head b 4) ((load ws sh (head b 4) + 1) % 2 ^ 64))
+  n = upd (load ws sh) (at (head b headEpoch) ((load ws sh (head b headEpoch) + 1) % 2 ^ 64))
 
-  load-advance : load (advanceW ws sh b) sh ≡ upd (load ws sh) (at (head b 4) ((load ws sh (head b 4) + 1) % 2 ^ 64))
+  load-advance : load (advanceW ws sh b) sh ≡ upd (load ws sh) (at (head b headEpoch) ((load ws sh (head b headEpoch) + 1) % 2 ^ 64))
   unfolding advanceW
-  load-advance = load-writes ws sh (h .reps .shaped .room) (at (head b 4) ((load ws sh (head b 4) + 1) % 2 ^ 64) ∷ [])
-      (in-head sh b 4 (omega (arith, h .reps .memory .tableCount)) (omega arith), tt)
+  load-advance = load-writes ws sh (h .reps .shaped .room) (at (head b headEpoch) ((load ws sh (head b headEpoch) + 1) % 2 ^ 64) ∷ [])
+      (in-head sh b headEpoch (omega (arith, h .reps .memory .tableCount)) (omega arith), tt)
 
   same-words : (fr j i : ℕ) → wordIn n fr j i ≡ wordIn (load ws sh) fr j i
   same-words zero j i = refl
   same-words (suc fr) j i = refl
 
-  shows : look n b ≡ put₁ (look (load ws sh) b) (toHead 4 ((load ws sh (head b 4) + 1) % 2 ^ 64))
+  shows : look n b ≡ put₁ (look (load ws sh) b) (toHead headEpoch ((load ws sh (head b headEpoch) + 1) % 2 ^ 64))
   unfolding look
   shows = fun-ext go
     where
-      go : (c : Spot) → look n b c ≡ put₁ (look (load ws sh) b) (toHead 4 ((load ws sh (head b 4) + 1) % 2 ^ 64)) c
-      go (hd i) = rw (eq-eqb b b refl, and-true (eqb i 4))
+      go : (c : Spot) → look n b c ≡ put₁ (look (load ws sh) b) (toHead headEpoch ((load ws sh (head b headEpoch) + 1) % 2 ^ 64)) c
+      go (hd i) = rw (eq-eqb b b refl, and-true (eqb i headEpoch))
       go (pg p i) = refl
-      go (sl k i) = same-words (frameOf (load ws sh) b k) (k % 64) i
+      go (sl k i) = same-words (frameOf (load ws sh) b k) (k % pageSize) i
 
-  seen : Seen (load ws sh) (put₁ (look (load ws sh) b) (toHead 4 ((load ws sh (head b 4) + 1) % 2 ^ 64))) (advance (s .tables b))
+  seen : Seen (load ws sh) (put₁ (look (load ws sh) b) (toHead headEpoch ((load ws sh (head b headEpoch) + 1) % 2 ^ 64))) (advance (s .tables b))
   unfolding look
   seen = let z : Seen (load ws sh) (look (load ws sh) b) (s .tables b) = see (load ws sh) b (s .tables b) (h .reps .memory .tables b l) in record {
     limit = z .limit;
@@ -95,12 +97,12 @@ module _ (ws : List ℕ) (sh : Shape) (s : State) (h : Held ws sh s) (b : ℕ) (
       absurd (omega (arith, h .reps .memory .frameCount, fit-of sh (load ws sh) s (h .reps .memory) (h .placed) c k .frames (i .0) (s .frameCount) (i .1) (i .2)))
 
   same-slot : (k i : ℕ) → slotWord n b k i ≡ slotWord (load ws sh) b k i
-  same-slot k i = same-words (frameOf (load ws sh) b k) (k % 64) i
+  same-slot k i = same-words (frameOf (load ws sh) b k) (k % pageSize) i
 
   -- ADVANCE
   pub advance-held : Held (advanceW ws sh b) sh (withTable s b (advance (s .tables b)))
   advance-held = held-paged-marks ws (advanceW ws sh b) sh s h b l (s .frameCount) alone (length-advance ws sh b)
-      (rw load-advance (paged-write b (s .frameCount) (load ws sh) (load ws sh) (λ a i. refl) (head b 4) x (inr (inl (refl, refl, omega arith, omega arith)))))
+      (rw load-advance (paged-write b (s .frameCount) (load ws sh) (load ws sh) (λ a i. refl) (head b headEpoch) x (inr (inl (refl, refl, omega arith, omega arith)))))
       (advance (s .tables b)) (rw load-advance table-is) refl (s .frames) (rw load-advance frames-are)
       (placed-paged s b (advance (s .tables b)) (s .frames) (h .placed)
       (let o = h .placed .sound b l in recast till (s .tables b) (s .tables b .free) o (s .tables b .mask) (s .tables b .life) ((s .tables b .epoch + 1) % 2 ^ 64) (s .tables b .free) (mod-lt (s .tables b .epoch + 1) (omega arith)))

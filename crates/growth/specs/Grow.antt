@@ -23,6 +23,8 @@ use Rattle.invariant.specs.Orders.{Sound, Room, attach-sound}
 use Rattle.invariant.specs.Frames.{Grows, pages-grow, reserve-length, attachAll-owned}
 use Rattle.layout.specs.declared.Shape.{Shape}
 use Rattle.layout.specs.Layout.{Addr.reg, Mem, head, entry, load}
+use Rattle.layout.specs.Fields.{headPages, headFirstDetached, entryNext}
+use Rattle.layout.specs.Sizes.{lastPage, batchMax}
 use Rattle.representation.specs.Represents.{entryAt, Linked, TableIs}
 use Rattle.storage.specs.Reps.{Held}
 use Rattle.frames.specs.Paged.{paged-high}
@@ -99,10 +101,10 @@ unfolding attachAllW
 all-first ws sh b zero = refl
 all-first ws sh b (suc n) = ap (λ (w : List ℕ). attachNextW w sh b) (all-first ws sh b n)
 
-page-found : (m : Mem) (b : ℕ) (t : Table) → TableIs m b t → pageAt (m (head b 9)) (m (head b 5)) ≡ nextPage (t .detached) (t .size)
+page-found : (m : Mem) (b : ℕ) (t : Table) → TableIs m b t → pageAt (m (head b headFirstDetached)) (m (head b headPages)) ≡ nextPage (t .detached) (t .size)
 page-found m b t i = rw (i .size) (go (t .detached) (i .detached))
   where
-    go : (ds : List ℕ) → Linked (λ q. m (entry (entryAt m b q) 3)) (m (head b 9)) ds → pageAt (m (head b 9)) (t .size) ≡ nextPage ds (t .size)
+    go : (ds : List ℕ) → Linked (λ q. m (entry (entryAt m b q) entryNext)) (m (head b headFirstDetached)) ds → pageAt (m (head b headFirstDetached)) (t .size) ≡ nextPage ds (t .size)
     go [] c = rw c
     go (d ∷ ds) c = rw (c .0, ne-eqb (suc d) 0 (λ y. omega arith)) (omega arith)
 
@@ -120,8 +122,8 @@ module _ (sh : Shape) (b : ℕ) where
       → p ≡ nextPage (s .tables b .detached) (s .tables b .size) → attachNextW ws sh b ≡ attachW ws sh b p f
   unfolding attachNextW
   next-is ws s h l w p f fs first room e =
-      let found : pageAt (load ws sh (head b 9)) (load ws sh (head b 5)) ≡ p = page-found (load ws sh) b (s .tables b) (h .reps .memory .tables b l) ∙ sym e in
-      let low : min p 262143 ≡ p = omega (arith, room .within, h .placed .sound b l .limit, pages-max) in
+      let found : pageAt (load ws sh (head b headFirstDetached)) (load ws sh (head b headPages)) ≡ p = page-found (load ws sh) b (s .tables b) (h .reps .memory .tables b l) ∙ sym e in
+      let low : min p lastPage ≡ p = omega (arith, room .within, h .placed .sound b l .limit, pages-max) in
       rw (found, low, lowest-free ws sh s h w f fs first)
 
   next-held : (ws : List ℕ) (s : State) → Held ws sh s → b < s .tableCount → Frames s → (p f : ℕ) (fs : List ℕ) → s .frames ≡ f ∷ fs → Room (s .tables b) p
@@ -188,5 +190,5 @@ module _ (sh : Shape) (b : ℕ) where
           rw d (subst (λ (x : State). Held (advanceW (attachAllW ws sh b (length (p ∷ ps))) sh b) sh x) (paged-twice s b u (advance u) fs fs) j′)
 
   -- the free order then has as many slots as the batch
-  pub grow-enough : (t : Table) → Sound till t (t .free) → (k : ℕ) → k ≤ 64 → (ps fs : List ℕ) → pagesFor till t k ≡ some ps → length ps ≤ length fs → k ≤ length (grow till ps fs t .free)
+  pub grow-enough : (t : Table) → Sound till t (t .free) → (k : ℕ) → k ≤ batchMax → (ps fs : List ℕ) → pagesFor till t k ≡ some ps → length ps ≤ length fs → k ≤ length (grow till ps fs t .free)
   grow-enough t o k n ps fs e l = omega (arith, reserve-length till till-sane t (t .free) o k (omega (arith, batch-max)) ps fs e l, length-take k (grow till ps fs t .free))

@@ -19,6 +19,8 @@ use Rattle.invariant.specs.Orders.{Room}
 use Rattle.layout.specs.declared.Shape.{Shape}
 use Rattle.layout.specs.Layout.{Addr, Mem, head, entry, cell, load, Write, Write.at, writes, upd, upds, In, InAll, in-head, in-entry, in-cell, length-writes, load-writes}
 use Rattle.layout.specs.Turns.{turns, turnsM, length-turns, load-turns}
+use Rattle.layout.specs.Fields.{headPages, headFirstFree, headFreeSlots, headFirstEmpty, headFirstDetached, headFirstEntry, entryFrame, entryHigh, entryBusy, entryNext, entryPrevious, slotTag, slotGeneration, slotNextFree, slotPreviousFree}
+use Rattle.layout.specs.Sizes.{pageSize, pagesMax, slotsMax, framesMax}
 use Rattle.representation.specs.Represents.{entryAt, wordIn, frameOf, slotWord}
 use Rattle.storage.specs.Order.{head-in}
 use Rattle.storage.specs.Sight.{Spot.sl, look, Put.toSlot, OnlyTable, Can, frame-is, still-only, still-frame, put-only, put-in, put-shows, linkFrame, cellP, slotP, pageP, writesAll, updsAll, length-all, load-all}
@@ -62,41 +64,41 @@ next-none = refl
 pub record Ripe (ws : List ℕ) (sh : Shape) (b : ℕ) (t : Table) (p f : ℕ) : Type 0 where
   pub ready : Ready ws sh b t
   pub room : Room t p
-  pub pages : load ws sh (head b 10) + t .limit ≤ sh .pages
+  pub pages : load ws sh (head b headFirstEntry) + t .limit ≤ sh .pages
   pub frame : f < sh .frames
-  pub frames : sh .frames ≤ 65535
+  pub frames : sh .frames ≤ framesMax
   pub out : Has (load ws sh) b f → ⊥
 
 module _ (ws : List ℕ) (sh : Shape) (b : ℕ) (t : Table) (p f : ℕ) (r : Ripe ws sh b t p f) where
   page-low : p < maxPages till
   page-low = omega (arith, r .room .within, r .ready .sound .limit)
 
-  page-small : p < 262144
+  page-small : p < pagesMax
   page-small = omega (arith, page-low, pages-max)
 
   seen₀ : Seen (load ws sh) (look (load ws sh) b) t
   seen₀ = see (load ws sh) b t (r .ready .table)
 
   -- the old head of the free order has a frame
-  old-there : (k : ℕ) → load ws sh (head b 6) ≡ suc k → 0 < frameOf (load ws sh) b k
+  old-there : (k : ℕ) → load ws sh (head b headFirstFree) ≡ suc k → 0 < frameOf (load ws sh) b k
   unfolding look
   old-there k e = slot-there (load ws sh) (look (load ws sh) b) t seen₀ k (vacant-there (t .slots k) (free-vacant t (r .ready .sound) k
-      (head-in (λ i. slotWord (load ws sh) b i 2) (λ i. slotWord (load ws sh) b i 3) (load ws sh (head b 6)) 0 (t .free) k (r .ready .table .free) e)))
+      (head-in (λ i. slotWord (load ws sh) b i slotNextFree) (λ i. slotWord (load ws sh) b i slotPreviousFree) (load ws sh (head b headFirstFree)) 0 (t .free) k (r .ready .table .free) e)))
 
   -- the head of the empty order is below the size
-  empty-low : (q : ℕ) → load ws sh (head b 8) ≡ suc q → q < t .size
+  empty-low : (q : ℕ) → load ws sh (head b headFirstEmpty) ≡ suc q → q < t .size
   empty-low q e = empty-below t (r .ready .sound) q
-      (head-in (λ i. load ws sh (entry (entryAt (load ws sh) b i) 3)) (λ i. load ws sh (entry (entryAt (load ws sh) b i) 4)) (load ws sh (head b 8)) 0 (t .empty) q (r .ready .table .empty) e)
+      (head-in (λ i. load ws sh (entry (entryAt (load ws sh) b i) entryNext)) (λ i. load ws sh (entry (entryAt (load ws sh) b i) entryPrevious)) (load ws sh (head b headFirstEmpty)) 0 (t .empty) q (r .ready .table .empty) e)
 
-  can-old : Can (load ws sh) b (toSlot (load ws sh (head b 6)) 3 (p * 64 + 1))
+  can-old : Can (load ws sh) b (toSlot (load ws sh (head b headFirstFree)) slotPreviousFree (p * pageSize + 1))
   can-old = (omega arith, old-there)
 
-  own-page : (q : ℕ) → q < t .limit → In sh (entry (load ws sh (head b 10) + q) 0) × (load ws sh (head b 10) + q < sh .pages)
-  own-page q h = (in-entry sh (load ws sh (head b 10) + q) 0 (omega (arith, r .pages)) (omega arith), omega (arith, r .pages))
+  own-page : (q : ℕ) → q < t .limit → In sh (entry (load ws sh (head b headFirstEntry) + q) entryFrame) × (load ws sh (head b headFirstEntry) + q < sh .pages)
+  own-page q h = (in-entry sh (load ws sh (head b headFirstEntry) + q) entryFrame (omega (arith, r .pages)) (omega arith), omega (arith, r .pages))
 
-  in-pageP : (l i v : ℕ) → i < 5 → ((q : ℕ) → l ≡ suc q → q < t .limit) → InAll sh (pageP (load ws sh (head b 10)) l i v)
+  in-pageP : (l i v : ℕ) → i < 5 → ((q : ℕ) → l ≡ suc q → q < t .limit) → InAll sh (pageP (load ws sh (head b headFirstEntry)) l i v)
   in-pageP zero i v h c = tt
-  in-pageP (suc q) i v h c = (in-entry sh (load ws sh (head b 10) + q) i (own-page q (c q refl) .1) h, tt)
+  in-pageP (suc q) i v h c = (in-entry sh (load ws sh (head b headFirstEntry) + q) i (own-page q (c q refl) .1) h, tt)
 
   under : t .size ≤ t .limit
   under = r .ready .sound .size
@@ -106,36 +108,36 @@ module _ (ws : List ℕ) (sh : Shape) (b : ℕ) (t : Table) (p f : ℕ) (r : Rip
   unfolding joinedW builtW joinW joinP look
   load-joined =
       let g : ℕ = fresh (load ws sh) b p in
-      let h : ℕ = load ws sh (head b 6) in
-      let e : ℕ = load ws sh (head b 10) in
+      let h : ℕ = load ws sh (head b headFirstFree) in
+      let e : ℕ = load ws sh (head b headFirstEntry) in
       let tb = r .ready .fit .table in
       let w1 : List ℕ = turns ws sh (slotsP f p g h) (slotsOf till p) in
       let l1 : length w1 ≡ length ws = length-turns ws sh (slotsP f p g h) (slotsOf till p) in
       let e1 : load w1 sh ≡ mBuilt (load ws sh) f p g h = load-turns ws sh (slotsP f p g h) (r .ready .room) (slotsOf till p)
-      (λ i k. (in-cell sh f i 0 (r .frame) (omega arith) (omega arith), (in-cell sh f i 1 (r .frame) (omega arith) (omega arith), (in-cell sh f i 2 (r .frame) (omega arith) (omega arith), (in-cell sh f i 3 (r .frame) (omega arith) (omega arith), tt))))) in
-      let o : List (List Write) = orderP b p h (linkFrame (load ws sh) b h) (load ws sh (head b 7)) in
+      (λ i k. (in-cell sh f i slotTag (r .frame) (omega arith) (omega arith), (in-cell sh f i slotGeneration (r .frame) (omega arith) (omega arith), (in-cell sh f i slotNextFree (r .frame) (omega arith) (omega arith), (in-cell sh f i slotPreviousFree (r .frame) (omega arith) (omega arith), tt))))) in
+      let o : List (List Write) = orderP b p h (linkFrame (load ws sh) b h) (load ws sh (head b headFreeSlots)) in
       let w2 : List ℕ = writesAll w1 sh o in
       let l2 : length w2 ≡ length w1 = length-all w1 sh o in
       let e2 : load w2 sh ≡ updsAll (load w1 sh) o = load-all w1 sh (omega (arith, r .ready .room)) o
-      (put-in sh (load ws sh) b (r .ready .fit) (load ws sh) (λ a i. refl) (toSlot h 3 (p * 64 + 1)) can-old, ((in-head sh b 6 tb (omega arith), tt), ((in-head sh b 7 tb (omega arith), tt), tt))) in
+      (put-in sh (load ws sh) b (r .ready .fit) (load ws sh) (λ a i. refl) (toSlot h slotPreviousFree (p * pageSize + 1)) can-old, ((in-head sh b headFirstFree tb (omega arith), tt), ((in-head sh b headFreeSlots tb (omega arith), tt), tt))) in
       let x : List Write = entryP b e p f g (sizeWith (load ws sh) b p) (detachedWith (load ws sh) b p) in
       let w3 : List ℕ = writes w2 sh x in
       let l3 : length w3 ≡ length w2 = length-writes w2 sh x in
-      let pe : load ws sh (head b 10) + p < sh .pages = own-page p (r .room .within) .1 in
+      let pe : load ws sh (head b headFirstEntry) + p < sh .pages = own-page p (r .room .within) .1 in
       let e3 : load w3 sh ≡ upds (load w2 sh) x = load-writes w2 sh (omega (arith, r .ready .room)) x
-      (in-head sh b 5 tb (omega arith), (in-head sh b 9 tb (omega arith), (in-entry sh (e + p) 0 pe (omega arith), (in-entry sh (e + p) 1 pe (omega arith), (in-entry sh (e + p) 2 pe (omega arith), tt))))) in
+      (in-head sh b headPages tb (omega arith), (in-head sh b headFirstDetached tb (omega arith), (in-entry sh (e + p) entryFrame pe (omega arith), (in-entry sh (e + p) entryHigh pe (omega arith), (in-entry sh (e + p) entryBusy pe (omega arith), tt))))) in
       let d3 : load w3 sh ≡ mEntry (load ws sh) b p f = e3 ∙ ap (λ (k : Mem). upds k x) (e2 ∙ ap (λ (k : Mem). updsAll k o) e1) in
-      let q8 : load w3 sh (head b 8) ≡ load ws sh (head b 8) = ap (λ (k : Mem). k (head b 8)) d3 ∙ entry-head (load ws sh) b p f b 8 (λ a c. omega arith) (λ y. omega arith) in
-      let q10 : load w3 sh (head b 10) ≡ load ws sh (head b 10) = ap (λ (k : Mem). k (head b 10)) d3 ∙ entry-head (load ws sh) b p f b 10 (λ a c. omega arith) (λ y. omega arith) in
-      let y : List (List Write) = pageP e (load ws sh (head b 8)) 4 (up p) ∷ (at (entry (e + p) 3) (load ws sh (head b 8)) ∷ []) ∷ (at (entry (e + p) 4) 0 ∷ []) ∷ (at (head b 8) (up p) ∷ []) ∷ [] in
+      let q8 : load w3 sh (head b headFirstEmpty) ≡ load ws sh (head b headFirstEmpty) = ap (λ (k : Mem). k (head b headFirstEmpty)) d3 ∙ entry-head (load ws sh) b p f b 8 (λ a c. omega arith) (λ y. omega arith) in
+      let q10 : load w3 sh (head b headFirstEntry) ≡ load ws sh (head b headFirstEntry) = ap (λ (k : Mem). k (head b headFirstEntry)) d3 ∙ entry-head (load ws sh) b p f b 10 (λ a c. omega arith) (λ y. omega arith) in
+      let y : List (List Write) = pageP e (load ws sh (head b headFirstEmpty)) entryPrevious (up p) ∷ (at (entry (e + p) entryNext) (load ws sh (head b headFirstEmpty)) ∷ []) ∷ (at (entry (e + p) entryPrevious) 0 ∷ []) ∷ (at (head b headFirstEmpty) (up p) ∷ []) ∷ [] in
       let e4 : load (writesAll w3 sh y) sh ≡ updsAll (load w3 sh) y = load-all w3 sh (omega (arith, r .ready .room)) y (
-        in-pageP (load ws sh (head b 8)) 4 (up p) (omega arith) (λ q z. omega (arith, empty-low q z, under)),
-        ((in-entry sh (e + p) 3 pe (omega arith), tt), ((in-entry sh (e + p) 4 pe (omega arith), tt), ((in-head sh b 8 tb (omega arith), tt), tt))),
+        in-pageP (load ws sh (head b headFirstEmpty)) 4 (up p) (omega arith) (λ q z. omega (arith, empty-low q z, under)),
+        ((in-entry sh (e + p) entryNext pe (omega arith), tt), ((in-entry sh (e + p) entryPrevious pe (omega arith), tt), ((in-head sh b headFirstEmpty tb (omega arith), tt), tt))),
       ) in
       rw (q8, q10) (e4 ∙ ap (λ (k : Mem). updsAll k y) d3)
 
   -- ALL ELSE is as before
-  low-entry : (q i : ℕ) → q < t .limit → Pages (load ws sh) b f (entry (load ws sh (head b 10) + q) i)
+  low-entry : (q i : ℕ) → q < t .limit → Pages (load ws sh) b f (entry (load ws sh (head b headFirstEntry) + q) i)
   low-entry q i h = inr (inr (inl (refl, omega arith, omega (arith, r .ready .table .limit))))
 
   head-entry : (i : ℕ) → 4 ≤ i → i ≤ 9 → Pages (load ws sh) b f (head b i)
@@ -144,37 +146,37 @@ module _ (ws : List ℕ) (sh : Shape) (b : ℕ) (t : Table) (p f : ℕ) (r : Rip
   in-frame : (j i : ℕ) → Pages (load ws sh) b f (cell f j i)
   in-frame j i = inr (inr (inr (inr (inr (refl, inl refl)))))
 
-  old-within : Within (Pages (load ws sh) b f) (slotP (linkFrame (load ws sh) b (load ws sh (head b 6))) (load ws sh (head b 6)) 3 (p * 64 + 1))
-  old-within = go (load ws sh (head b 6))
+  old-within : Within (Pages (load ws sh) b f) (slotP (linkFrame (load ws sh) b (load ws sh (head b headFirstFree))) (load ws sh (head b headFirstFree)) slotPreviousFree (p * pageSize + 1))
+  old-within = go (load ws sh (head b headFirstFree))
     where
-      slot : (k fr : ℕ) → frameOf (load ws sh) b k ≡ fr → Within (Pages (load ws sh) b f) (cellP fr (k % 64) 3 (p * 64 + 1))
+      slot : (k fr : ℕ) → frameOf (load ws sh) b k ≡ fr → Within (Pages (load ws sh) b f) (cellP fr (k % pageSize) slotPreviousFree (p * pageSize + 1))
       slot k zero e = tt
-      slot k (suc fr) e = let i = frame-is (load ws sh) b k fr e in (inr (inr (inr (inr (inr (refl, inr (k / 64, i .1, i .2)))))), tt)
+      slot k (suc fr) e = let i = frame-is (load ws sh) b k fr e in (inr (inr (inr (inr (inr (refl, inr (k / pageSize, i .1, i .2)))))), tt)
 
-      go : (h : ℕ) → Within (Pages (load ws sh) b f) (slotP (linkFrame (load ws sh) b h) h 3 (p * 64 + 1))
+      go : (h : ℕ) → Within (Pages (load ws sh) b f) (slotP (linkFrame (load ws sh) b h) h slotPreviousFree (p * pageSize + 1))
       go zero = tt
       go (suc k) = slot k (frameOf (load ws sh) b k) refl
 
-  next-within : Within (Pages (load ws sh) b f) (pageP (load ws sh (head b 10)) (load ws sh (head b 8)) 4 (up p))
-  next-within = go (load ws sh (head b 8)) empty-low
+  next-within : Within (Pages (load ws sh) b f) (pageP (load ws sh (head b headFirstEntry)) (load ws sh (head b headFirstEmpty)) entryPrevious (up p))
+  next-within = go (load ws sh (head b headFirstEmpty)) empty-low
     where
-      go : (l : ℕ) → ((q : ℕ) → l ≡ suc q → q < t .size) → Within (Pages (load ws sh) b f) (pageP (load ws sh (head b 10)) l 4 (up p))
+      go : (l : ℕ) → ((q : ℕ) → l ≡ suc q → q < t .size) → Within (Pages (load ws sh) b f) (pageP (load ws sh (head b headFirstEntry)) l entryPrevious (up p))
       go zero c = tt
       go (suc q) c = (low-entry q 4 (omega (arith, c q refl, under)), tt)
 
   pub only-joined : OnlyPaged b f (load ws sh) (mJoined (load ws sh) b p f)
   only-joined =
       let g : ℕ = fresh (load ws sh) b p in
-      let h : ℕ = load ws sh (head b 6) in
-      let l : (i : ℕ) → Pages (load ws sh) b f (entry (load ws sh (head b 10) + p) i) = λ i. low-entry p i (r .room .within) in
+      let h : ℕ = load ws sh (head b headFirstFree) in
+      let l : (i : ℕ) → Pages (load ws sh) b f (entry (load ws sh (head b headFirstEntry) + p) i) = λ i. low-entry p i (r .room .within) in
       let o1 = paged-turns b f (load ws sh) (load ws sh) (λ a i. refl) (slotsP f p g h) (λ j. (in-frame j 0, (in-frame j 1, (in-frame j 2, (in-frame j 3, tt))))) (slotsOf till p) in
-      let o2 = paged-writes b f (load ws sh) (mBuilt (load ws sh) f p g h) o1 (slotP (linkFrame (load ws sh) b h) h 3 (p * 64 + 1)) old-within in
-      let o3 = paged-writes b f (load ws sh) (mOld (load ws sh) b p f) o2 (at (head b 6) (p * 64 + slotsOf till p) ∷ at (head b 7) (min (load ws sh (head b 7)) 16777215 + slotsOf till p) ∷ [])
+      let o2 = paged-writes b f (load ws sh) (mBuilt (load ws sh) f p g h) o1 (slotP (linkFrame (load ws sh) b h) h slotPreviousFree (p * pageSize + 1)) old-within in
+      let o3 = paged-writes b f (load ws sh) (mOld (load ws sh) b p f) o2 (at (head b headFirstFree) (p * pageSize + slotsOf till p) ∷ at (head b headFreeSlots) (min (load ws sh (head b headFreeSlots)) slotsMax + slotsOf till p) ∷ [])
       (head-entry 6 (omega arith) (omega arith), (head-entry 7 (omega arith) (omega arith), tt)) in
-      let o4 = paged-writes b f (load ws sh) _ o3 (entryP b (load ws sh (head b 10)) p f g (sizeWith (load ws sh) b p) (detachedWith (load ws sh) b p))
+      let o4 = paged-writes b f (load ws sh) _ o3 (entryP b (load ws sh (head b headFirstEntry)) p f g (sizeWith (load ws sh) b p) (detachedWith (load ws sh) b p))
       (head-entry 5 (omega arith) (omega arith), (head-entry 9 (omega arith) (omega arith), (l 0, (l 1, (l 2, tt))))) in
-      let o5 = paged-writes b f (load ws sh) (mEntry (load ws sh) b p f) o4 (pageP (load ws sh (head b 10)) (load ws sh (head b 8)) 4 (up p)) next-within in
-      paged-writes b f (load ws sh) (mNext (load ws sh) b p f) o5 (at (entry (load ws sh (head b 10) + p) 3) (load ws sh (head b 8)) ∷ at (entry (load ws sh (head b 10) + p) 4) 0 ∷ at (head b 8) (up p) ∷ [])
+      let o5 = paged-writes b f (load ws sh) (mEntry (load ws sh) b p f) o4 (pageP (load ws sh (head b headFirstEntry)) (load ws sh (head b headFirstEmpty)) entryPrevious (up p)) next-within in
+      paged-writes b f (load ws sh) (mNext (load ws sh) b p f) o5 (at (entry (load ws sh (head b headFirstEntry) + p) entryNext) (load ws sh (head b headFirstEmpty)) ∷ at (entry (load ws sh (head b headFirstEntry) + p) entryPrevious) 0 ∷ at (head b headFirstEmpty) (up p) ∷ [])
       (l 3, (l 4, (head-entry 8 (omega arith) (omega arith), tt)))
 
   -- ---- what the table shows
@@ -182,93 +184,93 @@ module _ (ws : List ℕ) (sh : Shape) (b : ℕ) (t : Table) (p f : ℕ) (r : Rip
   up-page : up p ≡ suc p
   up-page = up-small p (omega (arith, page-small))
 
-  first-kept : mJoined (load ws sh) b p f (head b 10) ≡ load ws sh (head b 10)
+  first-kept : mJoined (load ws sh) b p f (head b headFirstEntry) ≡ load ws sh (head b headFirstEntry)
   first-kept = joined-head (load ws sh) b p f b 10 (λ a c. omega arith)
 
-  size-then : mJoined (load ws sh) b p f (head b 5) ≡ pick (eqb p (load ws sh (head b 5))) (suc (load ws sh (head b 5))) (load ws sh (head b 5))
-  size-then = joined-size (load ws sh) b p f ∙ rw up-page (bool (eqb p (load ws sh (head b 5))) (λ e. rw (e, eqb-true p (load ws sh (head b 5)) e)) (λ e. rw e))
+  size-then : mJoined (load ws sh) b p f (head b headPages) ≡ pick (eqb p (load ws sh (head b headPages))) (suc (load ws sh (head b headPages))) (load ws sh (head b headPages))
+  size-then = joined-size (load ws sh) b p f ∙ rw up-page (bool (eqb p (load ws sh (head b headPages))) (λ e. rw (e, eqb-true p (load ws sh (head b headPages)) e)) (λ e. rw e))
 
   -- pages
-  page-then : (q i : ℕ) → mJoined (load ws sh) b p f (entry (entryAt (mJoined (load ws sh) b p f) b q) i) ≡ mJoined (load ws sh) b p f (entry (load ws sh (head b 10) + q) i)
+  page-then : (q i : ℕ) → mJoined (load ws sh) b p f (entry (entryAt (mJoined (load ws sh) b p f) b q) i) ≡ mJoined (load ws sh) b p f (entry (load ws sh (head b headFirstEntry) + q) i)
   page-then q i = ap (λ (x : ℕ). mJoined (load ws sh) b p f (entry (x + q) i)) first-kept
 
   page-other : (q i : ℕ) → (q ≡ p → ⊥) → mJoined (load ws sh) b p f (entry (entryAt (mJoined (load ws sh) b p f) b q) i)
-      ≡ pick (eqb i 4 && eqb (load ws sh (head b 8)) (suc q)) (suc p) (load ws sh (entry (entryAt (load ws sh) b q) i))
-  page-other q i n = page-then q i ∙ joined-page (load ws sh) b p f q i n ∙ ap (λ (x : ℕ). pick (eqb i 4 && eqb (load ws sh (head b 8)) (suc q)) x (load ws sh (entry (entryAt (load ws sh) b q) i))) up-page
+      ≡ pick (eqb i 4 && eqb (load ws sh (head b headFirstEmpty)) (suc q)) (suc p) (load ws sh (entry (entryAt (load ws sh) b q) i))
+  page-other q i n = page-then q i ∙ joined-page (load ws sh) b p f q i n ∙ ap (λ (x : ℕ). pick (eqb i 4 && eqb (load ws sh (head b headFirstEmpty)) (suc q)) x (load ws sh (entry (entryAt (load ws sh) b q) i))) up-page
 
   -- frames of slots
-  frame-on : (k : ℕ) → k / 64 ≡ p → k < maxSlots → frameOf (mJoined (load ws sh) b p f) b k ≡ suc f
+  frame-on : (k : ℕ) → k / pageSize ≡ p → k < maxSlots → frameOf (mJoined (load ws sh) b p f) b k ≡ suc f
   frame-on k e l =
-      let u : p < mJoined (load ws sh) b p f (head b 5) = rw size-then (bool (eqb p (load ws sh (head b 5)))
-      (λ y. rw y (omega (arith, eqb-true p (load ws sh (head b 5)) y)))
-      (λ y. rw y (omega (arith, eqb-false p (load ws sh (head b 5)) y, r .room .next, r .ready .table .size)))) in
-      rw (lt-ltb k maxSlots l, e, lt-ltb p (mJoined (load ws sh) b p f (head b 5)) u) (page-then p 0 ∙ joined-frame (load ws sh) b p f ∙ up-small f (omega (arith, r .frame, r .frames)))
+      let u : p < mJoined (load ws sh) b p f (head b headPages) = rw size-then (bool (eqb p (load ws sh (head b headPages)))
+      (λ y. rw y (omega (arith, eqb-true p (load ws sh (head b headPages)) y)))
+      (λ y. rw y (omega (arith, eqb-false p (load ws sh (head b headPages)) y, r .room .next, r .ready .table .size)))) in
+      rw (lt-ltb k maxSlots l, e, lt-ltb p (mJoined (load ws sh) b p f (head b headPages)) u) (page-then p 0 ∙ joined-frame (load ws sh) b p f ∙ up-small f (omega (arith, r .frame, r .frames)))
 
-  frame-off : (k : ℕ) → (k / 64 ≡ p → ⊥) → frameOf (mJoined (load ws sh) b p f) b k ≡ frameOf (load ws sh) b k
+  frame-off : (k : ℕ) → (k / pageSize ≡ p → ⊥) → frameOf (mJoined (load ws sh) b p f) b k ≡ frameOf (load ws sh) b k
   frame-off k n =
-      let s : ltb (k / 64) (mJoined (load ws sh) b p f (head b 5)) ≡ ltb (k / 64) (load ws sh (head b 5)) = rw size-then (bool (eqb p (load ws sh (head b 5)))
-      (λ e. rw e (bool (ltb (k / 64) (load ws sh (head b 5)))
-      (λ l. rw l (lt-ltb (k / 64) (suc (load ws sh (head b 5))) (omega (arith, ltb-true (k / 64) (load ws sh (head b 5)) l))))
-      (λ l. rw l (le-ltb (k / 64) (suc (load ws sh (head b 5))) (let y = eqb-true p (load ws sh (head b 5)) e in let x = ltb-false (k / 64) (load ws sh (head b 5)) l in
-      let n′ : k / 64 ≡ p → ⊥ = n in omega arith)))))
+      let s : ltb (k / pageSize) (mJoined (load ws sh) b p f (head b headPages)) ≡ ltb (k / pageSize) (load ws sh (head b headPages)) = rw size-then (bool (eqb p (load ws sh (head b headPages)))
+      (λ e. rw e (bool (ltb (k / pageSize) (load ws sh (head b headPages)))
+      (λ l. rw l (lt-ltb (k / pageSize) (suc (load ws sh (head b headPages))) (omega (arith, ltb-true (k / pageSize) (load ws sh (head b headPages)) l))))
+      (λ l. rw l (le-ltb (k / pageSize) (suc (load ws sh (head b headPages))) (let y = eqb-true p (load ws sh (head b headPages)) e in let x = ltb-false (k / pageSize) (load ws sh (head b headPages)) l in
+      let n′ : k / pageSize ≡ p → ⊥ = n in omega arith)))))
       (λ e. rw e)) in
-      rw (s, page-other (k / 64) 0 n)
+      rw (s, page-other (k / pageSize) 0 n)
 
   -- slots of the page
-  own-slot : (j i : ℕ) → j < slotsOf till p → slotWord (mJoined (load ws sh) b p f) b (p * 64 + j) i ≡ mBuilt (load ws sh) f p (fresh (load ws sh) b p) (load ws sh (head b 6)) (cell f j i)
+  own-slot : (j i : ℕ) → j < slotsOf till p → slotWord (mJoined (load ws sh) b p f) b (p * pageSize + j) i ≡ mBuilt (load ws sh) f p (fresh (load ws sh) b p) (load ws sh (head b headFirstFree)) (cell f j i)
   own-slot j i h =
-      let d : (p * 64 + j) / 64 ≡ p = page-of till till-sane p (p * 64 + j) (omega arith) (omega arith) in
-      let l : p * 64 + j < maxSlots = page-below till till-sane p (p * 64 + j) (omega arith) (omega arith) in
-      let c : (p * 64 + j) % 64 ≡ j = omega arith in
-      let out : linkFrame (load ws sh) b (load ws sh (head b 6)) ≡ suc f → ⊥ = not-own (load ws sh (head b 6)) in
-      ap (λ (x : ℕ). wordIn (mJoined (load ws sh) b p f) x ((p * 64 + j) % 64) i) (frame-on (p * 64 + j) d l)
+      let d : (p * pageSize + j) / pageSize ≡ p = page-of till till-sane p (p * pageSize + j) (omega arith) (omega arith) in
+      let l : p * pageSize + j < maxSlots = page-below till till-sane p (p * pageSize + j) (omega arith) (omega arith) in
+      let c : (p * pageSize + j) % pageSize ≡ j = omega arith in
+      let out : linkFrame (load ws sh) b (load ws sh (head b headFirstFree)) ≡ suc f → ⊥ = not-own (load ws sh (head b headFirstFree)) in
+      ap (λ (x : ℕ). wordIn (mJoined (load ws sh) b p f) x ((p * pageSize + j) % pageSize) i) (frame-on (p * pageSize + j) d l)
       ∙ ap (λ (x : ℕ). mJoined (load ws sh) b p f (cell f x i)) c ∙ joined-cell (load ws sh) b p f f j i
-      ∙ slot-cell (mBuilt (load ws sh) f p (fresh (load ws sh) b p) (load ws sh (head b 6))) (linkFrame (load ws sh) b (load ws sh (head b 6))) (load ws sh (head b 6)) 3 (p * 64 + 1) f j i out
+      ∙ slot-cell (mBuilt (load ws sh) f p (fresh (load ws sh) b p) (load ws sh (head b headFirstFree))) (linkFrame (load ws sh) b (load ws sh (head b headFirstFree))) (load ws sh (head b headFirstFree)) 3 (p * pageSize + 1) f j i out
     where
       not-own : (h : ℕ) → linkFrame (load ws sh) b h ≡ suc f → ⊥
       not-own zero e = omega arith
-      not-own (suc k) e = let i = frame-is (load ws sh) b k f e in r .out (k / 64, i .1, i .2)
+      not-own (suc k) e = let i = frame-is (load ws sh) b k f e in r .out (k / pageSize, i .1, i .2)
 
   -- and of other pages
   abbrev mSlot : Mem
-  mSlot = upds (load ws sh) (slotP (linkFrame (load ws sh) b (load ws sh (head b 6))) (load ws sh (head b 6)) 3 (p * 64 + 1))
+  mSlot = upds (load ws sh) (slotP (linkFrame (load ws sh) b (load ws sh (head b headFirstFree))) (load ws sh (head b headFirstFree)) slotPreviousFree (p * pageSize + 1))
 
-  pub other-slot : (k i : ℕ) → (k / 64 ≡ p → ⊥)
-      → slotWord (mJoined (load ws sh) b p f) b k i ≡ pick (eqb i 3 && eqb (load ws sh (head b 6)) (suc k)) (suc (p * 64)) (slotWord (load ws sh) b k i)
+  pub other-slot : (k i : ℕ) → (k / pageSize ≡ p → ⊥)
+      → slotWord (mJoined (load ws sh) b p f) b k i ≡ pick (eqb i 3 && eqb (load ws sh (head b headFirstFree)) (suc k)) (suc (p * pageSize)) (slotWord (load ws sh) b k i)
   unfolding look
   other-slot k i n =
       let fit = r .ready .fit in
-      let only : OnlyTable b (load ws sh) mSlot = put-only sh (load ws sh) b fit (load ws sh) (λ a c. refl) (toSlot (load ws sh (head b 6)) 3 (p * 64 + 1)) can-old in
+      let only : OnlyTable b (load ws sh) mSlot = put-only sh (load ws sh) b fit (load ws sh) (λ a c. refl) (toSlot (load ws sh (head b headFirstFree)) slotPreviousFree (p * pageSize + 1)) can-old in
       let fr : frameOf mSlot b k ≡ frameOf (load ws sh) b k = still-frame b (load ws sh) mSlot (still-only b (load ws sh) mSlot only) k in
-      let link : p * 64 + 1 ≡ suc (p * 64) = omega arith in
-      ap (λ (x : ℕ). wordIn (mJoined (load ws sh) b p f) x (k % 64) i) (frame-off k n)
+      let link : p * pageSize + 1 ≡ suc (p * pageSize) = omega arith in
+      ap (λ (x : ℕ). wordIn (mJoined (load ws sh) b p f) x (k % pageSize) i) (frame-off k n)
       ∙ words (frameOf (load ws sh) b k) refl
-      ∙ sym (ap (λ (x : ℕ). wordIn mSlot x (k % 64) i) fr)
-      ∙ put-shows sh (load ws sh) b fit (load ws sh) (λ a c. refl) (toSlot (load ws sh (head b 6)) 3 (p * 64 + 1)) can-old (sl k i)
-      ∙ ap (λ (x : ℕ). pick (eqb i 3 && eqb (load ws sh (head b 6)) (suc k)) x (slotWord (load ws sh) b k i)) link
+      ∙ sym (ap (λ (x : ℕ). wordIn mSlot x (k % pageSize) i) fr)
+      ∙ put-shows sh (load ws sh) b fit (load ws sh) (λ a c. refl) (toSlot (load ws sh (head b headFirstFree)) slotPreviousFree (p * pageSize + 1)) can-old (sl k i)
+      ∙ ap (λ (x : ℕ). pick (eqb i 3 && eqb (load ws sh (head b headFirstFree)) (suc k)) x (slotWord (load ws sh) b k i)) link
     where
-      words : (x : ℕ) → frameOf (load ws sh) b k ≡ x → wordIn (mJoined (load ws sh) b p f) x (k % 64) i ≡ wordIn mSlot x (k % 64) i
+      words : (x : ℕ) → frameOf (load ws sh) b k ≡ x → wordIn (mJoined (load ws sh) b p f) x (k % pageSize) i ≡ wordIn mSlot x (k % pageSize) i
       words zero e = refl
       words (suc x) e = let u = frame-is (load ws sh) b k x e in
-          let far : x ≡ f → ⊥ = λ d. r .out (k / 64, u .1, u .2 ∙ ap suc d) in
-          joined-cell (load ws sh) b p f x (k % 64) i
-          ∙ upds-agree (mBuilt (load ws sh) f p (fresh (load ws sh) b p) (load ws sh (head b 6))) (load ws sh) (cell x (k % 64) i)
-          (built-cell (load ws sh) f p (fresh (load ws sh) b p) (load ws sh (head b 6)) x (k % 64) i far)
-          (slotP (linkFrame (load ws sh) b (load ws sh (head b 6))) (load ws sh (head b 6)) 3 (p * 64 + 1))
+          let far : x ≡ f → ⊥ = λ d. r .out (k / pageSize, u .1, u .2 ∙ ap suc d) in
+          joined-cell (load ws sh) b p f x (k % pageSize) i
+          ∙ upds-agree (mBuilt (load ws sh) f p (fresh (load ws sh) b p) (load ws sh (head b headFirstFree))) (load ws sh) (cell x (k % pageSize) i)
+          (built-cell (load ws sh) f p (fresh (load ws sh) b p) (load ws sh (head b headFirstFree)) x (k % pageSize) i far)
+          (slotP (linkFrame (load ws sh) b (load ws sh (head b headFirstFree))) (load ws sh (head b headFirstFree)) slotPreviousFree (p * pageSize + 1))
 
   -- the generation
   fresh-is : fresh (load ws sh) b p ≡ nextGeneration (t .pages p .high)
   unfolding fresh
-  fresh-is = bool (ltb p (load ws sh (head b 5)))
-      (λ l. rw (l, r .ready .table .high p (omega (arith, ltb-true p (load ws sh (head b 5)) l, r .ready .table .size))))
-      (λ l. rw (l, r .ready .sound .rest p (omega (arith, ltb-false p (load ws sh (head b 5)) l, r .ready .table .size))) (sym next-none))
+  fresh-is = bool (ltb p (load ws sh (head b headPages)))
+      (λ l. rw (l, r .ready .table .high p (omega (arith, ltb-true p (load ws sh (head b headPages)) l, r .ready .table .size))))
+      (λ l. rw (l, r .ready .sound .rest p (omega (arith, ltb-false p (load ws sh (head b headPages)) l, r .ready .table .size))) (sym next-none))
 
   pub joined-is : Joined (look (load ws sh) b) (look (mJoined (load ws sh) b p f) b) p f (nextGeneration (t .pages p .high)) (slotsOf till p)
   unfolding look
   joined-is =
       let m′ : Mem = mJoined (load ws sh) b p f in
       let g : ℕ = fresh (load ws sh) b p in
-      let h : ℕ = load ws sh (head b 6) in
+      let h : ℕ = load ws sh (head b headFirstFree) in
       record {
         heads = λ i l. joined-head (load ws sh) b p f b i (λ a c. omega arith);
         size = size-then;

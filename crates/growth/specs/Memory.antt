@@ -11,6 +11,9 @@ use Rattle.model.specs.State.{till}
 use Rattle.model.specs.Storage.{slotsOf}
 use Rattle.layout.specs.Layout.{Addr.reg, Mem, head, entry, cell, Write.at, upds}
 use Rattle.layout.specs.Turns.{turnsM, miss, hit}
+use Rattle.layout.specs.Fields.{headPages, headFirstFree, headFreeSlots, headFirstEmpty, headFirstDetached, headFirstEntry, entryFrame, entryHigh, entryBusy, entryNext, entryPrevious, slotTag, slotGeneration, slotNextFree, slotPreviousFree}
+use Rattle.layout.specs.Values.{tagVacant}
+use Rattle.layout.specs.Sizes.{pageSize, slotsMax}
 use Rattle.storage.specs.Sight.{linkFrame, slotP, pageP}
 use Rattle.storage.specs.Ops.{up}
 use Rattle.growth.specs.Words.{nextWord, prevWord, slotsP, entryP, fresh, sizeWith, detachedWith}
@@ -37,18 +40,18 @@ module _ (m : Mem) (f p g h : ℕ) where
     there : (i v w : ℕ) → (j ≡ i → ⊥) → pick (eqb j i && eqb f f) v w ≡ w
     there i v w n = rw (ne-eqb j i n)
 
-    pub built-tag : mBuilt (cell f j 0) ≡ 0
-    built-tag = hit m (slotsP f p g h) (cell f j 0) j 0 (λ k. here 0 (k (cell f j 0))) (λ i k n. there i 0 (k (cell f j 0)) n) (slotsOf till p) l
+    pub built-tag : mBuilt (cell f j slotTag) ≡ tagVacant
+    built-tag = hit m (slotsP f p g h) (cell f j slotTag) j 0 (λ k. here 0 (k (cell f j slotTag))) (λ i k n. there i 0 (k (cell f j slotTag)) n) (slotsOf till p) l
 
-    pub built-generation : mBuilt (cell f j 1) ≡ g
-    built-generation = hit m (slotsP f p g h) (cell f j 1) j g (λ k. here g (k (cell f j 1))) (λ i k n. there i g (k (cell f j 1)) n) (slotsOf till p) l
+    pub built-generation : mBuilt (cell f j slotGeneration) ≡ g
+    built-generation = hit m (slotsP f p g h) (cell f j slotGeneration) j g (λ k. here g (k (cell f j slotGeneration))) (λ i k n. there i g (k (cell f j slotGeneration)) n) (slotsOf till p) l
 
-    pub built-next : mBuilt (cell f j 2) ≡ nextWord p h j
-    built-next = hit m (slotsP f p g h) (cell f j 2) j (nextWord p h j) (λ k. here (nextWord p h j) (k (cell f j 2))) (λ i k n. there i (nextWord p h i) (k (cell f j 2)) n) (slotsOf till p) l
+    pub built-next : mBuilt (cell f j slotNextFree) ≡ nextWord p h j
+    built-next = hit m (slotsP f p g h) (cell f j slotNextFree) j (nextWord p h j) (λ k. here (nextWord p h j) (k (cell f j slotNextFree))) (λ i k n. there i (nextWord p h i) (k (cell f j slotNextFree)) n) (slotsOf till p) l
 
-    pub built-prev : mBuilt (cell f j 3) ≡ prevWord p (slotsOf till p) j
-    built-prev = hit m (slotsP f p g h) (cell f j 3) j (prevWord p (slotsOf till p) j) (λ k. here (prevWord p (slotsOf till p) j) (k (cell f j 3)))
-        (λ i k n. there i (prevWord p (slotsOf till p) i) (k (cell f j 3)) n) (slotsOf till p) l
+    pub built-prev : mBuilt (cell f j slotPreviousFree) ≡ prevWord p (slotsOf till p) j
+    built-prev = hit m (slotsP f p g h) (cell f j slotPreviousFree) j (prevWord p (slotsOf till p) j) (λ k. here (prevWord p (slotsOf till p) j) (k (cell f j slotPreviousFree)))
+        (λ i k n. there i (prevWord p (slotsOf till p) i) (k (cell f j slotPreviousFree)) n) (slotsOf till p) l
 
 -- ---- stores through links
 
@@ -69,7 +72,7 @@ module _ (k : Mem) (fr h i v : ℕ) where
       go : (fr h : ℕ) → (fr ≡ suc x → ⊥) → upds k (slotP fr h i v) (cell x y j) ≡ k (cell x y j)
       go fr zero n = refl
       go zero (suc h) n = refl
-      go (suc fr) (suc h) n = rw (ne-eqb x fr (λ e. n (ap suc (sym e))), and-false (eqb y (h % 64)), and-false (eqb j i))
+      go (suc fr) (suc h) n = rw (ne-eqb x fr (λ e. n (ap suc (sym e))), and-false (eqb y (h % pageSize)), and-false (eqb j i))
 
 -- a store into a page entry shows in it alone
 pub page-off : (k : Mem) (e l i v r x y j : ℕ) → (r ≡ 2 → ⊥) → upds k (pageP e l i v) (reg r x y j) ≡ k (reg r x y j)
@@ -87,31 +90,31 @@ page-entry k e (suc l) i v q j = rw (eqb-add e q l, eqb-suc q l)
 
 module _ (m : Mem) (b p f : ℕ) where
   abbrev pub mOld : Mem
-  mOld = upds (mBuilt m f p (fresh m b p) (m (head b 6))) (slotP (linkFrame m b (m (head b 6))) (m (head b 6)) 3 (p * 64 + 1))
+  mOld = upds (mBuilt m f p (fresh m b p) (m (head b headFirstFree))) (slotP (linkFrame m b (m (head b headFirstFree))) (m (head b headFirstFree)) slotPreviousFree (p * pageSize + 1))
 
   abbrev pub mEntry : Mem
   mEntry =
-      upds (upds (upds mOld (at (head b 6) (p * 64 + slotsOf till p) ∷ [])) (at (head b 7) (min (m (head b 7)) 16777215 + slotsOf till p) ∷ []))
-      (entryP b (m (head b 10)) p f (fresh m b p) (sizeWith m b p) (detachedWith m b p))
+      upds (upds (upds mOld (at (head b headFirstFree) (p * pageSize + slotsOf till p) ∷ [])) (at (head b headFreeSlots) (min (m (head b headFreeSlots)) slotsMax + slotsOf till p) ∷ []))
+      (entryP b (m (head b headFirstEntry)) p f (fresh m b p) (sizeWith m b p) (detachedWith m b p))
 
   abbrev pub mNext : Mem
-  mNext = upds mEntry (pageP (m (head b 10)) (m (head b 8)) 4 (up p))
+  mNext = upds mEntry (pageP (m (head b headFirstEntry)) (m (head b headFirstEmpty)) entryPrevious (up p))
 
   abbrev pub mJoined : Mem
-  mJoined = upds mNext (at (entry (m (head b 10) + p) 3) (m (head b 8)) ∷ at (entry (m (head b 10) + p) 4) 0 ∷ at (head b 8) (up p) ∷ [])
+  mJoined = upds mNext (at (entry (m (head b headFirstEntry) + p) entryNext) (m (head b headFirstEmpty)) ∷ at (entry (m (head b headFirstEntry) + p) entryPrevious) 0 ∷ at (head b headFirstEmpty) (up p) ∷ [])
 
   old-off : (r x y i : ℕ) → (r ≡ 7 → ⊥) → mOld (reg r x y i) ≡ m (reg r x y i)
   old-off r x y i n =
-      slot-off (mBuilt m f p (fresh m b p) (m (head b 6))) (linkFrame m b (m (head b 6))) (m (head b 6)) 3 (p * 64 + 1) r x y i n
-      ∙ built-off m f p (fresh m b p) (m (head b 6)) r x y i n
+      slot-off (mBuilt m f p (fresh m b p) (m (head b headFirstFree))) (linkFrame m b (m (head b headFirstFree))) (m (head b headFirstFree)) 3 (p * pageSize + 1) r x y i n
+      ∙ built-off m f p (fresh m b p) (m (head b headFirstFree)) r x y i n
 
   -- regions other than the heads, the entries and the frames
   pub joined-off : (r x y i : ℕ) → (r ≡ 1 → ⊥) → (r ≡ 2 → ⊥) → (r ≡ 7 → ⊥) → mJoined (reg r x y i) ≡ m (reg r x y i)
   joined-off r x y i n₁ n₂ n₇ =
-      rw (ne-eqb r 1 n₁, ne-eqb r 2 n₂) (page-off mEntry (m (head b 10)) (m (head b 8)) 4 (up p) r x y i n₂ ∙ rw (ne-eqb r 1 n₁, ne-eqb r 2 n₂) (old-off r x y i n₇))
+      rw (ne-eqb r 1 n₁, ne-eqb r 2 n₂) (page-off mEntry (m (head b headFirstEntry)) (m (head b headFirstEmpty)) 4 (up p) r x y i n₂ ∙ rw (ne-eqb r 1 n₁, ne-eqb r 2 n₂) (old-off r x y i n₇))
 
   next-head : (c i : ℕ) → mNext (head c i) ≡ mEntry (head c i)
-  next-head c i = page-off mEntry (m (head b 10)) (m (head b 8)) 4 (up p) 1 c 0 i (λ y. omega arith)
+  next-head c i = page-off mEntry (m (head b headFirstEntry)) (m (head b headFirstEmpty)) 4 (up p) 1 c 0 i (λ y. omega arith)
 
   old-head : (c i : ℕ) → mOld (head c i) ≡ m (head c i)
   old-head c i = old-off 1 c 0 i (λ y. omega arith)
@@ -126,45 +129,45 @@ module _ (m : Mem) (b p f : ℕ) where
       rw (ne-eqb i 8 (λ y. n (omega arith) (omega arith))) (next-head c i
       ∙ rw (ne-eqb i 5 (λ y. n (omega arith) (omega arith)), ne-eqb i 6 (λ y. n (omega arith) (omega arith)), ne-eqb i 7 (λ y. n (omega arith) (omega arith)), ne-eqb i 9 (λ y. n (omega arith) (omega arith))) (old-head c i))
 
-  pub joined-size : mJoined (head b 5) ≡ sizeWith m b p
+  pub joined-size : mJoined (head b headPages) ≡ sizeWith m b p
   joined-size = next-head b 5 ∙ rw (eq-eqb b b refl)
 
-  pub joined-first : mJoined (head b 6) ≡ p * 64 + slotsOf till p
+  pub joined-first : mJoined (head b headFirstFree) ≡ p * pageSize + slotsOf till p
   joined-first = next-head b 6 ∙ rw (eq-eqb b b refl)
 
-  pub joined-count : mJoined (head b 7) ≡ min (m (head b 7)) 16777215 + slotsOf till p
+  pub joined-count : mJoined (head b headFreeSlots) ≡ min (m (head b headFreeSlots)) slotsMax + slotsOf till p
   joined-count = next-head b 7 ∙ rw (eq-eqb b b refl)
 
-  pub joined-empty : mJoined (head b 8) ≡ up p
+  pub joined-empty : mJoined (head b headFirstEmpty) ≡ up p
   joined-empty = rw (eq-eqb b b refl)
 
-  pub joined-detached : mJoined (head b 9) ≡ detachedWith m b p
+  pub joined-detached : mJoined (head b headFirstDetached) ≡ detachedWith m b p
   joined-detached = next-head b 9 ∙ rw (eq-eqb b b refl)
 
   -- the page
-  pub joined-frame : mJoined (entry (m (head b 10) + p) 0) ≡ up f
-  joined-frame = page-entry mEntry (m (head b 10)) (m (head b 8)) 4 (up p) p 0 ∙ rw (eq-eqb (m (head b 10) + p) (m (head b 10) + p) refl)
+  pub joined-frame : mJoined (entry (m (head b headFirstEntry) + p) entryFrame) ≡ up f
+  joined-frame = page-entry mEntry (m (head b headFirstEntry)) (m (head b headFirstEmpty)) 4 (up p) p 0 ∙ rw (eq-eqb (m (head b headFirstEntry) + p) (m (head b headFirstEntry) + p) refl)
 
-  pub joined-high : mJoined (entry (m (head b 10) + p) 1) ≡ fresh m b p
-  joined-high = page-entry mEntry (m (head b 10)) (m (head b 8)) 4 (up p) p 1 ∙ rw (eq-eqb (m (head b 10) + p) (m (head b 10) + p) refl)
+  pub joined-high : mJoined (entry (m (head b headFirstEntry) + p) entryHigh) ≡ fresh m b p
+  joined-high = page-entry mEntry (m (head b headFirstEntry)) (m (head b headFirstEmpty)) 4 (up p) p 1 ∙ rw (eq-eqb (m (head b headFirstEntry) + p) (m (head b headFirstEntry) + p) refl)
 
-  pub joined-busy : mJoined (entry (m (head b 10) + p) 2) ≡ 0
-  joined-busy = page-entry mEntry (m (head b 10)) (m (head b 8)) 4 (up p) p 2 ∙ rw (eq-eqb (m (head b 10) + p) (m (head b 10) + p) refl)
+  pub joined-busy : mJoined (entry (m (head b headFirstEntry) + p) entryBusy) ≡ 0
+  joined-busy = page-entry mEntry (m (head b headFirstEntry)) (m (head b headFirstEmpty)) 4 (up p) p 2 ∙ rw (eq-eqb (m (head b headFirstEntry) + p) (m (head b headFirstEntry) + p) refl)
 
-  pub joined-next : mJoined (entry (m (head b 10) + p) 3) ≡ m (head b 8)
-  joined-next = rw (eq-eqb (m (head b 10) + p) (m (head b 10) + p) refl)
+  pub joined-next : mJoined (entry (m (head b headFirstEntry) + p) entryNext) ≡ m (head b headFirstEmpty)
+  joined-next = rw (eq-eqb (m (head b headFirstEntry) + p) (m (head b headFirstEntry) + p) refl)
 
-  pub joined-prev : mJoined (entry (m (head b 10) + p) 4) ≡ 0
-  joined-prev = rw (eq-eqb (m (head b 10) + p) (m (head b 10) + p) refl)
+  pub joined-prev : mJoined (entry (m (head b headFirstEntry) + p) entryPrevious) ≡ 0
+  joined-prev = rw (eq-eqb (m (head b headFirstEntry) + p) (m (head b headFirstEntry) + p) refl)
 
   -- other pages
-  pub joined-page : (q i : ℕ) → (q ≡ p → ⊥) → mJoined (entry (m (head b 10) + q) i) ≡ pick (eqb i 4 && eqb (m (head b 8)) (suc q)) (up p) (m (entry (m (head b 10) + q) i))
+  pub joined-page : (q i : ℕ) → (q ≡ p → ⊥) → mJoined (entry (m (head b headFirstEntry) + q) i) ≡ pick (eqb i 4 && eqb (m (head b headFirstEmpty)) (suc q)) (up p) (m (entry (m (head b headFirstEntry) + q) i))
   joined-page q i n =
-      let d : eqb (m (head b 10) + q) (m (head b 10) + p) ≡ false = ne-eqb (m (head b 10) + q) (m (head b 10) + p) (λ y. n (omega arith)) in
-      rw (d, and-false (eqb i 3), and-false (eqb i 4)) (page-entry mEntry (m (head b 10)) (m (head b 8)) 4 (up p) q i
-      ∙ ap (λ (x : ℕ). pick (eqb i 4 && eqb (m (head b 8)) (suc q)) (up p) x)
-      (rw (d, and-false (eqb i 0), and-false (eqb i 1), and-false (eqb i 2)) (old-off 2 (m (head b 10) + q) 0 i (λ y. omega arith))))
+      let d : eqb (m (head b headFirstEntry) + q) (m (head b headFirstEntry) + p) ≡ false = ne-eqb (m (head b headFirstEntry) + q) (m (head b headFirstEntry) + p) (λ y. n (omega arith)) in
+      rw (d, and-false (eqb i 3), and-false (eqb i 4)) (page-entry mEntry (m (head b headFirstEntry)) (m (head b headFirstEmpty)) 4 (up p) q i
+      ∙ ap (λ (x : ℕ). pick (eqb i 4 && eqb (m (head b headFirstEmpty)) (suc q)) (up p) x)
+      (rw (d, and-false (eqb i 0), and-false (eqb i 1), and-false (eqb i 2)) (old-off 2 (m (head b headFirstEntry) + q) 0 i (λ y. omega arith))))
 
   -- slots
   pub joined-cell : (x y i : ℕ) → mJoined (cell x y i) ≡ mOld (cell x y i)
-  joined-cell x y i = page-off mEntry (m (head b 10)) (m (head b 8)) 4 (up p) 7 x y i (λ d. omega arith)
+  joined-cell x y i = page-off mEntry (m (head b headFirstEntry)) (m (head b headFirstEmpty)) 4 (up p) 7 x y i (λ d. omega arith)

@@ -17,14 +17,16 @@ use Rattle.model.specs.Bounds.{pages-max}
 use Rattle.invariant.specs.Orders.{Sound}
 use Rattle.invariant.specs.Pages.{till-sane, page-slots}
 use Rattle.layout.specs.Layout.{Mem, head, entry}
+use Rattle.layout.specs.Fields.{headFirstDetached, headFirstEntry, entryNext}
+use Rattle.layout.specs.Sizes.{batchMax}
 use Rattle.representation.specs.Represents.{Linked, TableIs}
 use Rattle.storage.specs.Ops.{up}
-use Rattle.growth.specs.Words.{countFrom, pagesNeeded}
+use Rattle.growth.specs.Words.{countFrom, pagesNeeded, noPlan}
 use Rattle.growth.specs.Joined.{up-small}
 
--- c pages and those of a plan; 65 where there is none, which is more than any plan has
+-- c pages and those of a plan; noPlan where there is none, which is more than any plan has
 abbrev pub counted : ℕ → Option (List ℕ) → ℕ
-counted c none = 65
+counted c none = noPlan
 counted c (some ps) = c + length ps
 
 counted-also : (c p : ℕ) (x : Option (List ℕ)) → counted (suc c) x ≡ counted c (also p x)
@@ -32,7 +34,7 @@ counted-also c p none = refl
 counted-also c p (some ps) = omega arith
 
 -- every page brings a slot at least, so that the turns are enough
-count-is : (m : Mem) (e l fuel k d n c : ℕ) (ds : List ℕ) → Linked (λ q. m (entry (e + q) 3)) d ds → n ≤ l → l ≤ maxPages till → ((p : ℕ) → 0 < occurs p ds → p < maxPages till) → k ≤ fuel
+count-is : (m : Mem) (e l fuel k d n c : ℕ) (ds : List ℕ) → Linked (λ q. m (entry (e + q) entryNext)) d ds → n ≤ l → l ≤ maxPages till → ((p : ℕ) → 0 < occurs p ds → p < maxPages till) → k ≤ fuel
     → countFrom m e l fuel k d n c ≡ counted c (pagesFrom till fuel k ds n l)
 unfolding countFrom
 count-is m e l zero zero d n c ds i a b h f = omega arith
@@ -47,7 +49,7 @@ count-is m e l (suc fuel) (suc k) d n c [] i a b h f = rw (i, ne-eqb (suc k) 0 (
 count-is m e l (suc fuel) (suc k) d n c (p ∷ ds) i a b h f =
     let z : suc p - 1 ≡ p = omega arith in
     let o : p < maxPages till = h p (rw (same p) (omega arith)) in
-    rw (i .0, ne-eqb (suc p) 0 (λ y. omega arith), ne-eqb (suc k) 0 (λ y. omega arith), z) (count-is m e l fuel (suc k - slotsOf till p) (m (entry (e + p) 3)) n (suc c) ds (i .1) a b
+    rw (i .0, ne-eqb (suc p) 0 (λ y. omega arith), ne-eqb (suc k) 0 (λ y. omega arith), z) (count-is m e l fuel (suc k - slotsOf till p) (m (entry (e + p) entryNext)) n (suc c) ds (i .1) a b
     (λ q v. h q (omega arith)) (omega (arith, page-slots till till-sane p o))
     ∙ counted-also c p (pagesFrom till fuel (suc k - slotsOf till p) ds n l))
 
@@ -58,16 +60,16 @@ detached-in t o p h = bool (ltb p (t .size))
     (λ e. let z : occurs p (t .detached) ≡ 0 = rw e at (o .detached p) in absurd (omega arith))
 
 -- THE COUNT, of a batch of at most 64
-module _ (m : Mem) (b : ℕ) (t : Table) (i : TableIs m b t) (o : Sound till t (t .free)) (k : ℕ) (few : k ≤ 64) where
+module _ (m : Mem) (b : ℕ) (t : Table) (i : TableIs m b t) (o : Sound till t (t .free)) (k : ℕ) (few : k ≤ batchMax) where
   needed-is : pagesNeeded m b k ≡ counted 0 (pagesFor till t k)
   unfolding pagesNeeded pagesFor maxBatch
   needed-is = rw (i .freeCount, i .size, i .limit)
-      (count-is m (m (head b 10)) (t .limit) 64 (k - length (t .free)) (m (head b 9)) (t .size) 0 (t .detached) (i .detached) (o .size) (o .limit) (detached-in t o) (omega arith))
+      (count-is m (m (head b headFirstEntry)) (t .limit) batchMax (k - length (t .free)) (m (head b headFirstDetached)) (t .size) 0 (t .detached) (i .detached) (o .size) (o .limit) (detached-in t o) (omega arith))
 
   pub needed-some : (ps : List ℕ) → pagesFor till t k ≡ some ps → pagesNeeded m b k ≡ length ps
   needed-some ps e = needed-is ∙ ap (counted 0) e ∙ omega arith
 
-  pub needed-none : pagesFor till t k ≡ none → pagesNeeded m b k ≡ 65
+  pub needed-none : pagesFor till t k ≡ none → pagesNeeded m b k ≡ noPlan
   needed-none e = needed-is ∙ ap (counted 0) e
 
 -- no plan has more than 64 pages
@@ -84,6 +86,6 @@ from-short (suc fuel) (suc k) [] n l ps e = bool (eqb n l)
     (λ t. also-short fuel n (pagesFrom till fuel (suc k - slotsOf till n) [] (suc n) l) (from-short fuel (suc k - slotsOf till n) [] (suc n) l) ps (rw t at e))
 from-short (suc fuel) (suc k) (p ∷ ds) n l ps e = also-short fuel p (pagesFrom till fuel (suc k - slotsOf till p) ds n l) (from-short fuel (suc k - slotsOf till p) ds n l) ps e
 
-pub plan-short : (t : Table) (k : ℕ) (ps : List ℕ) → pagesFor till t k ≡ some ps → length ps ≤ 64
+pub plan-short : (t : Table) (k : ℕ) (ps : List ℕ) → pagesFor till t k ≡ some ps → length ps ≤ batchMax
 unfolding pagesFor maxBatch
-plan-short t k ps e = from-short 64 (k - length (t .free)) (t .detached) (t .size) (t .limit) ps e
+plan-short t k ps e = from-short batchMax (k - length (t .free)) (t .detached) (t .size) (t .limit) ps e

@@ -10,6 +10,9 @@ use Rattle.model.specs.Storage.{slotsOf}
 use Rattle.layout.specs.declared.Shape.{Shape}
 use Rattle.layout.specs.Layout.{Mem, head, entry, cell, load, save, Write, Write.at, writes}
 use Rattle.layout.specs.Turns.{turns}
+use Rattle.layout.specs.Fields.{headPageLimit, headEpoch, headPages, headFirstFree, headFreeSlots, headFirstDetached, headFirstEntry, entryFrame, entryHigh, entryBusy, entryNext, slotTag, slotGeneration, slotNextFree, slotPreviousFree}
+use Rattle.layout.specs.Values.{tagVacant}
+use Rattle.layout.specs.Sizes.{pageSize, lastPage, slotsMax, batchMax}
 use Rattle.representation.specs.Represents.{entryAt}
 use Rattle.storage.specs.Sight.{linkFrame, slotP, writesAll}
 use Rattle.storage.specs.Ops.{up, joinW}
@@ -20,14 +23,14 @@ use Rattle.frames.specs.Ops.{takeFrameW, lowestAt}
 -- "A new page is published by rising slot": so the last slot of the page is the first of the free order, each is followed by the one below
 -- it, and the first by the order that there was, whose head is the link h. The links of slot j of page p, which has n slots
 abbrev pub nextWord : ℕ → ℕ → ℕ → ℕ
-nextWord p h j = pick (eqb j 0) h (p * 64 + j)
+nextWord p h j = pick (eqb j 0) h (p * pageSize + j)
 
 abbrev pub prevWord : ℕ → ℕ → ℕ → ℕ
-prevWord p n j = pick (eqb (j + 1) n) 0 (p * 64 + j + 2)
+prevWord p n j = pick (eqb (j + 1) n) 0 (p * pageSize + j + 2)
 
 -- slot j of frame f is vacant, with the generation g and its links
 abbrev pub cellsP : ℕ → ℕ → ℕ → ℕ → ℕ → List Write
-cellsP f j g x y = at (cell f j 0) 0 ∷ at (cell f j 1) g ∷ at (cell f j 2) x ∷ at (cell f j 3) y ∷ []
+cellsP f j g x y = at (cell f j slotTag) tagVacant ∷ at (cell f j slotGeneration) g ∷ at (cell f j slotNextFree) x ∷ at (cell f j slotPreviousFree) y ∷ []
 
 -- so of slot j of page p
 abbrev pub slotsP : ℕ → ℕ → ℕ → ℕ → ℕ → List Write
@@ -39,38 +42,38 @@ builtW ws sh f p g h = turns ws sh (slotsP f p g h) (slotsOf till p)
 
 -- the slots of page p come to the head of table b's free order, whose head was the link h, in the frame of the link fr, and which had c slots
 abbrev pub orderP : ℕ → ℕ → ℕ → ℕ → ℕ → List (List Write)
-orderP b p h fr c = slotP fr h 3 (p * 64 + 1) ∷ (at (head b 6) (p * 64 + slotsOf till p) ∷ []) ∷ (at (head b 7) (min c 16777215 + slotsOf till p) ∷ []) ∷ []
+orderP b p h fr c = slotP fr h slotPreviousFree (p * pageSize + 1) ∷ (at (head b headFirstFree) (p * pageSize + slotsOf till p) ∷ []) ∷ (at (head b headFreeSlots) (min c slotsMax + slotsOf till p) ∷ []) ∷ []
 
 -- page p of the table whose first entry is e is attached in frame f with the generation g; n pages are attached or detached, and d is the link of the first detached one
 abbrev pub entryP : ℕ → ℕ → ℕ → ℕ → ℕ → ℕ → ℕ → List Write
 entryP b e p f g n d =
-    at (head b 5) n ∷ at (head b 9) d ∷ at (entry (e + p) 0) (up f) ∷ at (entry (e + p) 1) g ∷ at (entry (e + p) 2) 0 ∷ []
+    at (head b headPages) n ∷ at (head b headFirstDetached) d ∷ at (entry (e + p) entryFrame) (up f) ∷ at (entry (e + p) entryHigh) g ∷ at (entry (e + p) entryBusy) 0 ∷ []
 
 -- the generation of page p: "`fresh_generation` at the limit gives 1 and lowers the page's high mark to 1". A new page has had none
 unfoldable pub fresh : Mem → ℕ → ℕ → ℕ
-fresh m b p = pick (ltb p (m (head b 5))) (nextGeneration (m (entry (entryAt m b p) 1))) 1
+fresh m b p = pick (ltb p (m (head b headPages))) (nextGeneration (m (entry (entryAt m b p) entryHigh))) 1
 
 -- how many pages there are then
 abbrev pub sizeWith : Mem → ℕ → ℕ → ℕ
-sizeWith m b p = pick (eqb p (m (head b 5))) (up p) (m (head b 5))
+sizeWith m b p = pick (eqb p (m (head b headPages))) (up p) (m (head b headPages))
 
 -- the link of the first detached page then
 abbrev pub detachedWith : Mem → ℕ → ℕ → ℕ
-detachedWith m b p = pick (eqb (m (head b 9)) (up p)) (m (entry (entryAt m b p) 3)) (m (head b 9))
+detachedWith m b p = pick (eqb (m (head b headFirstDetached)) (up p)) (m (entry (entryAt m b p) entryNext)) (m (head b headFirstDetached))
 
 -- page p of table b stands in frame f, but for the frame's owner: its slots, the free order, its entry, the empty order
 unfoldable pub joinedW : List ℕ → Shape → ℕ → ℕ → ℕ → List ℕ
 joinedW ws sh b p f =
     joinW
     (writes
-    (writesAll (builtW ws sh f p (fresh (load ws sh) b p) (load ws sh (head b 6))) sh
-    (orderP b p (load ws sh (head b 6)) (linkFrame (load ws sh) b (load ws sh (head b 6))) (load ws sh (head b 7))))
-    sh (entryP b (load ws sh (head b 10)) p f (fresh (load ws sh) b p) (sizeWith (load ws sh) b p) (detachedWith (load ws sh) b p)))
+    (writesAll (builtW ws sh f p (fresh (load ws sh) b p) (load ws sh (head b headFirstFree))) sh
+    (orderP b p (load ws sh (head b headFirstFree)) (linkFrame (load ws sh) b (load ws sh (head b headFirstFree))) (load ws sh (head b headFreeSlots))))
+    sh (entryP b (load ws sh (head b headFirstEntry)) p f (fresh (load ws sh) b p) (sizeWith (load ws sh) b p) (detachedWith (load ws sh) b p)))
     sh b p
 
 -- ATTACH: and page p's entry has the frame
 unfoldable pub attachW : List ℕ → Shape → ℕ → ℕ → ℕ → List ℕ
-attachW ws sh b p f = takeFrameW (joinedW ws sh b p f) sh f (min (load ws sh (head b 10)) 4294967295 + p)
+attachW ws sh b p f = takeFrameW (joinedW ws sh b p f) sh f (min (load ws sh (head b headFirstEntry)) 4294967295 + p)
 
 -- ---- the plan of pages
 
@@ -80,7 +83,7 @@ pageAt d n = pick (eqb d 0) n (d - 1)
 
 -- the link of the first detached page after it
 abbrev pub linkAfter : Mem → ℕ → ℕ → ℕ
-linkAfter m e d = pick (eqb d 0) 0 (m (entry (e + (d - 1)) 3))
+linkAfter m e d = pick (eqb d 0) 0 (m (entry (e + (d - 1)) entryNext))
 
 -- how many pages there are after it
 abbrev pub sizeAfter : ℕ → ℕ → ℕ
@@ -90,21 +93,25 @@ sizeAfter d n = pick (eqb d 0) (up n) n
 abbrev pub isFull : ℕ → ℕ → ℕ → Bool
 isFull d n limit = eqb d 0 && eqb n limit
 
--- storage.rs `snapshot`: how many pages make room for k more slots, c of them counted; 65 if a new one would pass the limit
+-- more pages than a batch can need: no plan
+abbrev pub noPlan : ℕ
+noPlan = batchMax + 1
+
+-- storage.rs `snapshot`: how many pages make room for k more slots, c of them counted; noPlan if a new one would pass the limit
 unfoldable pub countFrom : Mem → ℕ → ℕ → ℕ → ℕ → ℕ → ℕ → ℕ → ℕ
 countFrom m e limit zero k d n c = c
 countFrom m e limit (suc fuel) k d n c =
-    pick (eqb k 0) c (pick (isFull d n limit) 65 (countFrom m e limit fuel (k - slotsOf till (pageAt d n)) (linkAfter m e d) (sizeAfter d n) (suc c)))
+    pick (eqb k 0) c (pick (isFull d n limit) noPlan (countFrom m e limit fuel (k - slotsOf till (pageAt d n)) (linkAfter m e d) (sizeAfter d n) (suc c)))
 
 -- how many pages table b needs for a batch of k slots
 unfoldable pub pagesNeeded : Mem → ℕ → ℕ → ℕ
-pagesNeeded m b k = countFrom m (m (head b 10)) (m (head b 0)) 64 (k - m (head b 7)) (m (head b 9)) (m (head b 5)) 0
+pagesNeeded m b k = countFrom m (m (head b headFirstEntry)) (m (head b headPageLimit)) batchMax (k - m (head b headFreeSlots)) (m (head b headFirstDetached)) (m (head b headPages)) 0
 
 -- ---- growth
 
 -- the next page, in the lowest free frame
 unfoldable pub attachNextW : List ℕ → Shape → ℕ → List ℕ
-attachNextW ws sh b = attachW ws sh b (min (pageAt (load ws sh (head b 9)) (load ws sh (head b 5))) 262143) (lowestAt (load ws sh))
+attachNextW ws sh b = attachW ws sh b (min (pageAt (load ws sh (head b headFirstDetached)) (load ws sh (head b headPages))) lastPage) (lowestAt (load ws sh))
 
 -- so n pages
 unfoldable pub attachAllW : List ℕ → Shape → ℕ → ℕ → List ℕ
@@ -113,7 +120,7 @@ attachAllW ws sh b (suc n) = attachNextW (attachAllW ws sh b n) sh b
 
 -- "The epoch wraps from 2^64 - 1 to 0"
 unfoldable pub advanceW : List ℕ → Shape → ℕ → List ℕ
-advanceW ws sh b = save ws sh (head b 4) ((load ws sh (head b 4) + 1) % 2 ^ 64)
+advanceW ws sh b = save ws sh (head b headEpoch) ((load ws sh (head b headEpoch) + 1) % 2 ^ 64)
 
 -- GROW by n pages: the epoch advances once
 unfoldable pub growW : List ℕ → Shape → ℕ → ℕ → List ℕ

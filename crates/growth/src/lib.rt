@@ -8,6 +8,9 @@ ghost use Rattle.growth.specs.Late.{freshFrom, detachedFrom, ownP};
 ghost use Rattle.growth.specs.Words.{nextWord, prevWord, cellsP, builtW, joinedW, attachW, pageAt, linkAfter, sizeAfter, isFull, pagesNeeded, attachNextW, attachAllW, advanceW, growW};
 use head::TableHead;
 use layout::Shape;
+use layout::field;
+use layout::size;
+use layout::value;
 
 // The links of slot j of page p, which has n slots, in the free order; h is the link of the order that there was.
 fn next_word(p: u32, h: u64, j: u8) -> u64
@@ -16,7 +19,7 @@ fn next_word(p: u32, h: u64, j: u8) -> u64
     if j == 0 {
         return h;
     }
-    (p as u64) * 64 + (j as u64)
+    (p as u64) * size::PAGE_SIZE + (j as u64)
 }
 
 fn prev_word(p: u32, n: u8, j: u8) -> u64
@@ -26,17 +29,17 @@ fn prev_word(p: u32, n: u8, j: u8) -> u64
     if i == (n as u64) {
         return 0;
     }
-    (p as u64) * 64 + (j as u64) + 2
+    (p as u64) * size::PAGE_SIZE + (j as u64) + 2
 }
 
 // Slot j of frame f is vacant, with the generation g and its links.
 fn build_slot(s: &mut [u64], sh: Shape, f: u64, j: u64, g: u64, x: u64, y: u64)
     ensures { λ _. ⌜ now (s .exit) ≡ writes (now (s .entry)) sh (cellsP f j g x y) ⌝ }
 {
-    layout::put_cell(s, sh, f, j, 0, 0);
-    layout::put_cell(s, sh, f, j, 1, g);
-    layout::put_cell(s, sh, f, j, 2, x);
-    layout::put_cell(s, sh, f, j, 3, y);
+    layout::put_cell(s, sh, f, j, field::SLOT_TAG, value::TAG_VACANT);
+    layout::put_cell(s, sh, f, j, field::SLOT_GENERATION, g);
+    layout::put_cell(s, sh, f, j, field::SLOT_NEXT_FREE, x);
+    layout::put_cell(s, sh, f, j, field::SLOT_PREVIOUS_FREE, y);
 }
 
 // Frame f has the slots of page p, as publishing them by rising slot leaves them.
@@ -60,7 +63,7 @@ fn fresh_generation(s: &[u64], sh: Shape, h: TableHead, p: u64) -> u64
     let n = h.pages;
     let e = h.entry;
     if words::lt(p, n) {
-        return codec::next_generation(storage::page_word(s, sh, e, p, 1));
+        return codec::next_generation(storage::page_word(s, sh, e, p, field::ENTRY_HIGH));
     }
     1
 }
@@ -72,7 +75,7 @@ fn detached_with(s: &[u64], sh: Shape, h: TableHead, p: u64) -> u64
     let d = h.first_detached;
     let e = h.entry;
     if words::eq(d, words::inc(p)) {
-        return storage::page_word(s, sh, e, p, 3);
+        return storage::page_word(s, sh, e, p, field::ENTRY_NEXT);
     }
     d
 }
@@ -82,9 +85,9 @@ fn put_entry(s: &mut [u64], sh: Shape, e: u64, p: u64, f: u64, g: u64)
     ensures { λ _. ⌜ now (s .exit) ≡ writes (now (s .entry)) sh (ownP e p f g) ⌝ }
 {
     let y = words::inc(f);
-    storage::put_page(s, sh, e, p, 0, y);
-    storage::put_page(s, sh, e, p, 1, g);
-    storage::put_page(s, sh, e, p, 2, 0);
+    storage::put_page(s, sh, e, p, field::ENTRY_FRAME, y);
+    storage::put_page(s, sh, e, p, field::ENTRY_HIGH, g);
+    storage::put_page(s, sh, e, p, field::ENTRY_BUSY, 0);
 }
 
 // The head with page p attached; d is the link of the first detached page then.
@@ -108,7 +111,14 @@ fn join_page(s: &mut [u64], sh: Shape, b: u64, p: u32, f: u64)
     let fr = storage::link_frame(s, sh, h, x);
     let t = attached_head(h, q, detached_with(s, sh, h, q));
     build_frame(s, sh, f, p, g, x);
-    storage::put_slot_link(s, sh, fr, x, 3, q * 64 + 1);
+    storage::put_slot_link(
+        s,
+        sh,
+        fr,
+        x,
+        field::SLOT_PREVIOUS_FREE,
+        q * size::PAGE_SIZE + 1,
+    );
     put_entry(s, sh, e, q, f, g);
     storage::link_page(s, sh, e, q, h.first_empty);
     head::store_pages(s, sh, b, t);
@@ -118,7 +128,10 @@ fn join_page(s: &mut [u64], sh: Shape, b: u64, p: u32, f: u64)
 pub fn attach_page(s: &mut [u64], sh: Shape, b: u64, p: u32, f: u64)
     ensures words { λ _. ⌜ now (s .exit) ≡ attachW (now (s .entry)) sh b p f ⌝ }
 {
-    let e = words::smaller(layout::head_word(s, sh, b, 10), 4294967295);
+    let e = words::smaller(
+        layout::head_word(s, sh, b, field::HEAD_FIRST_ENTRY),
+        4294967295,
+    );
     join_page(s, sh, b, p, f);
     frames::take_frame(s, sh, f, e + (p as u64));
 }
@@ -140,7 +153,7 @@ fn link_after(s: &[u64], sh: Shape, e: u64, d: u64) -> u64
     if d == 0 {
         return 0;
     }
-    storage::page_word(s, sh, e, d - 1, 3)
+    storage::page_word(s, sh, e, d - 1, field::ENTRY_NEXT)
 }
 
 // How many pages there are after it.
@@ -163,22 +176,25 @@ fn is_full(d: u64, n: u64, limit: u64) -> bool
     false
 }
 
-// How many pages table b needs for a batch of k slots; 65 if a new one would pass the limit.
+// More pages than a batch can need: no plan.
+pub const NO_PLAN: u64 = size::BATCH_MAX + 1;
+
+// How many pages table b needs for a batch of k slots; NO_PLAN if a new one would pass the limit.
 pub fn pages_needed(s: &[u64], sh: Shape, b: u64, k: u64) -> u64
     ensures { λ r. ⌜ r ≡ pagesNeeded (loadAt (now (s .entry)) sh) b k ⌝ }
 {
-    let e = layout::head_word(s, sh, b, 10);
-    let limit = layout::head_word(s, sh, b, 0);
-    let mut need = words::left(k, layout::head_word(s, sh, b, 7));
-    let mut d = layout::head_word(s, sh, b, 9);
-    let mut n = layout::head_word(s, sh, b, 5);
+    let e = layout::head_word(s, sh, b, field::HEAD_FIRST_ENTRY);
+    let limit = layout::head_word(s, sh, b, field::HEAD_PAGE_LIMIT);
+    let mut need = words::left(k, layout::head_word(s, sh, b, field::HEAD_FREE_SLOTS));
+    let mut d = layout::head_word(s, sh, b, field::HEAD_FIRST_DETACHED);
+    let mut n = layout::head_word(s, sh, b, field::HEAD_PAGES);
     let mut c: u64 = 0;
-    while c < 64 {
+    while c < size::BATCH_MAX {
         if words::eq(need, 0) {
             return c;
         }
         if is_full(d, n, limit) {
-            return 65;
+            return NO_PLAN;
         }
         let p = page_at(d, n);
         need = words::left(need, head::slots_of(p) as u64);
@@ -193,9 +209,9 @@ pub fn pages_needed(s: &[u64], sh: Shape, b: u64, k: u64) -> u64
 fn attach_next(s: &mut [u64], sh: Shape, b: u64)
     ensures { λ _. ⌜ now (s .exit) ≡ attachNextW (now (s .entry)) sh b ⌝ }
 {
-    let d = layout::head_word(s, sh, b, 9);
-    let n = layout::head_word(s, sh, b, 5);
-    let p = words::smaller(page_at(d, n), 262143);
+    let d = layout::head_word(s, sh, b, field::HEAD_FIRST_DETACHED);
+    let n = layout::head_word(s, sh, b, field::HEAD_PAGES);
+    let p = words::smaller(page_at(d, n), size::LAST_PAGE);
     let f = frames::lowest_free(s, sh);
     attach_page(s, sh, b, p as u32, f);
 }

@@ -9,20 +9,23 @@ use Rattle.model.specs.State.{till}
 use Rattle.model.specs.Storage.{slotsOf}
 use Rattle.layout.specs.declared.Shape.{Shape}
 use Rattle.layout.specs.Layout.{Mem, head, save, Write, Write.at, writes}
+use Rattle.layout.specs.Fields.{headLifecycle, headCursor, headEpoch, headPages, headFirstFree, headFreeSlots, headFirstEmpty, headFirstDetached, headFirstEntry}
+use Rattle.layout.specs.Values.{lifeTearingDown, lifeRetired}
+use Rattle.layout.specs.Sizes.{pageSize, slotsMax}
 use Rattle.head.specs.declared.TableHead.{TableHead}
 
 -- the head of table b
 unfoldable pub headAt : Mem → ℕ → TableHead
 headAt m b = record {
-  life = m (head b 2);
-  cursor = m (head b 3);
-  epoch = m (head b 4);
-  pages = m (head b 5);
-  «first_free» = m (head b 6);
-  free = m (head b 7);
-  «first_empty» = m (head b 8);
-  «first_detached» = m (head b 9);
-  entry = m (head b 10);
+  life = m (head b headLifecycle);
+  cursor = m (head b headCursor);
+  epoch = m (head b headEpoch);
+  pages = m (head b headPages);
+  «first_free» = m (head b headFirstFree);
+  free = m (head b headFreeSlots);
+  «first_empty» = m (head b headFirstEmpty);
+  «first_detached» = m (head b headFirstDetached);
+  entry = m (head b headFirstEntry);
 }
 
 -- ---- the steps
@@ -74,8 +77,8 @@ attachedBy h p = record {
   cursor = h .cursor;
   epoch = h .epoch;
   pages = pagesWith (h .pages) p;
-  «first_free» = min p 4294967295 * 64 + slotsOf till p;
-  free = min (h .free) 16777215 + slotsOf till p;
+  «first_free» = min p 4294967295 * pageSize + slotsOf till p;
+  free = min (h .free) slotsMax + slotsOf till p;
   «first_empty» = h .«first_empty»;
   «first_detached» = h .«first_detached»;
   entry = h .entry;
@@ -143,36 +146,36 @@ withLife h l x = record {
 
 -- teardown stands at a cursor
 abbrev pub tearingBy : TableHead → ℕ → TableHead
-tearingBy h x = withLife h 1 x
+tearingBy h x = withLife h lifeTearingDown x
 
 -- teardown is finished
 abbrev pub retiredBy : TableHead → ℕ → TableHead
-retiredBy h x = withLife h 2 x
+retiredBy h x = withLife h lifeRetired x
 
 -- ---- the words that the steps change
 
 abbrev pub freeP : ℕ → TableHead → List Write
-freeP b h = at (head b 6) (h .«first_free») ∷ at (head b 7) (h .free) ∷ []
+freeP b h = at (head b headFirstFree) (h .«first_free») ∷ at (head b headFreeSlots) (h .free) ∷ []
 
 abbrev pub ordersP : ℕ → TableHead → List Write
-ordersP b h = at (head b 6) (h .«first_free») ∷ at (head b 7) (h .free) ∷ at (head b 8) (h .«first_empty») ∷ []
+ordersP b h = at (head b headFirstFree) (h .«first_free») ∷ at (head b headFreeSlots) (h .free) ∷ at (head b headFirstEmpty) (h .«first_empty») ∷ []
 
 -- all orders and the count of pages
 abbrev pub pagesP : ℕ → TableHead → List Write
-pagesP b h = at (head b 6) (h .«first_free») ∷ at (head b 7) (h .free) ∷ at (head b 5) (h .pages) ∷ at (head b 9) (h .«first_detached») ∷ at (head b 8) (h .«first_empty») ∷ []
+pagesP b h = at (head b headFirstFree) (h .«first_free») ∷ at (head b headFreeSlots) (h .free) ∷ at (head b headPages) (h .pages) ∷ at (head b headFirstDetached) (h .«first_detached») ∷ at (head b headFirstEmpty) (h .«first_empty») ∷ []
 
 abbrev pub detachedP : ℕ → TableHead → List Write
-detachedP b h = at (head b 8) (h .«first_empty») ∷ at (head b 9) (h .«first_detached») ∷ at (head b 4) (h .epoch) ∷ []
+detachedP b h = at (head b headFirstEmpty) (h .«first_empty») ∷ at (head b headFirstDetached) (h .«first_detached») ∷ at (head b headEpoch) (h .epoch) ∷ []
 
 abbrev pub epochP : ℕ → TableHead → List Write
-epochP b h = at (head b 4) (h .epoch) ∷ []
+epochP b h = at (head b headEpoch) (h .epoch) ∷ []
 
 abbrev pub lifeP : ℕ → TableHead → List Write
-lifeP b h = at (head b 2) (h .life) ∷ at (head b 3) (h .cursor) ∷ []
+lifeP b h = at (head b headLifecycle) (h .life) ∷ at (head b headCursor) (h .cursor) ∷ []
 
 -- ---- the words of `load`
-pub head-is : (m : Mem) (b l c e p x n y d w : ℕ) → l ≡ m (head b 2) → c ≡ m (head b 3) → e ≡ m (head b 4) → p ≡ m (head b 5) → x ≡ m (head b 6) → n ≡ m (head b 7) → y ≡ m (head b 8)
-    → d ≡ m (head b 9) → w ≡ m (head b 10)
+pub head-is : (m : Mem) (b l c e p x n y d w : ℕ) → l ≡ m (head b headLifecycle) → c ≡ m (head b headCursor) → e ≡ m (head b headEpoch) → p ≡ m (head b headPages) → x ≡ m (head b headFirstFree) → n ≡ m (head b headFreeSlots) → y ≡ m (head b headFirstEmpty)
+    → d ≡ m (head b headFirstDetached) → w ≡ m (head b headFirstEntry)
     → _≡_ {A = TableHead} (record { life = l; cursor = c; epoch = e; pages = p; «first_free» = x; free = n; «first_empty» = y; «first_detached» = d; entry = w }) (headAt m b)
 unfolding headAt
 head-is m b l c e p x n y d w e₁ e₂ e₃ e₄ e₅ e₆ e₇ e₈ e₉ = rw (e₁, e₂, e₃, e₄, e₅, e₆, e₇, e₈, e₉)
@@ -185,12 +188,12 @@ pub pages-old : (n p : ℕ) → (p ≡ n → ⊥) → n ≡ pagesWith n p
 pages-old n p e = no-is (eqb p n) n (min (p + 1) 0xffff_ffff_ffff_ffff) n (ne-eqb p n e) refl
 
 -- ---- the words of `attached`
-pub attached-is : (h : TableHead) (p n k c f w : ℕ) → n ≡ slotsOf till p → k ≡ min p 4294967295 → c ≡ min (h .free) 16777215 → w ≡ pagesWith (h .pages) p → f ≡ k * 64 + n
+pub attached-is : (h : TableHead) (p n k c f w : ℕ) → n ≡ slotsOf till p → k ≡ min p 4294967295 → c ≡ min (h .free) slotsMax → w ≡ pagesWith (h .pages) p → f ≡ k * pageSize + n
     → _≡_ {A = TableHead} (record { life = h .life; cursor = h .cursor; epoch = h .epoch; pages = w; «first_free» = f; free = c + n; «first_empty» = h .«first_empty»; «first_detached» = h .«first_detached»; entry = h .entry })
     (attachedBy h p)
 attached-is h p n k c f w e₁ e₂ e₃ e₄ e₅ = rw (e₅, e₄, e₃, e₂, e₁)
 
 -- ---- the stores of `store_pages`
-pub pages-stored : (ws : List ℕ) (sh : Shape) (b : ℕ) (h : TableHead) (w₁ w₂ w₃ w₄ w₅ : List ℕ) → w₁ ≡ save ws sh (head b 6) (h .«first_free») → w₂ ≡ save w₁ sh (head b 7) (h .free)
-    → w₃ ≡ save w₂ sh (head b 5) (h .pages) → w₄ ≡ save w₃ sh (head b 9) (h .«first_detached») → w₅ ≡ save w₄ sh (head b 8) (h .«first_empty») → w₅ ≡ writes ws sh (pagesP b h)
+pub pages-stored : (ws : List ℕ) (sh : Shape) (b : ℕ) (h : TableHead) (w₁ w₂ w₃ w₄ w₅ : List ℕ) → w₁ ≡ save ws sh (head b headFirstFree) (h .«first_free») → w₂ ≡ save w₁ sh (head b headFreeSlots) (h .free)
+    → w₃ ≡ save w₂ sh (head b headPages) (h .pages) → w₄ ≡ save w₃ sh (head b headFirstDetached) (h .«first_detached») → w₅ ≡ save w₄ sh (head b headFirstEmpty) (h .«first_empty») → w₅ ≡ writes ws sh (pagesP b h)
 pages-stored ws sh b h w₁ w₂ w₃ w₄ w₅ a₁ a₂ a₃ a₄ a₅ = rw (a₅, a₄, a₃, a₂, a₁)

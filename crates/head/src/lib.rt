@@ -5,6 +5,9 @@ ghost use Rattle.model.specs.Storage.{slotsOf};
 ghost use Rattle.layout.specs.Layout.{load as loadAt, writes};
 ghost use Rattle.head.specs.Head.{headAt, withFree, withLife, freedBy, takenBy, emptyBy, attachedBy, drawnBy, detachedBy, agedBy, tearingBy, retiredBy, pagesWith, nextEpoch, freeP, ordersP, pagesP, detachedP, epochP, lifeP};
 use layout::Shape;
+use layout::field;
+use layout::size;
+use layout::value;
 
 // The words of a head that change, and the number of the table's first page entry. Orders begin with a link, which is a number plus 1.
 pub struct TableHead {
@@ -18,11 +21,6 @@ pub struct TableHead {
     pub first_detached: u64,
     pub entry: u64,
 }
-
-// The lifecycle of a head; an active table has 0.
-pub const TEARING_DOWN: u64 = 1;
-
-pub const RETIRED: u64 = 2;
 
 // ---- by value
 
@@ -93,17 +91,22 @@ pub fn emptied(h: TableHead, first: u64) -> TableHead
     }
 }
 
+// Slots of a page, in a byte.
+const PAGE_SIZE: u8 = size::PAGE_SIZE as u8;
+
+const LAST_PAGE_SIZE: u8 = size::LAST_PAGE_SIZE as u8;
+
 // How many slots page p has. "Page 262,143 has 63 slots".
 pub fn slots_of(p: u64) -> u8
     ensures { λ r. ⌜ r ≡ slotsOf till p ⌝ }
 {
-    if p < 262143 {
-        return 64;
+    if p < size::LAST_PAGE {
+        return PAGE_SIZE;
     }
-    if p > 262143 {
+    if p > size::LAST_PAGE {
         return 0;
     }
-    63
+    LAST_PAGE_SIZE
 }
 
 // How many pages there are with page p, of n.
@@ -121,8 +124,8 @@ pub fn attached(h: TableHead, p: u64) -> TableHead
     ensures { λ r. ⌜ r ≡ attachedBy h p ⌝ }
 {
     let n = slots_of(p) as u64;
-    let first = words::smaller(p, 4294967295) * 64 + n;
-    let free = words::smaller(h.free, 16777215) + n;
+    let first = words::smaller(p, 4294967295) * size::PAGE_SIZE + n;
+    let free = words::smaller(h.free, size::SLOTS_MAX) + n;
     let pages = pages_with(h.pages, p);
     TableHead {
         life: h.life,
@@ -200,14 +203,14 @@ pub fn aged(h: TableHead, epoch: u64) -> TableHead
 pub fn tearing(h: TableHead, cursor: u64) -> TableHead
     ensures { λ r. ⌜ r ≡ tearingBy h cursor ⌝ }
 {
-    with_life(h, TEARING_DOWN, cursor)
+    with_life(h, value::LIFE_TEARING_DOWN, cursor)
 }
 
 // Teardown is finished.
 pub fn retired(h: TableHead, cursor: u64) -> TableHead
     ensures { λ r. ⌜ r ≡ retiredBy h cursor ⌝ }
 {
-    with_life(h, RETIRED, cursor)
+    with_life(h, value::LIFE_RETIRED, cursor)
 }
 
 // ---- lent
@@ -346,15 +349,15 @@ pub fn retire_local(h: TableHead, cursor: u64) -> TableHead
 pub fn load(s: &[u64], sh: Shape, b: u64) -> TableHead
     ensures { λ r. ⌜ r ≡ headAt (loadAt (now (s .entry)) sh) b ⌝ }
 {
-    let life = layout::head_word(s, sh, b, 2);
-    let cursor = layout::head_word(s, sh, b, 3);
-    let epoch = layout::head_word(s, sh, b, 4);
-    let pages = layout::head_word(s, sh, b, 5);
-    let first_free = layout::head_word(s, sh, b, 6);
-    let free = layout::head_word(s, sh, b, 7);
-    let first_empty = layout::head_word(s, sh, b, 8);
-    let first_detached = layout::head_word(s, sh, b, 9);
-    let entry = layout::head_word(s, sh, b, 10);
+    let life = layout::head_word(s, sh, b, field::HEAD_LIFECYCLE);
+    let cursor = layout::head_word(s, sh, b, field::HEAD_CURSOR);
+    let epoch = layout::head_word(s, sh, b, field::HEAD_EPOCH);
+    let pages = layout::head_word(s, sh, b, field::HEAD_PAGES);
+    let first_free = layout::head_word(s, sh, b, field::HEAD_FIRST_FREE);
+    let free = layout::head_word(s, sh, b, field::HEAD_FREE_SLOTS);
+    let first_empty = layout::head_word(s, sh, b, field::HEAD_FIRST_EMPTY);
+    let first_detached = layout::head_word(s, sh, b, field::HEAD_FIRST_DETACHED);
+    let entry = layout::head_word(s, sh, b, field::HEAD_FIRST_ENTRY);
     TableHead {
         life: life,
         cursor: cursor,
@@ -372,50 +375,50 @@ pub fn load(s: &[u64], sh: Shape, b: u64) -> TableHead
 pub fn store_free(s: &mut [u64], sh: Shape, b: u64, h: TableHead)
     ensures { λ _. ⌜ now (s .exit) ≡ writes (now (s .entry)) sh (freeP b h) ⌝ }
 {
-    layout::put_head(s, sh, b, 6, h.first_free);
-    layout::put_head(s, sh, b, 7, h.free);
+    layout::put_head(s, sh, b, field::HEAD_FIRST_FREE, h.first_free);
+    layout::put_head(s, sh, b, field::HEAD_FREE_SLOTS, h.free);
 }
 
 // The free order's and the empty pages' order's.
 pub fn store_orders(s: &mut [u64], sh: Shape, b: u64, h: TableHead)
     ensures { λ _. ⌜ now (s .exit) ≡ writes (now (s .entry)) sh (ordersP b h) ⌝ }
 {
-    layout::put_head(s, sh, b, 6, h.first_free);
-    layout::put_head(s, sh, b, 7, h.free);
-    layout::put_head(s, sh, b, 8, h.first_empty);
+    layout::put_head(s, sh, b, field::HEAD_FIRST_FREE, h.first_free);
+    layout::put_head(s, sh, b, field::HEAD_FREE_SLOTS, h.free);
+    layout::put_head(s, sh, b, field::HEAD_FIRST_EMPTY, h.first_empty);
 }
 
 // All orders and the count of pages.
 pub fn store_pages(s: &mut [u64], sh: Shape, b: u64, h: TableHead)
     ensures { λ _. ⌜ now (s .exit) ≡ writes (now (s .entry)) sh (pagesP b h) ⌝ }
 {
-    layout::put_head(s, sh, b, 6, h.first_free);
-    layout::put_head(s, sh, b, 7, h.free);
-    layout::put_head(s, sh, b, 5, h.pages);
-    layout::put_head(s, sh, b, 9, h.first_detached);
-    layout::put_head(s, sh, b, 8, h.first_empty);
+    layout::put_head(s, sh, b, field::HEAD_FIRST_FREE, h.first_free);
+    layout::put_head(s, sh, b, field::HEAD_FREE_SLOTS, h.free);
+    layout::put_head(s, sh, b, field::HEAD_PAGES, h.pages);
+    layout::put_head(s, sh, b, field::HEAD_FIRST_DETACHED, h.first_detached);
+    layout::put_head(s, sh, b, field::HEAD_FIRST_EMPTY, h.first_empty);
 }
 
 // Those of a page that is detached: the empty pages' order's, the detached pages' order's and the epoch.
 pub fn store_detached(s: &mut [u64], sh: Shape, b: u64, h: TableHead)
     ensures { λ _. ⌜ now (s .exit) ≡ writes (now (s .entry)) sh (detachedP b h) ⌝ }
 {
-    layout::put_head(s, sh, b, 8, h.first_empty);
-    layout::put_head(s, sh, b, 9, h.first_detached);
-    layout::put_head(s, sh, b, 4, h.epoch);
+    layout::put_head(s, sh, b, field::HEAD_FIRST_EMPTY, h.first_empty);
+    layout::put_head(s, sh, b, field::HEAD_FIRST_DETACHED, h.first_detached);
+    layout::put_head(s, sh, b, field::HEAD_EPOCH, h.epoch);
 }
 
 // The epoch.
 pub fn store_epoch(s: &mut [u64], sh: Shape, b: u64, h: TableHead)
     ensures { λ _. ⌜ now (s .exit) ≡ writes (now (s .entry)) sh (epochP b h) ⌝ }
 {
-    layout::put_head(s, sh, b, 4, h.epoch);
+    layout::put_head(s, sh, b, field::HEAD_EPOCH, h.epoch);
 }
 
 // The lifecycle and teardown's cursor.
 pub fn store_life(s: &mut [u64], sh: Shape, b: u64, h: TableHead)
     ensures { λ _. ⌜ now (s .exit) ≡ writes (now (s .entry)) sh (lifeP b h) ⌝ }
 {
-    layout::put_head(s, sh, b, 2, h.life);
-    layout::put_head(s, sh, b, 3, h.cursor);
+    layout::put_head(s, sh, b, field::HEAD_LIFECYCLE, h.life);
+    layout::put_head(s, sh, b, field::HEAD_CURSOR, h.cursor);
 }

@@ -11,9 +11,10 @@ use Rattle.layout.specs.declared.Extent.{Extent}
 use Rattle.layout.specs.declared.CellWords.{CellWords}
 use Rattle.layout.specs.Regions.{region, inside, placeIn, inside-is, in-place, no-place}
 use Rattle.layout.specs.Layout.{Mem, layout, cell, load, in-cell}
+use Rattle.layout.specs.Fields.{slotTag, slotGeneration, slotObject, slotRights, slotFlags, slotUnused}
 
 abbrev pub cellAt : Mem → ℕ → ℕ → CellWords
-cellAt m fr j = record { tag = m (cell fr j 0); generation = m (cell fr j 1); object = m (cell fr j 2); rights = m (cell fr j 3); flags = m (cell fr j 4); unused = m (cell fr j 5) }
+cellAt m fr j = record { tag = m (cell fr j slotTag); generation = m (cell fr j slotGeneration); object = m (cell fr j slotObject); rights = m (cell fr j slotRights); flags = m (cell fr j slotFlags); unused = m (cell fr j slotUnused) }
 
 -- a slot whose first word has a place among the words has its others behind that
 pub cell-by : (ws : List ℕ) (sh : Shape) (fr j : ℕ) (e : Extent) (at k : ℕ) → e ≡ region (layout sh) 7 → at ≡ placeIn (length ws) e fr j 0 → at < length ws → k < 6
@@ -29,7 +30,7 @@ abbrev words6 : ℕ → ℕ → ℕ → ℕ → ℕ → ℕ → CellWords
 words6 a b c d e f = record { tag = a; generation = b; object = c; rights = d; flags = e; unused = f }
 
 -- word by word
-pub cell-each : (m : Mem) (fr j a b c d e f : ℕ) → a ≡ m (cell fr j 0) → b ≡ m (cell fr j 1) → c ≡ m (cell fr j 2) → d ≡ m (cell fr j 3) → e ≡ m (cell fr j 4) → f ≡ m (cell fr j 5)
+pub cell-each : (m : Mem) (fr j a b c d e f : ℕ) → a ≡ m (cell fr j slotTag) → b ≡ m (cell fr j slotGeneration) → c ≡ m (cell fr j slotObject) → d ≡ m (cell fr j slotRights) → e ≡ m (cell fr j slotFlags) → f ≡ m (cell fr j slotUnused)
     → words6 a b c d e f ≡ cellAt m fr j
 cell-each m fr j a b c d e f p q r s t u = rw (p, q, r, s, t, u)
 

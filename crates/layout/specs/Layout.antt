@@ -13,14 +13,16 @@ use Rattle.words.specs.Words.{get-past, words-same}
 use Rattle.layout.specs.Regions.{ext, size, region, region-past, Stacked, stacked-to, Inside, inside, placeIn, inside-yes, inside-is, in-place, no-place, below, one-place, place-of}
 use Rattle.layout.specs.declared.Shape.{Shape}
 use Rattle.layout.specs.declared.Extent.{Extent}
+use Rattle.layout.specs.Fields.{headCursor, headPages, headFirstFree, entryNext, slotTag, slotGeneration, slotRights, rowLength, itemOperation, itemMoved, itemRights}
+use Rattle.layout.specs.Sizes.{pageSize, batchMax, rootSize, headSize, entrySize, slotSize, objectSize, indexSize, blockSize, frameSize, rowBlocks, rowSize}
 
 -- ---- the low ends
 
 abbrev pub entriesAt : Shape → ℕ
-entriesAt sh = 16 + 16 * sh .tables
+entriesAt sh = rootSize + headSize * sh .tables
 
 abbrev pub ownersAt : Shape → ℕ
-ownersAt sh = entriesAt sh + 5 * sh .pages
+ownersAt sh = entriesAt sh + entrySize * sh .pages
 
 abbrev pub sixteensAt : Shape → ℕ
 sixteensAt sh = ownersAt sh + sh .frames
@@ -35,27 +37,27 @@ abbrev pub framesAt : Shape → ℕ
 framesAt sh = thousandsAt sh + (sh .frames + 4095) / 4096
 
 abbrev pub objectsAt : Shape → ℕ
-objectsAt sh = framesAt sh + 384 * sh .frames
+objectsAt sh = framesAt sh + frameSize * sh .frames
 
 abbrev pub indexAt : Shape → ℕ
-indexAt sh = objectsAt sh + 8 * sh .objects
+indexAt sh = objectsAt sh + objectSize * sh .objects
 
 abbrev pub rowsAt : Shape → ℕ
-rowsAt sh = indexAt sh + 2 * sh .rows
+rowsAt sh = indexAt sh + indexSize * sh .rows
 
 -- how many words a state has
 abbrev pub total : Shape → ℕ
-total sh = rowsAt sh + 390 * sh .rows
+total sh = rowsAt sh + rowSize * sh .rows
 
 -- THE LAYOUT: low end, how many of how many, words of each
 abbrev pub layout : Shape → List Extent
 layout sh =
     -- 0 header
-    ext 0 1 1 16
+    ext 0 1 1 rootSize
     -- 1 table heads
-    ∷ ext 16 (sh .tables) 1 16
+    ∷ ext rootSize (sh .tables) 1 headSize
     -- 2 page entries
-    ∷ ext (entriesAt sh) (sh .pages) 1 5
+    ∷ ext (entriesAt sh) (sh .pages) 1 entrySize
     -- 3 frame owners
     ∷ ext (ownersAt sh) (sh .frames) 1 1
     -- 4 to 6 free frames in each 16, 256 and 4,096
@@ -63,13 +65,13 @@ layout sh =
     ∷ ext (hundredsAt sh) ((sh .frames + 255) / 256) 1 1
     ∷ ext (thousandsAt sh) ((sh .frames + 4095) / 4096) 1 1
     -- 7 frames: slots
-    ∷ ext (framesAt sh) (sh .frames) 64 6
+    ∷ ext (framesAt sh) (sh .frames) pageSize slotSize
     -- 8 objects
-    ∷ ext (objectsAt sh) (sh .objects) 1 8
+    ∷ ext (objectsAt sh) (sh .objects) 1 objectSize
     -- 9 row index: places by rank, and ranks by place
-    ∷ ext (indexAt sh) (sh .rows) 1 2
+    ∷ ext (indexAt sh) (sh .rows) 1 indexSize
     -- 10 rows: the row, then its items
-    ∷ ext (rowsAt sh) (sh .rows) 65 6
+    ∷ ext (rowsAt sh) (sh .rows) rowBlocks blockSize
     ∷ []
 
 -- no gap, no overlap, and the end is the total
@@ -157,14 +159,14 @@ same-is (reg k x y f) (reg k′ x′ y′ f′) e =
     rw (eqb-true k′ k (b .0), eqb-true f′ f (d .0), eqb-true y′ y (g .0), eqb-true x′ x (g .1))
 
 -- addresses of other regions, fields or blocks are told apart by computing
-tells : (t e fr j f f′ o i r r′ : ℕ) → (same (head t 5) (entry e 5) ≡ false) × (same (head t 5) (head t 6) ≡ false) × (same (owner fr) (group 0 i) ≡ false)
-    × (same (group 0 i) (group 1 i) ≡ false) × (same (cell fr j 0) (cell fr j 1) ≡ false) × (same (cell fr j f) (object o f) ≡ false)
-    × (same (index i) (row r f) ≡ false) × (same (row r f) (item r′ j f′) ≡ false) × (same (item r j f) (row r′ f′) ≡ false) × (same (item r j 0) (item r j 1) ≡ false)
+tells : (t e fr j f f′ o i r r′ : ℕ) → (same (head t headPages) (entry e entryNext) ≡ false) × (same (head t headPages) (head t headFirstFree) ≡ false) × (same (owner fr) (group 0 i) ≡ false)
+    × (same (group 0 i) (group 1 i) ≡ false) × (same (cell fr j slotTag) (cell fr j slotGeneration) ≡ false) × (same (cell fr j f) (object o f) ≡ false)
+    × (same (index i) (row r f) ≡ false) × (same (row r f) (item r′ j f′) ≡ false) × (same (item r j f) (row r′ f′) ≡ false) × (same (item r j itemOperation) (item r j itemMoved) ≡ false)
 tells t e fr j f f′ o i r r′ = (refl, refl, refl, refl, refl, refl, refl, refl, refl, refl)
 
 -- and the rest is left to the numbers
-leaves : (j f r j′ r′ : ℕ) → (same (cell r j 3) (cell r′ j′ 3) ≡ (eqb j′ j && eqb r′ r)) × (same (item r j 3) (item r′ j′ 3) ≡ (eqb j′ j && eqb r′ r)) × (same (row r 3) (row r′ 3) ≡ eqb r′ r)
-    × (same (head r 3) (head r′ 3) ≡ eqb r′ r)
+leaves : (j f r j′ r′ : ℕ) → (same (cell r j slotRights) (cell r′ j′ slotRights) ≡ (eqb j′ j && eqb r′ r)) × (same (item r j itemRights) (item r′ j′ itemRights) ≡ (eqb j′ j && eqb r′ r)) × (same (row r rowLength) (row r′ rowLength) ≡ eqb r′ r)
+    × (same (head r headCursor) (head r′ headCursor) ≡ eqb r′ r)
 leaves j f r j′ r′ = (refl, refl, refl, refl)
 
 -- an address is in range
@@ -184,13 +186,13 @@ pub in-no : (sh : Shape) (a : Addr) → (In sh a → ⊥) → isIn sh a ≡ fals
 in-no sh a h = bool (isIn sh a) (λ e. absurd (h (in-is sh a e))) (λ e. e)
 
 module _ (sh : Shape) where
-  pub in-root : (f : ℕ) → f < 16 → In sh (root f)
+  pub in-root : (f : ℕ) → f < rootSize → In sh (root f)
   in-root f a = record { xs = omega arith; ys = omega arith; fs = a }
 
-  pub in-head : (t f : ℕ) → t < sh .tables → f < 16 → In sh (head t f)
+  pub in-head : (t f : ℕ) → t < sh .tables → f < headSize → In sh (head t f)
   in-head t f a b = record { xs = a; ys = omega arith; fs = b }
 
-  pub in-entry : (e f : ℕ) → e < sh .pages → f < 5 → In sh (entry e f)
+  pub in-entry : (e f : ℕ) → e < sh .pages → f < entrySize → In sh (entry e f)
   in-entry e f a b = record { xs = a; ys = omega arith; fs = b }
 
   pub in-owner : (fr : ℕ) → fr < sh .frames → In sh (owner fr)
@@ -206,10 +208,10 @@ module _ (sh : Shape) where
   pub in-thousand : (fr : ℕ) → fr < sh .frames → In sh (group 2 (fr / 4096))
   in-thousand fr a = record { xs = omega arith; ys = omega arith; fs = omega arith }
 
-  pub in-cell : (fr j f : ℕ) → fr < sh .frames → j < 64 → f < 6 → In sh (cell fr j f)
+  pub in-cell : (fr j f : ℕ) → fr < sh .frames → j < pageSize → f < slotSize → In sh (cell fr j f)
   in-cell fr j f a b c = record { xs = a; ys = b; fs = c }
 
-  pub in-object : (o f : ℕ) → o < sh .objects → f < 8 → In sh (object o f)
+  pub in-object : (o f : ℕ) → o < sh .objects → f < objectSize → In sh (object o f)
   in-object o f a b = record { xs = a; ys = omega arith; fs = b }
 
   pub in-index : (i : ℕ) → i < sh .rows → In sh (index i)
@@ -218,10 +220,10 @@ module _ (sh : Shape) where
   pub in-rank : (r : ℕ) → r < sh .rows → In sh (rank r)
   in-rank r a = record { xs = a; ys = omega arith; fs = omega arith }
 
-  pub in-row : (r f : ℕ) → r < sh .rows → f < 6 → In sh (row r f)
+  pub in-row : (r f : ℕ) → r < sh .rows → f < blockSize → In sh (row r f)
   in-row r f a b = record { xs = a; ys = omega arith; fs = b }
 
-  pub in-item : (r j f : ℕ) → r < sh .rows → j < 64 → f < 6 → In sh (item r j f)
+  pub in-item : (r j f : ℕ) → r < sh .rows → j < batchMax → f < blockSize → In sh (item r j f)
   in-item r j f a b c = record { xs = a; ys = omega arith; fs = c }
 
 -- ---- loads and stores
@@ -385,11 +387,11 @@ unfolding save
 save-by ws sh k x y f v e p vs a b c = c ∙ ap (λ (i : ℕ). set ws i v) (b ∙ ap (λ (d : Extent). placeIn (length ws) d x y f) a)
 
 -- an item past the row's last stands nowhere
-pub item-out : (sh : Shape) (r j f : ℕ) → 64 ≤ j → isIn sh (item r j f) ≡ false
+pub item-out : (sh : Shape) (r j f : ℕ) → batchMax ≤ j → isIn sh (item r j f) ≡ false
 item-out sh r j f h = in-no sh (item r j f) (λ i. omega (arith, i .ys))
 
-pub item-load : (ws : List ℕ) (sh : Shape) (r j f : ℕ) → 64 ≤ j → 0 ≡ load ws sh (item r j f)
+pub item-load : (ws : List ℕ) (sh : Shape) (r j f : ℕ) → batchMax ≤ j → 0 ≡ load ws sh (item r j f)
 item-load ws sh r j f h = sym (load-out ws sh (item r j f) (item-out sh r j f h))
 
-pub item-save : (ws : List ℕ) (sh : Shape) (r j f v : ℕ) → 64 ≤ j → ws ≡ save ws sh (item r j f) v
+pub item-save : (ws : List ℕ) (sh : Shape) (r j f v : ℕ) → batchMax ≤ j → ws ≡ save ws sh (item r j f) v
 item-save ws sh r j f v h = sym (save-out ws sh (item r j f) v (item-out sh r j f h))

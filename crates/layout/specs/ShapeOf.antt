@@ -12,22 +12,25 @@ use Rattle.layout.specs.Layout.{total, root, Mem, load, load-root}
 use Rattle.layout.specs.declared.Shape.{Shape}
 use Rattle.layout.specs.declared.ShapeRead.{ShapeRead}
 use Rattle.layout.specs.declared.ShapeRead.the-variants.{Shape as found, Bad}
+use Rattle.layout.specs.Fields.{rootVersion, rootTables, rootFrames, rootObjects, rootRows, rootPages}
+use Rattle.layout.specs.Values.{formatVersion}
+use Rattle.layout.specs.Sizes.{pagesMax, tablesMax, framesMax, objectsMax, rowsMax}
 
 -- the counts that the header holds
 unfoldable pub shapeAt : List ℕ → Shape
-shapeAt ws = record { tables = getD ws 1 0; pages = getD ws 8 0; frames = getD ws 2 0; objects = getD ws 3 0; rows = getD ws 4 0 }
+shapeAt ws = record { tables = getD ws rootTables 0; pages = getD ws rootPages 0; frames = getD ws rootFrames 0; objects = getD ws rootObjects 0; rows = getD ws rootRows 0 }
 
 -- the limits of a state
 pub record Permitted (sh : Shape) : Type 0 where
   pub some-table : 1 ≤ sh .tables
-  pub few-tables : sh .tables ≤ 16
-  pub few-frames : sh .frames ≤ 65535
+  pub few-tables : sh .tables ≤ tablesMax
+  pub few-frames : sh .frames ≤ framesMax
   pub some-object : 1 ≤ sh .objects
-  pub few-objects : sh .objects ≤ 4096
+  pub few-objects : sh .objects ≤ objectsMax
   pub some-row : 1 ≤ sh .rows
-  pub few-rows : sh .rows ≤ 256
+  pub few-rows : sh .rows ≤ rowsMax
   pub some-page : sh .tables ≤ sh .pages
-  pub few-pages : sh .pages ≤ sh .tables * 262144
+  pub few-pages : sh .pages ≤ sh .tables * pagesMax
 
 -- each pair is in order
 abbrev ordered : List (ℕ × ℕ) → Bool
@@ -48,8 +51,8 @@ ordered-yes (p ∷ ps) o = both-is (leb (p .0) (p .1)) (ordered ps) (le-leb (p .
 
 abbrev limits : Shape → List (ℕ × ℕ)
 limits sh =
-    (1, sh .tables) ∷ (sh .tables, 16) ∷ (sh .frames, 65535) ∷ (1, sh .objects) ∷ (sh .objects, 4096) ∷ (1, sh .rows) ∷ (sh .rows, 256)
-    ∷ (sh .tables, sh .pages) ∷ (sh .pages, sh .tables * 262144) ∷ []
+    (1, sh .tables) ∷ (sh .tables, tablesMax) ∷ (sh .frames, framesMax) ∷ (1, sh .objects) ∷ (sh .objects, objectsMax) ∷ (1, sh .rows) ∷ (sh .rows, rowsMax)
+    ∷ (sh .tables, sh .pages) ∷ (sh .pages, sh .tables * pagesMax) ∷ []
 
 -- the test of a shape's limits
 unfoldable pub permitted : Shape → Bool
@@ -83,23 +86,23 @@ permitted-small sh p = omega arith
 
 -- THE READING: version 1, counts within the limits, and words enough for them
 unfoldable pub shapeOf : List ℕ → ShapeRead
-shapeOf ws = pick (eqb (getD ws 0 0) 1 && (permitted (shapeAt ws) && leb (total (shapeAt ws)) (length ws))) (found (shapeAt ws)) Bad
+shapeOf ws = pick (eqb (getD ws rootVersion 0) formatVersion && (permitted (shapeAt ws) && leb (total (shapeAt ws)) (length ws))) (found (shapeAt ws)) Bad
 
 -- what the tests say
 pub record Given (ws : List ℕ) (sh : Shape) : Type 0 where
-  pub version : getD ws 0 0 ≡ 1
+  pub version : getD ws rootVersion 0 ≡ formatVersion
   pub is : sh ≡ shapeAt ws
   pub limits : Permitted sh
   pub room : total sh ≤ length ws
 
 given-found : (ws : List ℕ) (sh : Shape) → shapeOf ws ≡ found sh → Given ws sh
 unfolding shapeOf
-given-found ws sh q = bool (eqb (getD ws 0 0) 1 && (permitted (shapeAt ws) && leb (total (shapeAt ws)) (length ws)))
-    (λ e. let b = both (eqb (getD ws 0 0) 1) (permitted (shapeAt ws) && leb (total (shapeAt ws)) (length ws)) e in
+given-found ws sh q = bool (eqb (getD ws rootVersion 0) formatVersion && (permitted (shapeAt ws) && leb (total (shapeAt ws)) (length ws)))
+    (λ e. let b = both (eqb (getD ws rootVersion 0) formatVersion) (permitted (shapeAt ws) && leb (total (shapeAt ws)) (length ws)) e in
     let d = both (permitted (shapeAt ws)) (leb (total (shapeAt ws)) (length ws)) (b .1) in
     let z : found (shapeAt ws) ≡ found sh = rw e at q in
     let i : sh ≡ shapeAt ws = cc in
-    record { version = eqb-true (getD ws 0 0) 1 (b .0); is = i; limits = rw i (permitted-is (shapeAt ws) (d .0)); room = rw i (leb-true (total (shapeAt ws)) (length ws) (d .1)) })
+    record { version = eqb-true (getD ws rootVersion 0) formatVersion (b .0); is = i; limits = rw i (permitted-is (shapeAt ws) (d .0)); room = rw i (leb-true (total (shapeAt ws)) (length ws) (d .1)) })
     (λ e. let z : Bad ≡ found sh = rw e at q in let y : _≡_ {A = ℕ} 0 1 = cc in absurd (omega arith))
 
 given-is : (ws : List ℕ) (sh : Shape) → Given ws sh → found sh ≡ shapeOf ws
@@ -108,14 +111,14 @@ given-is ws sh h =
     let i : sh ≡ shapeAt ws = h .is in
     let p : Permitted (shapeAt ws) = rw i at (h .limits) in
     let m : total (shapeAt ws) ≤ length ws = rw i at (h .room) in
-    rw (eq-eqb (getD ws 0 0) 1 (h .version), permitted-yes (shapeAt ws) p, le-leb (total (shapeAt ws)) (length ws) m, i)
+    rw (eq-eqb (getD ws rootVersion 0) formatVersion (h .version), permitted-yes (shapeAt ws) p, le-leb (total (shapeAt ws)) (length ws) m, i)
 
 pub shape-bad : (ws : List ℕ) → (Given ws (shapeAt ws) → ⊥) → Bad ≡ shapeOf ws
 unfolding shapeOf
-shape-bad ws h = bool (eqb (getD ws 0 0) 1 && (permitted (shapeAt ws) && leb (total (shapeAt ws)) (length ws)))
-    (λ e. let b = both (eqb (getD ws 0 0) 1) (permitted (shapeAt ws) && leb (total (shapeAt ws)) (length ws)) e in
+shape-bad ws h = bool (eqb (getD ws rootVersion 0) formatVersion && (permitted (shapeAt ws) && leb (total (shapeAt ws)) (length ws)))
+    (λ e. let b = both (eqb (getD ws rootVersion 0) formatVersion) (permitted (shapeAt ws) && leb (total (shapeAt ws)) (length ws)) e in
     let d = both (permitted (shapeAt ws)) (leb (total (shapeAt ws)) (length ws)) (b .1) in
-    absurd (h (record { version = eqb-true (getD ws 0 0) 1 (b .0); is = refl; limits = permitted-is (shapeAt ws) (d .0); room = leb-true (total (shapeAt ws)) (length ws) (d .1) })))
+    absurd (h (record { version = eqb-true (getD ws rootVersion 0) formatVersion (b .0); is = refl; limits = permitted-is (shapeAt ws) (d .0); room = leb-true (total (shapeAt ws)) (length ws) (d .1) })))
     (λ e. rw e)
 
 -- ---- what goes by the reading
@@ -138,29 +141,29 @@ module _ {ℓ} {A : Type ℓ} where
 pub shape-short : (ws : List ℕ) (sh : Shape) (n m : ℕ) → sh ≡ shapeAt ws → n ≡ length ws → m ≡ total sh → n < m → Bad ≡ shapeOf ws
 shape-short ws sh n m i l e h = shape-bad ws (λ q. let z : m ≡ total (shapeAt ws) = rw i at e in omega (arith, q .room))
 
-pub shape-long : (ws : List ℕ) (sh : Shape) (n m : ℕ) → getD ws 0 0 ≡ 1 → sh ≡ shapeAt ws → Permitted sh → n ≡ length ws → m ≡ total sh → m ≤ n → found sh ≡ shapeOf ws
+pub shape-long : (ws : List ℕ) (sh : Shape) (n m : ℕ) → getD ws rootVersion 0 ≡ formatVersion → sh ≡ shapeAt ws → Permitted sh → n ≡ length ws → m ≡ total sh → m ≤ n → found sh ≡ shapeOf ws
 shape-long ws sh n m v i p l e h = given-is ws sh (record { version = v; is = i; limits = p; room = omega arith })
 
 -- ---- the reading, over the header's fields
 
 -- a memory's header has the counts
 pub record Roots (sh : Shape) (m : Mem) : Type 0 where
-  pub version : m (root 0) ≡ 1
-  pub tables : m (root 1) ≡ sh .tables
-  pub frames : m (root 2) ≡ sh .frames
-  pub objects : m (root 3) ≡ sh .objects
-  pub rows : m (root 4) ≡ sh .rows
-  pub pages : m (root 8) ≡ sh .pages
+  pub version : m (root rootVersion) ≡ formatVersion
+  pub tables : m (root rootTables) ≡ sh .tables
+  pub frames : m (root rootFrames) ≡ sh .frames
+  pub objects : m (root rootObjects) ≡ sh .objects
+  pub rows : m (root rootRows) ≡ sh .rows
+  pub pages : m (root rootPages) ≡ sh .pages
 
 -- so has one that shows the same header, but for the next id and the counts of rows and of free frames
 pub roots-kept : (sh : Shape) (m m′ : Mem) → ((f : ℕ) → (5 ≤ f → f ≤ 7 → ⊥) → m′ (root f) ≡ m (root f)) → Roots sh m → Roots sh m′
 roots-kept sh m m′ e r = record {
-  version = e 0 (λ a b. omega arith) ∙ r .version;
-  tables = e 1 (λ a b. omega arith) ∙ r .tables;
-  frames = e 2 (λ a b. omega arith) ∙ r .frames;
-  objects = e 3 (λ a b. omega arith) ∙ r .objects;
-  rows = e 4 (λ a b. omega arith) ∙ r .rows;
-  pages = e 8 (λ a b. omega arith) ∙ r .pages;
+  version = e rootVersion (λ a b. omega arith) ∙ r .version;
+  tables = e rootTables (λ a b. omega arith) ∙ r .tables;
+  frames = e rootFrames (λ a b. omega arith) ∙ r .frames;
+  objects = e rootObjects (λ a b. omega arith) ∙ r .objects;
+  rows = e rootRows (λ a b. omega arith) ∙ r .rows;
+  pages = e rootPages (λ a b. omega arith) ∙ r .pages;
 }
 
 pub record Shaped (ws : List ℕ) (sh : Shape) : Type 0 where
@@ -176,12 +179,12 @@ shape-found ws sh q =
       limits = g .limits;
       room = g .room;
       roots = record {
-        version = load-root ws sh 0 (omega arith) ∙ g .version;
-        tables = load-root ws sh 1 (omega arith) ∙ rw i;
-        frames = load-root ws sh 2 (omega arith) ∙ rw i;
-        objects = load-root ws sh 3 (omega arith) ∙ rw i;
-        rows = load-root ws sh 4 (omega arith) ∙ rw i;
-        pages = load-root ws sh 8 (omega arith) ∙ rw i;
+        version = load-root ws sh rootVersion (omega arith) ∙ g .version;
+        tables = load-root ws sh rootTables (omega arith) ∙ rw i;
+        frames = load-root ws sh rootFrames (omega arith) ∙ rw i;
+        objects = load-root ws sh rootObjects (omega arith) ∙ rw i;
+        rows = load-root ws sh rootRows (omega arith) ∙ rw i;
+        pages = load-root ws sh rootPages (omega arith) ∙ rw i;
       };
     }
 
@@ -194,10 +197,10 @@ unfolding shapeAt
 shape-is ws sh h =
     let r = h .roots in
     sym (given-is ws sh (record {
-      version = sym (load-root ws sh 0 (omega arith)) ∙ r .version;
-      is = shape-parts sh (getD ws 1 0) (getD ws 8 0) (getD ws 2 0) (getD ws 3 0) (getD ws 4 0)
-          (sym (load-root ws sh 1 (omega arith)) ∙ r .tables) (sym (load-root ws sh 8 (omega arith)) ∙ r .pages) (sym (load-root ws sh 2 (omega arith)) ∙ r .frames)
-          (sym (load-root ws sh 3 (omega arith)) ∙ r .objects) (sym (load-root ws sh 4 (omega arith)) ∙ r .rows);
+      version = sym (load-root ws sh rootVersion (omega arith)) ∙ r .version;
+      is = shape-parts sh (getD ws rootTables 0) (getD ws rootPages 0) (getD ws rootFrames 0) (getD ws rootObjects 0) (getD ws rootRows 0)
+          (sym (load-root ws sh rootTables (omega arith)) ∙ r .tables) (sym (load-root ws sh rootPages (omega arith)) ∙ r .pages) (sym (load-root ws sh rootFrames (omega arith)) ∙ r .frames)
+          (sym (load-root ws sh rootObjects (omega arith)) ∙ r .objects) (sym (load-root ws sh rootRows (omega arith)) ∙ r .rows);
       limits = h .limits;
       room = h .room;
     }))

@@ -7,6 +7,11 @@ ghost use Rattle.layout.specs.Layout.{root, head, entry, owner, cell, ob
 ghost use Rattle.layout.specs.ShapeOf.{shapeOf};
 ghost use Rattle.layout.specs.Cells.{cellAt};
 
+pub mod field;
+pub mod place;
+pub mod size;
+pub mod value;
+
 // The counts of a state; pages is the sum of the tables' page limits.
 pub struct Shape {
     pub tables: u8,
@@ -72,40 +77,40 @@ pub fn region_of(sh: Shape, k: u64) -> Extent
     let f = sh.frames as u64;
     let o = sh.objects as u64;
     let r = sh.rows as u64;
-    let low2 = 16 + 16 * t;
-    let low3 = low2 + 5 * p;
+    let low2 = size::ROOT_SIZE + size::HEAD_SIZE * t;
+    let low3 = low2 + size::ENTRY_SIZE * p;
     let low4 = low3 + f;
     let low5 = low4 + (f + 15) / 16;
     let low6 = low5 + (f + 255) / 256;
     let low7 = low6 + (f + 4095) / 4096;
-    let low8 = low7 + 384 * f;
-    let low9 = low8 + 8 * o;
-    let low10 = low9 + 2 * r;
-    if k == 0 {
+    let low8 = low7 + size::FRAME_SIZE * f;
+    let low9 = low8 + size::OBJECT_SIZE * o;
+    let low10 = low9 + size::INDEX_SIZE * r;
+    if k == ROOT {
         return Extent {
             low: 0,
             x: 1,
             y: 1,
-            w: 16,
+            w: size::ROOT_SIZE,
         };
     }
-    if k == 1 {
+    if k == HEAD {
         return Extent {
-            low: 16,
+            low: size::ROOT_SIZE,
             x: t,
             y: 1,
-            w: 16,
+            w: size::HEAD_SIZE,
         };
     }
-    if k == 2 {
+    if k == ENTRY {
         return Extent {
             low: low2,
             x: p,
             y: 1,
-            w: 5,
+            w: size::ENTRY_SIZE,
         };
     }
-    if k == 3 {
+    if k == OWNER {
         return Extent {
             low: low3,
             x: f,
@@ -113,7 +118,7 @@ pub fn region_of(sh: Shape, k: u64) -> Extent
             w: 1,
         };
     }
-    if k == 4 {
+    if k == SIXTEEN {
         return Extent {
             low: low4,
             x: (f + 15) / 16,
@@ -121,7 +126,7 @@ pub fn region_of(sh: Shape, k: u64) -> Extent
             w: 1,
         };
     }
-    if k == 5 {
+    if k == HUNDRED {
         return Extent {
             low: low5,
             x: (f + 255) / 256,
@@ -129,7 +134,7 @@ pub fn region_of(sh: Shape, k: u64) -> Extent
             w: 1,
         };
     }
-    if k == 6 {
+    if k == THOUSAND {
         return Extent {
             low: low6,
             x: (f + 4095) / 4096,
@@ -137,36 +142,36 @@ pub fn region_of(sh: Shape, k: u64) -> Extent
             w: 1,
         };
     }
-    if k == 7 {
+    if k == CELL {
         return Extent {
             low: low7,
             x: f,
-            y: 64,
-            w: 6,
+            y: size::PAGE_SIZE,
+            w: size::SLOT_SIZE,
         };
     }
-    if k == 8 {
+    if k == OBJECT {
         return Extent {
             low: low8,
             x: o,
             y: 1,
-            w: 8,
+            w: size::OBJECT_SIZE,
         };
     }
-    if k == 9 {
+    if k == INDEX {
         return Extent {
             low: low9,
             x: r,
             y: 1,
-            w: 2,
+            w: size::INDEX_SIZE,
         };
     }
-    if k == 10 {
+    if k == ROW {
         return Extent {
             low: low10,
             x: r,
-            y: 65,
-            w: 6,
+            y: size::ROW_BLOCKS,
+            w: size::BLOCK_SIZE,
         };
     }
     Extent {
@@ -177,6 +182,9 @@ pub fn region_of(sh: Shape, k: u64) -> Extent
     }
 }
 
+// Words of a row and of its pair of the index.
+const ROW_WORDS: u64 = size::INDEX_SIZE + size::ROW_SIZE;
+
 // How many words a state has.
 pub fn total_of(sh: Shape) -> u64
     ensures { λ r. ⌜ r ≡ total sh ⌝ }
@@ -186,9 +194,9 @@ pub fn total_of(sh: Shape) -> u64
     let f = sh.frames as u64;
     let o = sh.objects as u64;
     let r = sh.rows as u64;
-    let low4 = 16 + 16 * t + 5 * p + f;
+    let low4 = size::ROOT_SIZE + size::HEAD_SIZE * t + size::ENTRY_SIZE * p + f;
     let low7 = low4 + (f + 15) / 16 + (f + 255) / 256 + (f + 4095) / 4096;
-    low7 + 384 * f + 8 * o + 392 * r
+    low7 + size::FRAME_SIZE * f + size::OBJECT_SIZE * o + ROW_WORDS * r
 }
 
 // The place of field f of number (x, y) of a region in n words; n itself where there is none.
@@ -293,14 +301,17 @@ fn cell_each(s: &[u64], sh: Shape, fr: u64, j: u64) -> CellWords
     ensures { λ r. ⌜ r ≡ cellAt (loadAt (now (s .entry)) sh) fr j ⌝ }
 {
     CellWords {
-        tag: cell_word(s, sh, fr, j, 0),
-        generation: cell_word(s, sh, fr, j, 1),
-        object: cell_word(s, sh, fr, j, 2),
-        rights: cell_word(s, sh, fr, j, 3),
-        flags: cell_word(s, sh, fr, j, 4),
-        unused: cell_word(s, sh, fr, j, 5),
+        tag: cell_word(s, sh, fr, j, field::SLOT_TAG),
+        generation: cell_word(s, sh, fr, j, field::SLOT_GENERATION),
+        object: cell_word(s, sh, fr, j, field::SLOT_OBJECT),
+        rights: cell_word(s, sh, fr, j, field::SLOT_RIGHTS),
+        flags: cell_word(s, sh, fr, j, field::SLOT_FLAGS),
+        unused: cell_word(s, sh, fr, j, field::SLOT_UNUSED),
     }
 }
+
+// As a place.
+const SLOT_WORDS: usize = size::SLOT_SIZE as usize;
 
 // All words of slot j of a frame, with one test where all six are lent.
 pub fn cell_at(s: &[u64], sh: Shape, fr: u64, j: u64) -> CellWords
@@ -308,20 +319,20 @@ pub fn cell_at(s: &[u64], sh: Shape, fr: u64, j: u64) -> CellWords
 {
     let n = s.len();
     let e = region_of(sh, CELL);
-    let at = place_in(n, e, fr, j, 0);
-    if n < 6 {
+    let at = place_in(n, e, fr, j, field::SLOT_TAG);
+    if n < SLOT_WORDS {
         return cell_each(s, sh, fr, j);
     }
-    if at > n - 6 {
+    if at > n - SLOT_WORDS {
         return cell_each(s, sh, fr, j);
     }
     CellWords {
         tag: s[at],
-        generation: s[at + 1],
-        object: s[at + 2],
-        rights: s[at + 3],
-        flags: s[at + 4],
-        unused: s[at + 5],
+        generation: s[at + place::SLOT_GENERATION],
+        object: s[at + place::SLOT_OBJECT],
+        rights: s[at + place::SLOT_RIGHTS],
+        flags: s[at + place::SLOT_FLAGS],
+        unused: s[at + place::SLOT_UNUSED],
     }
 }
 
@@ -387,7 +398,7 @@ pub fn put_row(s: &mut [u64], sh: Shape, k: u64, f: u64, v: u64)
 pub fn item_word(s: &[u64], sh: Shape, k: u64, j: u64, f: u64) -> u64
     ensures { λ r. ⌜ r ≡ loadAt (now (s .entry)) sh (item k j f) ⌝ }
 {
-    if j < 64 {
+    if j < size::BATCH_MAX {
         load(s, sh, ROW, k, j + 1, f)
     } else {
         0
@@ -397,7 +408,7 @@ pub fn item_word(s: &[u64], sh: Shape, k: u64, j: u64, f: u64) -> u64
 pub fn put_item(s: &mut [u64], sh: Shape, k: u64, j: u64, f: u64, v: u64)
     ensures { λ _. ⌜ now (s .exit) ≡ saveAt (now (s .entry)) sh (item k j f) v ⌝ }
 {
-    if j < 64 {
+    if j < size::BATCH_MAX {
         save(s, sh, ROW, k, j + 1, f, v);
     }
 }
@@ -406,40 +417,40 @@ pub fn put_item(s: &mut [u64], sh: Shape, k: u64, j: u64, f: u64, v: u64)
 pub fn shape_of(s: &[u64]) -> ShapeRead
     ensures { λ r. ⌜ r ≡ shapeOf (now (s .entry)) ⌝ }
 {
-    let version = words::word(s, 0);
-    let t = words::word(s, 1);
-    let f = words::word(s, 2);
-    let o = words::word(s, 3);
-    let r = words::word(s, 4);
-    let p = words::word(s, 8);
-    if version != 1 {
+    let version = words::word(s, place::ROOT_VERSION);
+    let t = words::word(s, place::ROOT_TABLES);
+    let f = words::word(s, place::ROOT_FRAMES);
+    let o = words::word(s, place::ROOT_OBJECTS);
+    let r = words::word(s, place::ROOT_ROWS);
+    let p = words::word(s, place::ROOT_PAGES);
+    if version != value::FORMAT_VERSION {
         return ShapeRead::Bad;
     }
     if t < 1 {
         return ShapeRead::Bad;
     }
-    if t > 16 {
+    if t > size::TABLES_MAX {
         return ShapeRead::Bad;
     }
-    if f > 65535 {
+    if f > size::FRAMES_MAX {
         return ShapeRead::Bad;
     }
     if o < 1 {
         return ShapeRead::Bad;
     }
-    if o > 4096 {
+    if o > size::OBJECTS_MAX {
         return ShapeRead::Bad;
     }
     if r < 1 {
         return ShapeRead::Bad;
     }
-    if r > 256 {
+    if r > size::ROWS_MAX {
         return ShapeRead::Bad;
     }
     if p < t {
         return ShapeRead::Bad;
     }
-    if p > t * 262144 {
+    if p > t * size::PAGES_MAX {
         return ShapeRead::Bad;
     }
     let sh = Shape {

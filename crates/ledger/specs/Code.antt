@@ -10,6 +10,9 @@ use Rattle.words.specs.Pick.{bool, clash}
 use Rattle.words.specs.All.{all}
 use Rattle.layout.specs.declared.Shape.{Shape}
 use Rattle.layout.specs.Layout.{Mem, root, cell, index, rank, row, item}
+use Rattle.layout.specs.Fields.{rootNextId, rootUsedRows, rowId, rowKind, rowTable, rowLength, itemSlot, itemOperation, itemMoved}
+use Rattle.layout.specs.Values.{tagReserved, tagTransferReserved, kindReservation, kindClaim}
+use Rattle.layout.specs.Sizes.{pageSize, batchMax}
 use Rattle.representation.specs.Represents.{wordIn, frameOf, slotWord}
 use Rattle.storage.specs.Code.{word-some}
 use Rattle.ledger.specs.Items.{refused, placeB, PlaceOk, place-is, namesB, Names, names-is, handleB, HandleOk, handle-is, claimB, itemB}
@@ -33,8 +36,8 @@ module _ (m : Mem) (sh : Shape) where
 
 -- a slot's word, read from its frame
 module _ (m : Mem) (b k fr : ℕ) (e : fr ≡ frameOf m b k) where
-  pub slot-read : (f r : ℕ) → (fr ≡ 0 → ⊥) → r ≡ m (cell (fr - 1) (k % 64) f) → slotWord m b k f ≡ r
-  slot-read f r n q = ap (λ (l : ℕ). wordIn m l (k % 64) f) (sym e) ∙ sym (word-some m r fr (k % 64) f n q)
+  pub slot-read : (f r : ℕ) → (fr ≡ 0 → ⊥) → r ≡ m (cell (fr - 1) (k % pageSize) f) → slotWord m b k f ≡ r
+  slot-read f r n q = ap (λ (l : ℕ). wordIn m l (k % pageSize) f) (sym e) ∙ sym (word-some m r fr (k % pageSize) f n q)
 
   pub names-bare : (t x j : ℕ) → fr ≡ 0 → false ≡ namesB m b k t x j
   names-bare t x j z = refused (namesB m b k t x j) (names-is m b k t x j) (λ n. omega (arith, n .frame))
@@ -48,50 +51,50 @@ module _ (m : Mem) (sh : Shape) (b x j : ℕ) where
   unfolding claimB
   claim-no h e d = rw (← e, d)
 
-  pub claim-moved : (h r : Bool) (o k : ℕ) → h ≡ handleB m sh x j → h ≡ true → o ≡ m (item x j 0) → o ≡ 0 → k ≡ m (item x j 1) → r ≡ namesB m b k 2 x j → r ≡ claimB m sh b x j
+  pub claim-moved : (h r : Bool) (o k : ℕ) → h ≡ handleB m sh x j → h ≡ true → o ≡ m (item x j itemOperation) → o ≡ 0 → k ≡ m (item x j itemMoved) → r ≡ namesB m b k tagTransferReserved x j → r ≡ claimB m sh b x j
   unfolding claimB
   claim-moved h r o k e d eo z ek q = rw (← e, d, ← eo, eq-eqb o 0 z, ← ek) q
 
-  pub claim-copied : (h r : Bool) (o : ℕ) → h ≡ handleB m sh x j → h ≡ true → o ≡ m (item x j 0) → (o ≡ 0 → ⊥) → r ≡ eqb o 1 → r ≡ claimB m sh b x j
+  pub claim-copied : (h r : Bool) (o : ℕ) → h ≡ handleB m sh x j → h ≡ true → o ≡ m (item x j itemOperation) → (o ≡ 0 → ⊥) → r ≡ eqb o 1 → r ≡ claimB m sh b x j
   unfolding claimB
   claim-copied h r o e d eo z q = rw (← e, d, ← eo, ne-eqb o 0 z) q
 
-  pub item-reserved : (w k : ℕ) (r : Bool) → w ≡ 1 → k ≡ m (item x j 0) → r ≡ namesB m b k 1 x j → r ≡ itemB m sh w b x j
+  pub item-reserved : (w k : ℕ) (r : Bool) → w ≡ kindReservation → k ≡ m (item x j itemSlot) → r ≡ namesB m b k tagReserved x j → r ≡ itemB m sh w b x j
   unfolding itemB
   item-reserved w k r e ek q = rw (eq-eqb w 1 e, ← ek) q
 
-  pub item-claim : (w : ℕ) (r : Bool) → w ≡ 2 → r ≡ claimB m sh b x j → r ≡ itemB m sh w b x j
+  pub item-claim : (w : ℕ) (r : Bool) → w ≡ kindClaim → r ≡ claimB m sh b x j → r ≡ itemB m sh w b x j
   unfolding itemB
   item-claim w r e q = rw (ne-eqb w 1 (λ z. omega arith), eq-eqb w 2 e) q
 
-  pub item-parcel : (w : ℕ) (r : Bool) → (w ≡ 1 → ⊥) → (w ≡ 2 → ⊥) → r ≡ handleB m sh x j → r ≡ itemB m sh w b x j
+  pub item-parcel : (w : ℕ) (r : Bool) → (w ≡ kindReservation → ⊥) → (w ≡ kindClaim → ⊥) → r ≡ handleB m sh x j → r ≡ itemB m sh w b x j
   unfolding itemB
   item-parcel w r d e q = rw (ne-eqb w 1 d, ne-eqb w 2 e) q
 
 -- hits
 module _ (m : Mem) (t x j k : ℕ) where
-  pub hit-one : (a : ℕ) (r : Bool) → t ≡ 1 → a ≡ m (item x j 0) → r ≡ eqb k a → r ≡ hitB m t x j k
+  pub hit-one : (a : ℕ) (r : Bool) → t ≡ tagReserved → a ≡ m (item x j itemSlot) → r ≡ eqb k a → r ≡ hitB m t x j k
   unfolding hitB
   hit-one a r e ea q = rw (eq-eqb t 1 e, ← ea) q
 
-  pub hit-copied : (a : ℕ) → (t ≡ 1 → ⊥) → a ≡ m (item x j 0) → (a ≡ 0 → ⊥) → false ≡ hitB m t x j k
+  pub hit-copied : (a : ℕ) → (t ≡ tagReserved → ⊥) → a ≡ m (item x j itemOperation) → (a ≡ 0 → ⊥) → false ≡ hitB m t x j k
   unfolding hitB
   hit-copied a e ea z = rw (ne-eqb t 1 e, ← ea, ne-eqb a 0 z)
 
-  pub hit-two : (a c : ℕ) (r : Bool) → (t ≡ 1 → ⊥) → a ≡ m (item x j 0) → a ≡ 0 → c ≡ m (item x j 1) → r ≡ eqb k c → r ≡ hitB m t x j k
+  pub hit-two : (a c : ℕ) (r : Bool) → (t ≡ tagReserved → ⊥) → a ≡ m (item x j itemOperation) → a ≡ 0 → c ≡ m (item x j itemMoved) → r ≡ eqb k c → r ≡ hitB m t x j k
   unfolding hitB
   hit-two a c r e ea z ec q = rw (ne-eqb t 1 e, ← ea, eq-eqb a 0 z, ← ec) q
 
 -- a mark, once its row is found
-pub mark-hit : (m : Mem) (sh : Shape) (b k t x j : ℕ) (r : Bool) → x < sh .rows → m (rank x) < m (root 6) → j < m (row x 3) → m (row x 1) ≡ t → m (row x 2) ≡ b → r ≡ hitB m t x j k
+pub mark-hit : (m : Mem) (sh : Shape) (b k t x j : ℕ) (r : Bool) → x < sh .rows → m (rank x) < m (root rootUsedRows) → j < m (row x rowLength) → m (row x rowKind) ≡ t → m (row x rowTable) ≡ b → r ≡ hitB m t x j k
     → r ≡ markB m sh b k t x j
 mark-hit m sh b k t x j r lx lu lj et eb q = bool r
     (λ e. e ∙ sym (mark-yes m sh b k t x j (record { place = lx; used = lu; position = lj; kind = et; table = eb; hit = sym q ∙ e })))
     (λ e. e ∙ refused (markB m sh b k t x j) (mark-is m sh b k t x j) (λ g. clash (g .hit) (sym q ∙ e)))
 
 -- the row before a rank
-pub before-next : (m : Mem) (i x id : ℕ) → x ≡ m (index i) → id ≡ m (row x 0) → id ≡ before m (i + 1)
-before-next m i x id e d = rw add-one (d ∙ ap (λ (y : ℕ). m (row y 0)) e)
+pub before-next : (m : Mem) (i x id : ℕ) → x ≡ m (index i) → id ≡ m (row x rowId) → id ≡ before m (i + 1)
+before-next m i x id e d = rw add-one (d ∙ ap (λ (y : ℕ). m (row y rowId)) e)
 
 -- rows
 
@@ -99,15 +102,15 @@ and-yes : (c : Bool) → (c && true) ≡ c
 and-yes true = refl
 and-yes false = refl
 
-pub row-last : (m : Mem) (sh : Shape) (x last w b n : ℕ) (r : Bool) → last < m (row x 0) → m (row x 0) < m (root 5) → w ≡ m (row x 1) → b ≡ m (row x 2) → n ≡ m (row x 3)
-    → 1 ≤ w → w ≤ 3 → 1 ≤ n → n ≤ 64 → openB m sh w b ≡ true → r ≡ all n (itemB m sh w b x) → r ≡ rowB m sh x last
+pub row-last : (m : Mem) (sh : Shape) (x last w b n : ℕ) (r : Bool) → last < m (row x rowId) → m (row x rowId) < m (root rootNextId) → w ≡ m (row x rowKind) → b ≡ m (row x rowTable) → n ≡ m (row x rowLength)
+    → 1 ≤ w → w ≤ 3 → 1 ≤ n → n ≤ batchMax → openB m sh w b ≡ true → r ≡ all n (itemB m sh w b x) → r ≡ rowB m sh x last
 unfolding rowB
 row-last m sh x last w b n r h₀ h₁ ew eb en h₂ h₃ h₄ h₅ o q =
-    rw (lt-ltb last (m (row x 0)) h₀, lt-ltb (m (row x 0)) (m (root 5)) h₁, ← ew, ← eb, ← en, le-leb 1 w h₂, le-leb w 3 h₃, le-leb 1 n h₄, le-leb n 64 h₅, o) (q ∙ sym (and-yes (all n (itemB m sh w b x))))
+    rw (lt-ltb last (m (row x rowId)) h₀, lt-ltb (m (row x rowId)) (m (root rootNextId)) h₁, ← ew, ← eb, ← en, le-leb 1 w h₂, le-leb w 3 h₃, le-leb 1 n h₄, le-leb n batchMax h₅, o) (q ∙ sym (and-yes (all n (itemB m sh w b x))))
 
-pub row-shut : (m : Mem) (sh : Shape) (x last w b : ℕ) (r : Bool) → w ≡ m (row x 1) → b ≡ m (row x 2) → r ≡ openB m sh w b → r ≡ false → false ≡ rowB m sh x last
+pub row-shut : (m : Mem) (sh : Shape) (x last w b : ℕ) (r : Bool) → w ≡ m (row x rowKind) → b ≡ m (row x rowTable) → r ≡ openB m sh w b → r ≡ false → false ≡ rowB m sh x last
 row-shut m sh x last w b r ew eb q e = refused (rowB m sh x last) (row-is m sh x last)
-    (λ g. clash (open-yes m sh (m (row x 1)) (m (row x 2)) (g .opens)) (ap (λ (v : ℕ). openB m sh v (m (row x 2))) (sym ew) ∙ ap (openB m sh w) (sym eb) ∙ sym q ∙ e))
+    (λ g. clash (open-yes m sh (m (row x rowKind)) (m (row x rowTable)) (g .opens)) (ap (λ (v : ℕ). openB m sh v (m (row x rowTable))) (sym ew) ∙ ap (openB m sh w) (sym eb) ∙ sym q ∙ e))
 
 -- a row, by its rank
 pub rank-is : (m : Mem) (sh : Shape) (i x last : ℕ) (r : Bool) → x ≡ m (index i) → last ≡ before m i → r ≡ rowB m sh x last → r ≡ rankB m sh i
@@ -115,18 +118,18 @@ rank-is m sh i x last r ex el q = q ∙ ap (λ (y : ℕ). rowB m sh y last) ex �
 
 -- the book
 module _ (m : Mem) (sh : Shape) where
-  pub book-used : sh .rows < m (root 6) → false ≡ bookB m sh
+  pub book-used : sh .rows < m (root rootUsedRows) → false ≡ bookB m sh
   unfolding bookB
-  book-used h = rw (lt-leb (m (root 6)) (sh .rows) h)
+  book-used h = rw (lt-leb (m (root rootUsedRows)) (sh .rows) h)
 
-  pub book-next : m (root 6) ≤ sh .rows → m (root 5) < 1 → false ≡ bookB m sh
+  pub book-next : m (root rootUsedRows) ≤ sh .rows → m (root rootNextId) < 1 → false ≡ bookB m sh
   unfolding bookB
-  book-next h g = rw (le-leb (m (root 6)) (sh .rows) h, lt-leb 1 (m (root 5)) g)
+  book-next h g = rw (le-leb (m (root rootUsedRows)) (sh .rows) h, lt-leb 1 (m (root rootNextId)) g)
 
-  pub book-places : (a : Bool) → m (root 6) ≤ sh .rows → 1 ≤ m (root 5) → a ≡ all (sh .rows) (placeB m sh) → a ≡ false → false ≡ bookB m sh
+  pub book-places : (a : Bool) → m (root rootUsedRows) ≤ sh .rows → 1 ≤ m (root rootNextId) → a ≡ all (sh .rows) (placeB m sh) → a ≡ false → false ≡ bookB m sh
   unfolding bookB
-  book-places a h g q e = rw (le-leb (m (root 6)) (sh .rows) h, le-leb 1 (m (root 5)) g, ← q, e)
+  book-places a h g q e = rw (le-leb (m (root rootUsedRows)) (sh .rows) h, le-leb 1 (m (root rootNextId)) g, ← q, e)
 
-  pub book-last : (a r : Bool) → m (root 6) ≤ sh .rows → 1 ≤ m (root 5) → a ≡ all (sh .rows) (placeB m sh) → a ≡ true → r ≡ all (m (root 6)) (rankB m sh) → r ≡ bookB m sh
+  pub book-last : (a r : Bool) → m (root rootUsedRows) ≤ sh .rows → 1 ≤ m (root rootNextId) → a ≡ all (sh .rows) (placeB m sh) → a ≡ true → r ≡ all (m (root rootUsedRows)) (rankB m sh) → r ≡ bookB m sh
   unfolding bookB
-  book-last a r h g q e p = rw (le-leb (m (root 6)) (sh .rows) h, le-leb 1 (m (root 5)) g, ← q, e) p
+  book-last a r h g q e p = rw (le-leb (m (root rootUsedRows)) (sh .rows) h, le-leb 1 (m (root rootNextId)) g, ← q, e) p

@@ -17,6 +17,9 @@ use Rattle.invariant.specs.Marks.{inRow, isBy, both-marks}
 use Rattle.invariant.specs.BookLemmas.{ids-order}
 use Rattle.layout.specs.declared.Shape.{Shape}
 use Rattle.layout.specs.Layout.{Mem, root, head, index, rank, row, item}
+use Rattle.layout.specs.Fields.{rootNextId, rootUsedRows, headLifecycle, headCursor, slotTag, slotPlace, slotPosition, rowId, rowKind, rowTable, rowLength, itemSlot, itemOperation, itemMoved}
+use Rattle.layout.specs.Values.{tagTransferReserved, tagOccupied, kindReservation, kindClaim, kindParcel, lifeActive, operationMove}
+use Rattle.layout.specs.Sizes.{pageSize, batchMax}
 use Rattle.representation.specs.Represents.{wordIn, frameOf, slotWord, slotIn, LifeIs, isMarked, Items, EntryIs, BodyIs, RowsAre, Represents}
 use Rattle.representation.specs.Told.{tagOf}
 use Rattle.ledger.specs.Items.{HandleOk, Names}
@@ -80,13 +83,13 @@ framed m zero j f h = absurd (omega arith)
 framed m (suc l) j f h = omega arith
 
 -- a tag's kind of mark
-kind-of : {C : Type 0} (v : ℕ) → 0 < v → v < 3 → ((t : Bool) → v ≡ tagOf t → C) → C
+kind-of : {C : Type 0} (v : ℕ) → 0 < v → v < tagOccupied → ((t : Bool) → v ≡ tagOf t → C) → C
 kind-of zero a b f = absurd (omega arith)
 kind-of (suc zero) a b f = f true refl
 kind-of (suc (suc zero)) a b f = f false refl
 kind-of (suc (suc (suc v))) a b f = absurd (omega arith)
 
-tag-marks : (t : Bool) → (ltb 0 (tagOf t) && ltb (tagOf t) 3) ≡ true
+tag-marks : (t : Bool) → (ltb 0 (tagOf t) && ltb (tagOf t) tagOccupied) ≡ true
 tag-marks true = refl
 tag-marks false = refl
 
@@ -98,10 +101,10 @@ picked : (b : Bool) (n : ℕ) → pick b n 0 ≡ 1 → (b ≡ true) × (n ≡ 1)
 picked true n e = (refl, e)
 picked false n e = absurd (omega arith)
 
-hit-yes : (m : Mem) (t : Bool) (x j k : ℕ) → m (item x j (tagOf t - 1)) ≡ k → (tagOf t ≡ 2 → m (item x j 0) ≡ 0) → hitB m (tagOf t) x j k ≡ true
+hit-yes : (m : Mem) (t : Bool) (x j k : ℕ) → m (item x j (tagOf t - 1)) ≡ k → (tagOf t ≡ tagTransferReserved → m (item x j itemOperation) ≡ operationMove) → hitB m (tagOf t) x j k ≡ true
 unfolding hitB
-hit-yes m true x j k e f = eq-eqb k (m (item x j 0)) (sym e)
-hit-yes m false x j k e f = both-is (eqb (m (item x j 0)) 0) (eqb k (m (item x j 1))) (eq-eqb (m (item x j 0)) 0 (f refl)) (eq-eqb k (m (item x j 1)) (sym e))
+hit-yes m true x j k e f = eq-eqb k (m (item x j itemSlot)) (sym e)
+hit-yes m false x j k e f = both-is (eqb (m (item x j itemOperation)) operationMove) (eqb k (m (item x j itemMoved))) (eq-eqb (m (item x j itemOperation)) operationMove (f refl)) (eq-eqb k (m (item x j itemMoved)) (sym e))
 
 -- the slot k of table b is the item j of the row in place x, of the kind t, and of no other item
 record Single (m : Mem) (sh : Shape) (t : Bool) (b k x j : ℕ) : Type 0 where
@@ -111,13 +114,13 @@ record Single (m : Mem) (sh : Shape) (t : Bool) (b k x j : ℕ) : Type 0 where
 -- ---- what the ranges of a body are in words
 
 record Fits (m : Mem) (sh : Shape) (x : ℕ) : Type 0 where
-  pub kind : 1 ≤ m (row x 1)
-  pub known : m (row x 1) ≤ 3
-  pub some-item : 1 ≤ m (row x 3)
-  pub few-items : m (row x 3) ≤ 64
-  pub table : (m (row x 1) ≡ 3 → ⊥) → m (row x 2) < sh .tables
-  pub handle : (m (row x 1) ≡ 1 → ⊥) → (j : ℕ) → j < m (row x 3) → HandleOk m sh x j
-  pub operation : m (row x 1) ≡ 2 → (j : ℕ) → j < m (row x 3) → m (item x j 0) ≤ 1
+  pub kind : 1 ≤ m (row x rowKind)
+  pub known : m (row x rowKind) ≤ kindParcel
+  pub some-item : 1 ≤ m (row x rowLength)
+  pub few-items : m (row x rowLength) ≤ batchMax
+  pub table : (m (row x rowKind) ≡ kindParcel → ⊥) → m (row x rowTable) < sh .tables
+  pub handle : (m (row x rowKind) ≡ kindReservation → ⊥) → (j : ℕ) → j < m (row x rowLength) → HandleOk m sh x j
+  pub operation : m (row x rowKind) ≡ kindClaim → (j : ℕ) → j < m (row x rowLength) → m (item x j itemOperation) ≤ 1
 
 module _ (m : Mem) (sh : Shape) (s : State) (tables : sh .tables ≡ s .tableCount) (objects : sh .objects ≡ s .objectCount) (x : ℕ) where
   handle-fits : (j : ℕ) → HandleRange s (handleAt m x j) → HandleOk m sh x j
@@ -128,14 +131,14 @@ module _ (m : Mem) (sh : Shape) (s : State) (tables : sh .tables ≡ s .tableCou
   entry-fits j zero h = handle-fits j (h .0)
   entry-fits j (suc o) h = handle-fits j h
 
-  entry-known : (j o : ℕ) → m (item x j 0) ≡ o → EntryIs m x j (entryBy m x j o) → m (item x j 0) ≤ 1
+  entry-known : (j o : ℕ) → m (item x j itemOperation) ≡ o → EntryIs m x j (entryBy m x j o) → m (item x j itemOperation) ≤ 1
   entry-known j zero e i = omega arith
   entry-known j (suc o) e i = omega (arith, i .0)
 
-  fits : (v : ℕ) → m (row x 1) ≡ v → BodyIs m x (bodyBy m x v) → BodyRange s (bodyBy m x v) → Fits m sh x
+  fits : (v : ℕ) → m (row x rowKind) ≡ v → BodyIs m x (bodyBy m x v) → BodyRange s (bodyBy m x v) → Fits m sh x
   unfolding maxBatch
   fits zero e i g = absurd (omega (arith, i .0))
-  fits (suc zero) e i g = let n = length-from (λ j. m (item x j 0)) 0 (m (row x 3)) in record {
+  fits (suc zero) e i g = let n = length-from (λ j. m (item x j itemSlot)) 0 (m (row x rowLength)) in record {
     kind = omega arith;
     known = omega arith;
     some-item = omega (arith, g .1 .0);
@@ -144,29 +147,29 @@ module _ (m : Mem) (sh : Shape) (s : State) (tables : sh .tables ≡ s .tableCou
     handle = λ z. absurd (z e);
     operation = λ z. absurd (omega arith);
   }
-  fits (suc (suc zero)) e i g = let n = length-from (itemAt m x) 0 (m (row x 3)) in record {
+  fits (suc (suc zero)) e i g = let n = length-from (itemAt m x) 0 (m (row x rowLength)) in record {
     kind = omega arith;
     known = omega arith;
     some-item = omega (arith, g .1 .0);
     few-items = omega (arith, g .1 .1);
     table = λ z. omega (arith, g .0);
-    handle = λ z j h. entry-fits j (m (item x j 0)) (elements-at (itemAt m x) (EntryRange s) 0 (m (row x 3)) (g .2) j (omega arith) (omega arith));
-    operation = λ z j h. entry-known j (m (item x j 0)) refl (items-at (itemAt m x) (EntryIs m x) 0 (m (row x 3)) (i .3) j (omega arith) (omega arith));
+    handle = λ z j h. entry-fits j (m (item x j itemOperation)) (elements-at (itemAt m x) (EntryRange s) 0 (m (row x rowLength)) (g .2) j (omega arith) (omega arith));
+    operation = λ z j h. entry-known j (m (item x j itemOperation)) refl (items-at (itemAt m x) (EntryIs m x) 0 (m (row x rowLength)) (i .3) j (omega arith) (omega arith));
   }
-  fits (suc (suc (suc v))) e i g = let n = length-from (handleAt m x) 0 (m (row x 3)) in let three = i .0 in record {
+  fits (suc (suc (suc v))) e i g = let n = length-from (handleAt m x) 0 (m (row x rowLength)) in let three = i .0 in record {
     kind = omega arith;
     known = omega arith;
     some-item = omega (arith, g .0 .0);
     few-items = omega (arith, g .0 .1);
     table = λ z. absurd (z three);
-    handle = λ z j h. handle-fits j (elements-at (handleAt m x) (HandleRange s) 0 (m (row x 3)) (g .1) j (omega arith) (omega arith));
+    handle = λ z j h. handle-fits j (elements-at (handleAt m x) (HandleRange s) 0 (m (row x rowLength)) (g .1) j (omega arith) (omega arith));
     operation = λ z. absurd (omega arith);
   }
 
-opens-there : (m : Mem) (x v : ℕ) → m (row x 1) ≡ v → 1 ≤ v → v ≤ 2 → opensIn (m (row x 2)) (bodyBy m x v) ≡ true
+opens-there : (m : Mem) (x v : ℕ) → m (row x rowKind) ≡ v → 1 ≤ v → v ≤ 2 → opensIn (m (row x rowTable)) (bodyBy m x v) ≡ true
 opens-there m x zero e a b = absurd (omega arith)
-opens-there m x (suc zero) e a b = same (m (row x 2))
-opens-there m x (suc (suc zero)) e a b = same (m (row x 2))
+opens-there m x (suc zero) e a b = same (m (row x rowTable))
+opens-there m x (suc (suc zero)) e a b = same (m (row x rowTable))
 opens-there m x (suc (suc (suc v))) e a b = absurd (omega arith)
 
 module _ (sh : Shape) (m : Mem) (s : State) (p : Represents sh m s) (w : WellFormed till s) where
@@ -179,63 +182,63 @@ module _ (sh : Shape) (m : Mem) (s : State) (p : Represents sh m s) (w : WellFor
   slot-of : (b k : ℕ) → b < sh .tables → slotIn m b k ≡ s .tables b .slots k
   slot-of b k h = p .tables b (omega (arith, p .tableCount)) .slots k
 
-  rows-here : RowsAre m 0 (rowsFrom m 0 (m (root 6)))
+  rows-here : RowsAre m 0 (rowsFrom m 0 (m (root rootUsedRows)))
   unfolding rowsView
   rows-here = rw view at (p .book .rows)
 
-  body-here : (r : ℕ) → r < m (root 6) → BodyIs m (m (index r)) (bodyAt m (m (index r)))
-  body-here r h = bodies-at m 0 (m (root 6)) rows-here r (omega arith) (omega arith)
+  body-here : (r : ℕ) → r < m (root rootUsedRows) → BodyIs m (m (index r)) (bodyAt m (m (index r)))
+  body-here r h = bodies-at m 0 (m (root rootUsedRows)) rows-here r (omega arith) (omega arith)
 
-  ranges-here : All (RowRange s) (rowsFrom m 0 (m (root 6)))
+  ranges-here : All (RowRange s) (rowsFrom m 0 (m (root rootUsedRows)))
   unfolding rowsView
   ranges-here = subst (All (RowRange s)) view (w .ranges .rows)
 
-  range-here : (r : ℕ) → r < m (root 6) → BodyRange s (bodyAt m (m (index r)))
-  range-here r h = rows-at m (RowRange s) 0 (m (root 6)) ranges-here r (omega arith) (omega arith)
+  range-here : (r : ℕ) → r < m (root rootUsedRows) → BodyRange s (bodyAt m (m (index r)))
+  range-here r h = rows-at m (RowRange s) 0 (m (root rootUsedRows)) ranges-here r (omega arith) (omega arith)
 
-  ids-here : (r : ℕ) → r < m (root 6) → (before m r < idAt m r) × (idAt m r < m (root 5))
+  ids-here : (r : ℕ) → r < m (root rootUsedRows) → (before m r < idAt m r) × (idAt m r < m (root rootNextId))
   unfolding rowsView
-  ids-here r h = ids-at m 1 0 (m (root 6)) (m (root 5)) (rw (view, ← p .book .next) at (w .ids .rise)) (omega arith) r (omega arith) (omega arith)
+  ids-here r h = ids-at m 1 0 (m (root rootUsedRows)) (m (root rootNextId)) (rw (view, ← p .book .next) at (w .ids .rise)) (omega arith) r (omega arith) (omega arith)
 
-  few : m (root 6) ≤ sh .rows
+  few : m (root rootUsedRows) ≤ sh .rows
   few = omega (arith, w .ranges .rowCount, p .book .used, p .capacity)
 
   places-here : (i : ℕ) → i < sh .rows → (m (index i) < sh .rows) × (m (rank (m (index i))) ≡ i)
   places-here i h = let q = p .book .places i (omega (arith, p .capacity)) in (omega (arith, q .0, p .capacity), q .1)
 
-  place-here : (x r : ℕ) → x < sh .rows → m (rank x) < m (root 6) → r < m (root 6) → m (row x 0) ≡ idAt m r → x ≡ m (index r)
-  place-here = one-place m (sh .rows) (m (root 6)) few places-here (λ i h. ids-here i h .0)
+  place-here : (x r : ℕ) → x < sh .rows → m (rank x) < m (root rootUsedRows) → r < m (root rootUsedRows) → m (row x rowId) ≡ idAt m r → x ≡ m (index r)
+  place-here = one-place m (sh .rows) (m (root rootUsedRows)) few places-here (λ i h. ids-here i h .0)
 
-  id-here : (r q : ℕ) → r < m (root 6) → q < m (root 6) → idAt m r ≡ idAt m q → r ≡ q
-  id-here = one-id m (sh .rows) (m (root 6)) few places-here (λ i h. ids-here i h .0)
+  id-here : (r q : ℕ) → r < m (root rootUsedRows) → q < m (root rootUsedRows) → idAt m r ≡ idAt m q → r ≡ q
+  id-here = one-id m (sh .rows) (m (root rootUsedRows)) few places-here (λ i h. ids-here i h .0)
 
-  marks-here : (t : Bool) (i b k : ℕ) → b < sh .tables → inRow t b k (find i (rowsFrom m 0 (m (root 6)))) ≡ bit (eqb (slotWord m b k 0) (tagOf t) && eqb i (m (row (slotWord m b k 2) 0)))
+  marks-here : (t : Bool) (i b k : ℕ) → b < sh .tables → inRow t b k (find i (rowsFrom m 0 (m (root rootUsedRows)))) ≡ bit (eqb (slotWord m b k slotTag) (tagOf t) && eqb i (m (row (slotWord m b k slotPlace) rowId)))
   unfolding rowsView
   marks-here t i b k h = ap (λ (l : List Row). inRow t b k (find i l)) (sym view) ∙ both-marks s (w .marks) t i b k ∙ ap (λ z. bit (isBy t i z)) (sym (slot-of b k h)) ∙ ap bit (is-by m t i b k)
 
   -- an id finds the row of its rank
-  found-here : (t : Bool) (r b k : ℕ) → r < m (root 6) → inRow t b k (find (idAt m r) (rowsFrom m 0 (m (root 6)))) ≡ inRow t b k (some (bodyAt m (m (index r))))
-  found-here t r b k h = find-split m 0 (m (root 6)) (idAt m r)
+  found-here : (t : Bool) (r b k : ℕ) → r < m (root rootUsedRows) → inRow t b k (find (idAt m r) (rowsFrom m 0 (m (root rootUsedRows)))) ≡ inRow t b k (some (bodyAt m (m (index r))))
+  found-here t r b k h = find-split m 0 (m (root rootUsedRows)) (idAt m r)
       (λ q a. ap (inRow t b k) (a .found) ∙ ap (λ (i : ℕ). inRow t b k (some (bodyAt m (m (index i))))) (id-here q r (omega (arith, a .below)) h (a .named)))
       (λ d n. absurd (n r (omega arith) (omega arith) refl))
 
-  single : (t : Bool) (b k x j : ℕ) → b < sh .tables → slotWord m b k 0 ≡ tagOf t → slotWord m b k 2 ≡ x → slotWord m b k 3 ≡ j → Single m sh t b k x j
+  single : (t : Bool) (b k x j : ℕ) → b < sh .tables → slotWord m b k slotTag ≡ tagOf t → slotWord m b k slotPlace ≡ x → slotWord m b k slotPosition ≡ j → Single m sh t b k x j
   single t b k x j lb e ex ej =
       let shown : isMarked (s .tables b .slots k) ≡ true = ap isMarked (sym (slot-of b k lb)) ∙ marked-is m b k ∙ ap (λ (v : ℕ). ltb 0 v && ltb v 3) e ∙ tag-marks t in
       let q = rw (e, ex, ej) at (p .book .marks b k (omega (arith, p .tableCount)) shown) in
       let lx : x < sh .rows = omega (arith, q .0, p .capacity) in
-      let lr : m (rank x) < m (root 6) = omega (arith, q .1, p .book .used) in
-      let z : m (index (m (rank x))) ≡ x = ranked m (sh .rows) (m (root 6)) few places-here (λ i h. ids-here i h .0) x lx in
-      let c : inRow t b k (some (bodyAt m (m (index (m (rank x)))))) ≡ bit (eqb (slotWord m b k 0) (tagOf t) && eqb (idAt m (m (rank x))) (m (row (slotWord m b k 2) 0))) = sym (found-here t (m (rank x)) b k lr) ∙ marks-here t (idAt m (m (rank x))) b k lb in
-      let d : inRow t b k (some (bodyAt m x)) ≡ bit (eqb (tagOf t) (tagOf t) && eqb (m (row x 0)) (m (row x 0))) = rw (z, e, ex) at c in
-      let f = picked (eqb (m (row x 1)) (tagOf t) && eqb b (m (row x 2))) (hits m t x k) (sym (in-body m t b k x) ∙ d ∙ rw (same (tagOf t), same (m (row x 0)))) in
-      let g = both (eqb (m (row x 1)) (tagOf t)) (eqb b (m (row x 2))) (f .0) in
+      let lr : m (rank x) < m (root rootUsedRows) = omega (arith, q .1, p .book .used) in
+      let z : m (index (m (rank x))) ≡ x = ranked m (sh .rows) (m (root rootUsedRows)) few places-here (λ i h. ids-here i h .0) x lx in
+      let c : inRow t b k (some (bodyAt m (m (index (m (rank x)))))) ≡ bit (eqb (slotWord m b k slotTag) (tagOf t) && eqb (idAt m (m (rank x))) (m (row (slotWord m b k slotPlace) rowId))) = sym (found-here t (m (rank x)) b k lr) ∙ marks-here t (idAt m (m (rank x))) b k lb in
+      let d : inRow t b k (some (bodyAt m x)) ≡ bit (eqb (tagOf t) (tagOf t) && eqb (m (row x rowId)) (m (row x rowId))) = rw (z, e, ex) at c in
+      let f = picked (eqb (m (row x rowKind)) (tagOf t) && eqb b (m (row x rowTable))) (hits m t x k) (sym (in-body m t b k x) ∙ d ∙ rw (same (tagOf t), same (m (row x rowId)))) in
+      let g = both (eqb (m (row x rowKind)) (tagOf t)) (eqb b (m (row x rowTable))) (f .0) in
       record {
         mark = record {
           place = lx;
           used = lr;
           position = q .2;
-          kind = eqb-true (m (row x 1)) (tagOf t) (g .0);
+          kind = eqb-true (m (row x rowKind)) (tagOf t) (g .0);
           table = q .3;
           hit = hit-yes m t x j k (q .4) (q .5);
         };
@@ -243,45 +246,45 @@ module _ (sh : Shape) (m : Mem) (s : State) (p : Represents sh m s) (w : WellFor
       }
 
   pub marks-complete : MarksOk m sh
-  marks-complete b k lb lo hi = kind-of (slotWord m b k 0) lo hi (λ t e. rw e (single t b k (slotWord m b k 2) (slotWord m b k 3) lb e refl refl .mark))
+  marks-complete b k lb lo hi = kind-of (slotWord m b k slotTag) lo hi (λ t e. rw e (single t b k (slotWord m b k slotPlace) (slotWord m b k slotPosition) lb e refl refl .mark))
 
   -- an item's slot names the item
-  named : (t : Bool) (r j k : ℕ) → r < m (root 6) → m (row (m (index r)) 2) < sh .tables → m (row (m (index r)) 1) ≡ tagOf t → j < m (row (m (index r)) 3) → hitB m (tagOf t) (m (index r)) j k ≡ true
-      → Names m (m (row (m (index r)) 2)) k (tagOf t) (m (index r)) j
+  named : (t : Bool) (r j k : ℕ) → r < m (root rootUsedRows) → m (row (m (index r)) rowTable) < sh .tables → m (row (m (index r)) rowKind) ≡ tagOf t → j < m (row (m (index r)) rowLength) → hitB m (tagOf t) (m (index r)) j k ≡ true
+      → Names m (m (row (m (index r)) rowTable)) k (tagOf t) (m (index r)) j
   named t r j k lr lb e lj h = at (m (index r)) refl lb e lj h
     where
-      at : (x : ℕ) → m (index r) ≡ x → m (row x 2) < sh .tables → m (row x 1) ≡ tagOf t → j < m (row x 3) → hitB m (tagOf t) x j k ≡ true → Names m (m (row x 2)) k (tagOf t) x j
+      at : (x : ℕ) → m (index r) ≡ x → m (row x rowTable) < sh .tables → m (row x rowKind) ≡ tagOf t → j < m (row x rowLength) → hitB m (tagOf t) x j k ≡ true → Names m (m (row x rowTable)) k (tagOf t) x j
       at x ex lb e lj h =
-          let c : inRow t (m (row x 2)) k (some (bodyAt m x)) ≡ hits m t x k = in-body m t (m (row x 2)) k x ∙ rw (eq-eqb (m (row x 1)) (tagOf t) e, same (m (row x 2))) in
-          let d : inRow t (m (row x 2)) k (some (bodyAt m x)) ≡ bit (eqb (slotWord m (m (row x 2)) k 0) (tagOf t) && eqb (m (row x 0)) (m (row (slotWord m (m (row x 2)) k 2) 0)))
-          = rw ex at (sym (found-here t r (m (row x 2)) k lr) ∙ marks-here t (idAt m r) (m (row x 2)) k lb) in
-          let n : 1 ≤ hits m t x k = tally-has (λ i. hitB m (tagOf t) x i k) 0 (m (row x 3)) j (omega arith) (omega arith) h in
-          let f = both (eqb (slotWord m (m (row x 2)) k 0) (tagOf t)) (eqb (m (row x 0)) (m (row (slotWord m (m (row x 2)) k 2) 0)))
-          (bit-true (eqb (slotWord m (m (row x 2)) k 0) (tagOf t) && eqb (m (row x 0)) (m (row (slotWord m (m (row x 2)) k 2) 0))) (omega (arith, c, d))) in
-          let tag : slotWord m (m (row x 2)) k 0 ≡ tagOf t = eqb-true (slotWord m (m (row x 2)) k 0) (tagOf t) (f .0) in
-          let g = single t (m (row x 2)) k (slotWord m (m (row x 2)) k 2) (slotWord m (m (row x 2)) k 3) lb tag refl refl in
-          let y : slotWord m (m (row x 2)) k 2 ≡ x
-          = place-here (slotWord m (m (row x 2)) k 2) r (g .mark .place) (g .mark .used) lr (sym (eqb-true (m (row x 0)) (m (row (slotWord m (m (row x 2)) k 2) 0)) (f .1)) ∙ ap (λ (v : ℕ). m (row v 0)) (sym ex)) ∙ ex in
+          let c : inRow t (m (row x rowTable)) k (some (bodyAt m x)) ≡ hits m t x k = in-body m t (m (row x rowTable)) k x ∙ rw (eq-eqb (m (row x rowKind)) (tagOf t) e, same (m (row x rowTable))) in
+          let d : inRow t (m (row x rowTable)) k (some (bodyAt m x)) ≡ bit (eqb (slotWord m (m (row x rowTable)) k slotTag) (tagOf t) && eqb (m (row x rowId)) (m (row (slotWord m (m (row x rowTable)) k slotPlace) rowId)))
+          = rw ex at (sym (found-here t r (m (row x rowTable)) k lr) ∙ marks-here t (idAt m r) (m (row x rowTable)) k lb) in
+          let n : 1 ≤ hits m t x k = tally-has (λ i. hitB m (tagOf t) x i k) 0 (m (row x rowLength)) j (omega arith) (omega arith) h in
+          let f = both (eqb (slotWord m (m (row x rowTable)) k slotTag) (tagOf t)) (eqb (m (row x rowId)) (m (row (slotWord m (m (row x rowTable)) k slotPlace) rowId)))
+          (bit-true (eqb (slotWord m (m (row x rowTable)) k slotTag) (tagOf t) && eqb (m (row x rowId)) (m (row (slotWord m (m (row x rowTable)) k slotPlace) rowId))) (omega (arith, c, d))) in
+          let tag : slotWord m (m (row x rowTable)) k slotTag ≡ tagOf t = eqb-true (slotWord m (m (row x rowTable)) k slotTag) (tagOf t) (f .0) in
+          let g = single t (m (row x rowTable)) k (slotWord m (m (row x rowTable)) k slotPlace) (slotWord m (m (row x rowTable)) k slotPosition) lb tag refl refl in
+          let y : slotWord m (m (row x rowTable)) k slotPlace ≡ x
+          = place-here (slotWord m (m (row x rowTable)) k slotPlace) r (g .mark .place) (g .mark .used) lr (sym (eqb-true (m (row x rowId)) (m (row (slotWord m (m (row x rowTable)) k slotPlace) rowId)) (f .1)) ∙ ap (λ (v : ℕ). m (row v rowId)) (sym ex)) ∙ ex in
           let u = rw y at g in
           record {
-            frame = framed m (frameOf m (m (row x 2)) k) (k % 64) 0 (omega (arith, tag, tag-some t));
+            frame = framed m (frameOf m (m (row x rowTable)) k) (k % pageSize) 0 (omega (arith, tag, tag-some t));
             tag = tag;
             place = y;
-            position = tally-two (λ i. hitB m (tagOf t) x i k) 0 (m (row x 3)) (slotWord m (m (row x 2)) k 3) j (omega (arith, u .once)) (omega arith) (omega (arith, u .mark .position)) (omega arith) (omega arith) (u .mark .hit) h;
+            position = tally-two (λ i. hitB m (tagOf t) x i k) 0 (m (row x rowLength)) (slotWord m (m (row x rowTable)) k slotPosition) j (omega (arith, u .once)) (omega arith) (omega (arith, u .mark .position)) (omega arith) (omega arith) (u .mark .hit) h;
           }
 
-  active-here : (r : ℕ) → r < m (root 6) → 1 ≤ m (row (m (index r)) 1) → m (row (m (index r)) 1) ≤ 2 → m (row (m (index r)) 2) < sh .tables → m (head (m (row (m (index r)) 2)) 2) ≡ 0
+  active-here : (r : ℕ) → r < m (root rootUsedRows) → 1 ≤ m (row (m (index r)) rowKind) → m (row (m (index r)) rowKind) ≤ 2 → m (row (m (index r)) rowTable) < sh .tables → m (head (m (row (m (index r)) rowTable)) headLifecycle) ≡ lifeActive
   unfolding rowsView
   active-here r lr lo hi lb =
-      let some-row : anyOpen (m (row (m (index r)) 2)) (s .book .rows) ≡ true
-      = ap (anyOpen (m (row (m (index r)) 2))) view ∙ some-open m (m (row (m (index r)) 2)) 0 (m (root 6)) r (omega arith) (omega arith) (opens-there m (m (index r)) (m (row (m (index r)) 1)) refl lo hi) in
-      active-life (m (head (m (row (m (index r)) 2)) 2)) (m (head (m (row (m (index r)) 2)) 3)) (s .tables (m (row (m (index r)) 2)) .life)
-      (p .tables (m (row (m (index r)) 2)) (omega (arith, p .tableCount)) .life)
-      (bool (isActive (s .tables (m (row (m (index r)) 2)) .life)) (λ e. e) (λ e. clash some-row (w .lifecycles .closing (m (row (m (index r)) 2)) e)))
+      let some-row : anyOpen (m (row (m (index r)) rowTable)) (s .book .rows) ≡ true
+      = ap (anyOpen (m (row (m (index r)) rowTable))) view ∙ some-open m (m (row (m (index r)) rowTable)) 0 (m (root rootUsedRows)) r (omega arith) (omega arith) (opens-there m (m (index r)) (m (row (m (index r)) rowKind)) refl lo hi) in
+      active-life (m (head (m (row (m (index r)) rowTable)) headLifecycle)) (m (head (m (row (m (index r)) rowTable)) headCursor)) (s .tables (m (row (m (index r)) rowTable)) .life)
+      (p .tables (m (row (m (index r)) rowTable)) (omega (arith, p .tableCount)) .life)
+      (bool (isActive (s .tables (m (row (m (index r)) rowTable)) .life)) (λ e. e) (λ e. clash some-row (w .lifecycles .closing (m (row (m (index r)) rowTable)) e)))
 
-  rows-complete : (r : ℕ) → r < m (root 6) → RowOk m sh (m (index r)) (before m r)
+  rows-complete : (r : ℕ) → r < m (root rootUsedRows) → RowOk m sh (m (index r)) (before m r)
   rows-complete r lr =
-      let f = fits m sh s (p .tableCount) (p .objectCount) (m (index r)) (m (row (m (index r)) 1)) refl (body-here r lr) (range-here r lr) in
+      let f = fits m sh s (p .tableCount) (p .objectCount) (m (index r)) (m (row (m (index r)) rowKind)) refl (body-here r lr) (range-here r lr) in
       let i = ids-here r lr in
       record {
         above = i .0;
@@ -292,10 +295,10 @@ module _ (sh : Shape) (m : Mem) (s : State) (p : Represents sh m s) (w : WellFor
         few-items = f .few-items;
         opens = λ n. record { table = f .table n; active = active-here r lr (f .kind) (omega (arith, n, f .known)) (f .table n) };
         items = λ j h. record {
-          reserved = λ e. named true r j (m (item (m (index r)) j 0)) lr (f .table (λ z. omega arith)) e h (hit-yes m true (m (index r)) j (m (item (m (index r)) j 0)) refl (λ z. absurd (omega arith)));
+          reserved = λ e. named true r j (m (item (m (index r)) j itemSlot)) lr (f .table (λ z. omega arith)) e h (hit-yes m true (m (index r)) j (m (item (m (index r)) j itemSlot)) refl (λ z. absurd (omega arith)));
           handle = λ n. f .handle n j h;
           operation = λ e. f .operation e j h;
-          moved = λ e z. named false r j (m (item (m (index r)) j 1)) lr (f .table (λ y. omega arith)) e h (hit-yes m false (m (index r)) j (m (item (m (index r)) j 1)) refl (λ y. z));
+          moved = λ e z. named false r j (m (item (m (index r)) j itemMoved)) lr (f .table (λ y. omega arith)) e h (hit-yes m false (m (index r)) j (m (item (m (index r)) j itemMoved)) refl (λ y. z));
         };
       }
 

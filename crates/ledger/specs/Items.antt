@@ -9,6 +9,8 @@ use borrow.Author.Tests.{eq-eqb, ne-eqb, eqb-true, eqb-false, lt-ltb, ltb-true, 
 use Rattle.words.specs.Pick.{pick, bool, both, both-is}
 use Rattle.layout.specs.declared.Shape.{Shape}
 use Rattle.layout.specs.Layout.{Mem, index, rank, item}
+use Rattle.layout.specs.Fields.{slotTag, slotPlace, slotPosition, itemSlot, itemOperation, itemMoved, itemObject, itemFlags}
+use Rattle.layout.specs.Values.{tagReserved, tagTransferReserved, kindReservation, kindClaim, operationMove, operationCopy}
 use Rattle.representation.specs.Represents.{frameOf, slotWord}
 
 -- ---- several tests at once
@@ -56,62 +58,62 @@ place-yes m sh i p = passes (ltb (m (index i)) (sh .rows) ∷ eqb (m (rank (m (i
 
 -- slot k of table b has the tag t, and names item j of the row in place x
 unfoldable pub namesB : Mem → ℕ → ℕ → ℕ → ℕ → ℕ → Bool
-namesB m b k t x j = tests (ltb 0 (frameOf m b k) ∷ eqb (slotWord m b k 0) t ∷ eqb (slotWord m b k 2) x ∷ eqb (slotWord m b k 3) j ∷ [])
+namesB m b k t x j = tests (ltb 0 (frameOf m b k) ∷ eqb (slotWord m b k slotTag) t ∷ eqb (slotWord m b k slotPlace) x ∷ eqb (slotWord m b k slotPosition) j ∷ [])
 
 pub record Names (m : Mem) (b k t x j : ℕ) : Type 0 where
   pub frame : 0 < frameOf m b k
-  pub tag : slotWord m b k 0 ≡ t
-  pub place : slotWord m b k 2 ≡ x
-  pub position : slotWord m b k 3 ≡ j
+  pub tag : slotWord m b k slotTag ≡ t
+  pub place : slotWord m b k slotPlace ≡ x
+  pub position : slotWord m b k slotPosition ≡ j
 
 pub names-is : (m : Mem) (b k t x j : ℕ) → namesB m b k t x j ≡ true → Names m b k t x j
 unfolding namesB
 names-is m b k t x j e =
-    let p = passed (ltb 0 (frameOf m b k) ∷ eqb (slotWord m b k 0) t ∷ eqb (slotWord m b k 2) x ∷ eqb (slotWord m b k 3) j ∷ []) e in
+    let p = passed (ltb 0 (frameOf m b k) ∷ eqb (slotWord m b k slotTag) t ∷ eqb (slotWord m b k slotPlace) x ∷ eqb (slotWord m b k slotPosition) j ∷ []) e in
     record {
       frame = ltb-true 0 (frameOf m b k) (p .0);
-      tag = eqb-true (slotWord m b k 0) t (p .1 .0);
-      place = eqb-true (slotWord m b k 2) x (p .1 .1 .0);
-      position = eqb-true (slotWord m b k 3) j (p .1 .1 .1 .0);
+      tag = eqb-true (slotWord m b k slotTag) t (p .1 .0);
+      place = eqb-true (slotWord m b k slotPlace) x (p .1 .1 .0);
+      position = eqb-true (slotWord m b k slotPosition) j (p .1 .1 .1 .0);
     }
 
 pub names-yes : (m : Mem) (b k t x j : ℕ) → Names m b k t x j → namesB m b k t x j ≡ true
 unfolding namesB
 names-yes m b k t x j n =
-    passes (ltb 0 (frameOf m b k) ∷ eqb (slotWord m b k 0) t ∷ eqb (slotWord m b k 2) x ∷ eqb (slotWord m b k 3) j ∷ [])
-    (lt-ltb 0 (frameOf m b k) (n .frame), (eq-eqb (slotWord m b k 0) t (n .tag), (eq-eqb (slotWord m b k 2) x (n .place), (eq-eqb (slotWord m b k 3) j (n .position), tt))))
+    passes (ltb 0 (frameOf m b k) ∷ eqb (slotWord m b k slotTag) t ∷ eqb (slotWord m b k slotPlace) x ∷ eqb (slotWord m b k slotPosition) j ∷ [])
+    (lt-ltb 0 (frameOf m b k) (n .frame), (eq-eqb (slotWord m b k slotTag) t (n .tag), (eq-eqb (slotWord m b k slotPlace) x (n .place), (eq-eqb (slotWord m b k slotPosition) j (n .position), tt))))
 
 -- the handle of item j: "object below O; flags 0 to 3"
 unfoldable pub handleB : Mem → Shape → ℕ → ℕ → Bool
-handleB m sh x j = tests (ltb (m (item x j 2)) (sh .objects) ∷ leb (m (item x j 4)) 3 ∷ [])
+handleB m sh x j = tests (ltb (m (item x j itemObject)) (sh .objects) ∷ leb (m (item x j itemFlags)) 3 ∷ [])
 
 pub record HandleOk (m : Mem) (sh : Shape) (x j : ℕ) : Type 0 where
-  pub object : m (item x j 2) < sh .objects
-  pub flags : m (item x j 4) ≤ 3
+  pub object : m (item x j itemObject) < sh .objects
+  pub flags : m (item x j itemFlags) ≤ 3
 
 pub handle-is : (m : Mem) (sh : Shape) (x j : ℕ) → handleB m sh x j ≡ true → HandleOk m sh x j
 unfolding handleB
-handle-is m sh x j e = let p = passed (ltb (m (item x j 2)) (sh .objects) ∷ leb (m (item x j 4)) 3 ∷ []) e in
-    record { object = ltb-true (m (item x j 2)) (sh .objects) (p .0); flags = leb-true (m (item x j 4)) 3 (p .1 .0) }
+handle-is m sh x j e = let p = passed (ltb (m (item x j itemObject)) (sh .objects) ∷ leb (m (item x j itemFlags)) 3 ∷ []) e in
+    record { object = ltb-true (m (item x j itemObject)) (sh .objects) (p .0); flags = leb-true (m (item x j itemFlags)) 3 (p .1 .0) }
 
 pub handle-yes : (m : Mem) (sh : Shape) (x j : ℕ) → HandleOk m sh x j → handleB m sh x j ≡ true
 unfolding handleB
-handle-yes m sh x j h = passes (ltb (m (item x j 2)) (sh .objects) ∷ leb (m (item x j 4)) 3 ∷ [])
-    (lt-ltb (m (item x j 2)) (sh .objects) (h .object), (le-leb (m (item x j 4)) 3 (h .flags), tt))
+handle-yes m sh x j h = passes (ltb (m (item x j itemObject)) (sh .objects) ∷ leb (m (item x j itemFlags)) 3 ∷ [])
+    (lt-ltb (m (item x j itemObject)) (sh .objects) (h .object), (le-leb (m (item x j itemFlags)) 3 (h .flags), tt))
 
 -- item j of a claim of table b: "operation 0 or 1"
 unfoldable pub claimB : Mem → Shape → ℕ → ℕ → ℕ → Bool
-claimB m sh b x j = handleB m sh x j && pick (eqb (m (item x j 0)) 0) (namesB m b (m (item x j 1)) 2 x j) (eqb (m (item x j 0)) 1)
+claimB m sh b x j = handleB m sh x j && pick (eqb (m (item x j itemOperation)) operationMove) (namesB m b (m (item x j itemMoved)) tagTransferReserved x j) (eqb (m (item x j itemOperation)) operationCopy)
 
 -- item j of a row that is a w: 1 a reservation, 2 a claim, else a parcel
 unfoldable pub itemB : Mem → Shape → ℕ → ℕ → ℕ → ℕ → Bool
-itemB m sh w b x j = pick (eqb w 1) (namesB m b (m (item x j 0)) 1 x j) (pick (eqb w 2) (claimB m sh b x j) (handleB m sh x j))
+itemB m sh w b x j = pick (eqb w kindReservation) (namesB m b (m (item x j itemSlot)) tagReserved x j) (pick (eqb w kindClaim) (claimB m sh b x j) (handleB m sh x j))
 
 pub record ItemOk (m : Mem) (sh : Shape) (w b x j : ℕ) : Type 0 where
-  pub reserved : w ≡ 1 → Names m b (m (item x j 0)) 1 x j
-  pub handle : (w ≡ 1 → ⊥) → HandleOk m sh x j
-  pub operation : w ≡ 2 → m (item x j 0) ≤ 1
-  pub moved : w ≡ 2 → m (item x j 0) ≡ 0 → Names m b (m (item x j 1)) 2 x j
+  pub reserved : w ≡ kindReservation → Names m b (m (item x j itemSlot)) tagReserved x j
+  pub handle : (w ≡ kindReservation → ⊥) → HandleOk m sh x j
+  pub operation : w ≡ kindClaim → m (item x j itemOperation) ≤ operationCopy
+  pub moved : w ≡ kindClaim → m (item x j itemOperation) ≡ operationMove → Names m b (m (item x j itemMoved)) tagTransferReserved x j
 
 pub pick-yes : (b x y : Bool) → pick b x y ≡ true → b ≡ true → x ≡ true
 pick-yes b x y e d = rw d at e
@@ -122,29 +124,29 @@ pick-no b x y e d = rw d at e
 pub item-is : (m : Mem) (sh : Shape) (w b x j : ℕ) → itemB m sh w b x j ≡ true → ItemOk m sh w b x j
 unfolding itemB claimB
 item-is m sh w b x j e = record {
-  reserved = λ d. names-is m b (m (item x j 0)) 1 x j (pick-yes (eqb w 1) (namesB m b (m (item x j 0)) 1 x j) _ e (eq-eqb w 1 d));
-  handle = λ n. handle-is m sh x j (bool (eqb w 2) (λ q. claim q .0) (λ q. pick-no (eqb w 2) (claimB m sh b x j) (handleB m sh x j) (rest (ne-eqb w 1 n)) q));
-  operation = λ d. let q = claim (eq-eqb w 2 d) .1 in bool (eqb (m (item x j 0)) 0)
-      (λ z. omega (arith, eqb-true (m (item x j 0)) 0 z))
-      (λ z. omega (arith, eqb-true (m (item x j 0)) 1 (pick-no (eqb (m (item x j 0)) 0) (namesB m b (m (item x j 1)) 2 x j) (eqb (m (item x j 0)) 1) q z)));
-  moved = λ d z. names-is m b (m (item x j 1)) 2 x j
-      (pick-yes (eqb (m (item x j 0)) 0) (namesB m b (m (item x j 1)) 2 x j) (eqb (m (item x j 0)) 1) (claim (eq-eqb w 2 d) .1) (eq-eqb (m (item x j 0)) 0 z));
+  reserved = λ d. names-is m b (m (item x j itemSlot)) tagReserved x j (pick-yes (eqb w kindReservation) (namesB m b (m (item x j itemSlot)) tagReserved x j) _ e (eq-eqb w kindReservation d));
+  handle = λ n. handle-is m sh x j (bool (eqb w kindClaim) (λ q. claim q .0) (λ q. pick-no (eqb w kindClaim) (claimB m sh b x j) (handleB m sh x j) (rest (ne-eqb w kindReservation n)) q));
+  operation = λ d. let q = claim (eq-eqb w kindClaim d) .1 in bool (eqb (m (item x j itemOperation)) operationMove)
+      (λ z. omega (arith, eqb-true (m (item x j itemOperation)) operationMove z))
+      (λ z. omega (arith, eqb-true (m (item x j itemOperation)) operationCopy (pick-no (eqb (m (item x j itemOperation)) operationMove) (namesB m b (m (item x j itemMoved)) tagTransferReserved x j) (eqb (m (item x j itemOperation)) operationCopy) q z)));
+  moved = λ d z. names-is m b (m (item x j itemMoved)) tagTransferReserved x j
+      (pick-yes (eqb (m (item x j itemOperation)) operationMove) (namesB m b (m (item x j itemMoved)) tagTransferReserved x j) (eqb (m (item x j itemOperation)) operationCopy) (claim (eq-eqb w kindClaim d) .1) (eq-eqb (m (item x j itemOperation)) operationMove z));
 }
   where
-    rest : eqb w 1 ≡ false → pick (eqb w 2) (claimB m sh b x j) (handleB m sh x j) ≡ true
-    rest q = pick-no (eqb w 1) (namesB m b (m (item x j 0)) 1 x j) (pick (eqb w 2) (claimB m sh b x j) (handleB m sh x j)) e q
+    rest : eqb w kindReservation ≡ false → pick (eqb w kindClaim) (claimB m sh b x j) (handleB m sh x j) ≡ true
+    rest q = pick-no (eqb w kindReservation) (namesB m b (m (item x j itemSlot)) tagReserved x j) (pick (eqb w kindClaim) (claimB m sh b x j) (handleB m sh x j)) e q
 
-    claim : eqb w 2 ≡ true
-        → (handleB m sh x j ≡ true) × (pick (eqb (m (item x j 0)) 0) (namesB m b (m (item x j 1)) 2 x j) (eqb (m (item x j 0)) 1) ≡ true)
-    claim q = both (handleB m sh x j) (pick (eqb (m (item x j 0)) 0) (namesB m b (m (item x j 1)) 2 x j) (eqb (m (item x j 0)) 1))
-        (pick-yes (eqb w 2) (claimB m sh b x j) (handleB m sh x j) (rest (ne-eqb w 1 (λ z. omega (arith, eqb-true w 2 q)))) q)
+    claim : eqb w kindClaim ≡ true
+        → (handleB m sh x j ≡ true) × (pick (eqb (m (item x j itemOperation)) operationMove) (namesB m b (m (item x j itemMoved)) tagTransferReserved x j) (eqb (m (item x j itemOperation)) operationCopy) ≡ true)
+    claim q = both (handleB m sh x j) (pick (eqb (m (item x j itemOperation)) operationMove) (namesB m b (m (item x j itemMoved)) tagTransferReserved x j) (eqb (m (item x j itemOperation)) operationCopy))
+        (pick-yes (eqb w kindClaim) (claimB m sh b x j) (handleB m sh x j) (rest (ne-eqb w kindReservation (λ z. omega (arith, eqb-true w kindClaim q)))) q)
 
 pub item-yes : (m : Mem) (sh : Shape) (w b x j : ℕ) → ItemOk m sh w b x j → itemB m sh w b x j ≡ true
 unfolding itemB claimB
-item-yes m sh w b x j i = bool (eqb w 1)
-    (λ e. rw e (names-yes m b (m (item x j 0)) 1 x j (i .reserved (eqb-true w 1 e))))
-    (λ e. rw e (let h = handle-yes m sh x j (i .handle (eqb-false w 1 e)) in bool (eqb w 2)
-    (λ d. rw d (both-is (handleB m sh x j) _ h (bool (eqb (m (item x j 0)) 0)
-    (λ z. rw z (names-yes m b (m (item x j 1)) 2 x j (i .moved (eqb-true w 2 d) (eqb-true (m (item x j 0)) 0 z))))
-    (λ z. rw z (eq-eqb (m (item x j 0)) 1 (omega (arith, i .operation (eqb-true w 2 d), eqb-false (m (item x j 0)) 0 z)))))))
+item-yes m sh w b x j i = bool (eqb w kindReservation)
+    (λ e. rw e (names-yes m b (m (item x j itemSlot)) tagReserved x j (i .reserved (eqb-true w kindReservation e))))
+    (λ e. rw e (let h = handle-yes m sh x j (i .handle (eqb-false w kindReservation e)) in bool (eqb w kindClaim)
+    (λ d. rw d (both-is (handleB m sh x j) _ h (bool (eqb (m (item x j itemOperation)) operationMove)
+    (λ z. rw z (names-yes m b (m (item x j itemMoved)) tagTransferReserved x j (i .moved (eqb-true w kindClaim d) (eqb-true (m (item x j itemOperation)) operationMove z))))
+    (λ z. rw z (eq-eqb (m (item x j itemOperation)) operationCopy (omega (arith, i .operation (eqb-true w kindClaim d), eqb-false (m (item x j itemOperation)) operationMove z)))))))
     (λ d. rw d h)))

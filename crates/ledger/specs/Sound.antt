@@ -17,6 +17,9 @@ use Rattle.invariant.specs.Marks.{inRow, isBy}
 use Rattle.invariant.specs.Counts.{none-in}
 use Rattle.layout.specs.declared.Shape.{Shape}
 use Rattle.layout.specs.Layout.{Mem, Addr, root, head, index, row, item}
+use Rattle.layout.specs.Fields.{rootNextId, rootUsedRows, headLifecycle, slotTag, slotPlace, slotPosition, rowKind, rowTable, rowLength, itemSlot, itemOperation, itemRights, itemGranted}
+use Rattle.layout.specs.Values.{tagTransferReserved, tagOccupied, kindReservation, kindParcel, lifeActive, operationMove}
+use Rattle.layout.specs.Sizes.{batchMax}
 use Rattle.representation.specs.Represents.{slotWord, slotIn, isMarked, BookIs}
 use Rattle.representation.specs.Told.{tagOf}
 use Rattle.ledger.specs.Items.{HandleOk}
@@ -30,11 +33,11 @@ pub record Shows (sh : Shape) (m : Mem) (s : State) : Type 0 where
   pub tableCount : s .tableCount ≡ sh .tables
   pub objectCount : s .objectCount ≡ sh .objects
   pub capacity : s .book .capacity ≡ sh .rows
-  pub next : s .book .next ≡ m (root 5)
+  pub next : s .book .next ≡ m (root rootNextId)
   pub rows : s .book .rows ≡ rowsView m
   pub slots : (b k : ℕ) → b < sh .tables → s .tables b .slots k ≡ slotIn m b k
   pub beyond : (b k : ℕ) → sh .tables ≤ b → s .tables b .slots k ≡ absent
-  pub life : (b : ℕ) → b < sh .tables → m (head b 2) ≡ 0 → isActive (s .tables b .life) ≡ true
+  pub life : (b : ℕ) → b < sh .tables → m (head b headLifecycle) ≡ lifeActive → isActive (s .tables b .life) ≡ true
 
 all-from : {A : Type 0} (P : A → Type 0) (f : ℕ → A) (j n : ℕ) → ((i : ℕ) → j ≤ i → i < j + n → P (f i)) → All P (from f j n)
 all-from P f j zero h = tt
@@ -44,7 +47,7 @@ all-rows : (m : Mem) (P : Row → Type 0) (i n : ℕ) → ((r : ℕ) → i ≤ r
 all-rows m P i zero h = tt
 all-rows m P i (suc n) h = (h i (omega arith) (omega arith), all-rows m P (suc i) n (λ r a b. h r (omega arith) (omega arith)))
 
-batch-from : {A : Type 0} (f : ℕ → A) (n : ℕ) → 1 ≤ n → n ≤ 64 → Batch (from f 0 n)
+batch-from : {A : Type 0} (f : ℕ → A) (n : ℕ) → 1 ≤ n → n ≤ batchMax → Batch (from f 0 n)
 unfolding maxBatch
 batch-from f n a b = (omega (arith, length-from f 0 n), omega (arith, length-from f 0 n))
 
@@ -55,16 +58,16 @@ none-open m b i (suc n) h =
 
 module _ (sh : Shape) (m : Mem) (l : Ledger sh m) where
   -- the position holds the slot, as BookIs.marks says it
-  at-item : (t x j k : ℕ) → 0 < t → t < 3 → hitB m t x j k ≡ true → (m (item x j (t - 1)) ≡ k) × (t ≡ 2 → m (item x j 0) ≡ 0)
+  at-item : (t x j k : ℕ) → 0 < t → t < tagOccupied → hitB m t x j k ≡ true → (m (item x j (t - 1)) ≡ k) × (t ≡ tagTransferReserved → m (item x j itemOperation) ≡ operationMove)
   at-item zero x j k a b h = absurd (omega arith)
   at-item (suc zero) x j k a b h = (sym (hit-reserved m x j k h), λ e. absurd (omega arith))
   at-item (suc (suc zero)) x j k a b h = (sym (hit-moved m x j k h .1), λ e. hit-moved m x j k h .0)
   at-item (suc (suc (suc t))) x j k a b h = absurd (omega arith)
 
   module _ (s : State) (v : Shows sh m s) where
-    pub length-shown : length (s .book .rows) ≡ m (root 6)
+    pub length-shown : length (s .book .rows) ≡ m (root rootUsedRows)
     unfolding rowsView
-    length-shown = ap length (v .rows) ∙ length-rows m 0 (m (root 6))
+    length-shown = ap length (v .rows) ∙ length-rows m 0 (m (root rootUsedRows))
 
     pub row-count : length (s .book .rows) ≤ s .book .capacity
     row-count = omega (arith, length-shown, l .used, v .capacity)
@@ -77,60 +80,60 @@ module _ (sh : Shape) (m : Mem) (l : Ledger sh m) where
       rows = rw (v .rows) (rows-shown sh m l);
       places = λ i h. let p = l .places i (omega (arith, v .capacity)) in (omega (arith, p .below, v .capacity), p .ranked);
       marks = λ b k h e. let lb : b < sh .tables = omega (arith, v .tableCount) in
-          let d = both (ltb 0 (slotWord m b k 0)) (ltb (slotWord m b k 0) 3) (sym (marked-is m b k) ∙ ap isMarked (sym (v .slots b k lb)) ∙ e) in
-          let lo = ltb-true 0 (slotWord m b k 0) (d .0) in let hi = ltb-true (slotWord m b k 0) 3 (d .1) in
+          let d = both (ltb 0 (slotWord m b k slotTag)) (ltb (slotWord m b k slotTag) tagOccupied) (sym (marked-is m b k) ∙ ap isMarked (sym (v .slots b k lb)) ∙ e) in
+          let lo = ltb-true 0 (slotWord m b k slotTag) (d .0) in let hi = ltb-true (slotWord m b k slotTag) tagOccupied (d .1) in
           let c = l .marks b k lb lo hi in
-          let i = at-item (slotWord m b k 0) (slotWord m b k 2) (slotWord m b k 3) k lo hi (c .hit) in
+          let i = at-item (slotWord m b k slotTag) (slotWord m b k slotPlace) (slotWord m b k slotPosition) k lo hi (c .hit) in
           (omega (arith, c .place, v .capacity), omega (arith, c .used, length-shown), c .position, c .table, i .0, i .1);
     }
 
     -- "row ids are 1 or more and rise below the next id, itself 1 or more"
-    pub ids-hold : m (root 5) < 2 ^ 64 → Ids s
+    pub ids-hold : m (root rootNextId) < 2 ^ 64 → Ids s
     ids-hold h = record { rise = rw (v .rows, v .next) (ids-shown sh m l); next = omega (arith, v .next) }
 
     -- ranges: the words are below 2^64
     module _ (small : (a : Addr) → m a < 2 ^ 64) where
       handle-range : (x j : ℕ) → HandleOk m sh x j → HandleRange s (handleAt m x j)
       unfolding knownFlags
-      handle-range x j h = record { object = omega (arith, h .object, v .objectCount); rights = small (item x j 3); flags = h .flags }
+      handle-range x j h = record { object = omega (arith, h .object, v .objectCount); rights = small (item x j itemRights); flags = h .flags }
 
       entry-range : (x j : ℕ) → HandleOk m sh x j → EntryRange s (itemAt m x j)
-      entry-range x j h = go (m (item x j 0))
+      entry-range x j h = go (m (item x j itemOperation))
         where
           go : (o : ℕ) → EntryRange s (entryBy m x j o)
-          go zero = (handle-range x j h, small (item x j 5))
+          go zero = (handle-range x j h, small (item x j itemGranted))
           go (suc o) = handle-range x j h
 
       body-range : (x last : ℕ) → RowOk m sh x last → BodyRange s (bodyAt m x)
-      body-range x last o = go (m (row x 1)) refl
+      body-range x last o = go (m (row x rowKind)) refl
         where
-          table : (m (row x 1) ≡ 3 → ⊥) → m (row x 2) < s .tableCount
+          table : (m (row x rowKind) ≡ kindParcel → ⊥) → m (row x rowTable) < s .tableCount
           table n = omega (arith, o .opens n .table, v .tableCount)
 
-          handle : (j : ℕ) → j < m (row x 3) → (m (row x 1) ≡ 1 → ⊥) → HandleOk m sh x j
+          handle : (j : ℕ) → j < m (row x rowLength) → (m (row x rowKind) ≡ kindReservation → ⊥) → HandleOk m sh x j
           handle j h n = o .items j h .handle n
 
-          go : (w : ℕ) → m (row x 1) ≡ w → BodyRange s (bodyBy m x w)
+          go : (w : ℕ) → m (row x rowKind) ≡ w → BodyRange s (bodyBy m x w)
           go zero e = absurd (omega (arith, o .kind))
-          go (suc zero) e = (table (λ z. omega arith), batch-from (λ j. m (item x j 0)) (m (row x 3)) (o .some-item) (o .few-items))
+          go (suc zero) e = (table (λ z. omega arith), batch-from (λ j. m (item x j itemSlot)) (m (row x rowLength)) (o .some-item) (o .few-items))
           go (suc (suc zero)) e = (
             table (λ z. omega arith),
-            batch-from (itemAt m x) (m (row x 3)) (o .some-item) (o .few-items),
-            all-from (EntryRange s) (itemAt m x) 0 (m (row x 3)) (λ j a b. entry-range x j (handle j (omega arith) (λ z. omega arith))),
+            batch-from (itemAt m x) (m (row x rowLength)) (o .some-item) (o .few-items),
+            all-from (EntryRange s) (itemAt m x) 0 (m (row x rowLength)) (λ j a b. entry-range x j (handle j (omega arith) (λ z. omega arith))),
           )
           go (suc (suc (suc w))) e = (
-            batch-from (handleAt m x) (m (row x 3)) (o .some-item) (o .few-items),
-            all-from (HandleRange s) (handleAt m x) 0 (m (row x 3)) (λ j a b. handle-range x j (handle j (omega arith) (λ z. omega arith))),
+            batch-from (handleAt m x) (m (row x rowLength)) (o .some-item) (o .few-items),
+            all-from (HandleRange s) (handleAt m x) 0 (m (row x rowLength)) (λ j a b. handle-range x j (handle j (omega arith) (λ z. omega arith))),
           )
 
       pub row-ranges : All (RowRange s) (s .book .rows)
       unfolding rowsView
-      row-ranges = subst (All (RowRange s)) (sym (v .rows)) (all-rows m (RowRange s) 0 (m (root 6)) (λ r a b. body-range (m (index r)) (before m r) (l .rows r (omega arith))))
+      row-ranges = subst (All (RowRange s)) (sym (v .rows)) (all-rows m (RowRange s) 0 (m (root rootUsedRows)) (λ r a b. body-range (m (index r)) (before m r) (l .rows r (omega arith))))
 
     -- rows name tables that there are
     far : (t : Bool) (i b k : ℕ) → sh .tables ≤ b → inRow t b k (find i (rowsView m)) ≡ 0
     unfolding rowsView
-    far t i b k h = find-split m 0 (m (root 6)) i
+    far t i b k h = find-split m 0 (m (root rootUsedRows)) i
         (λ r a. let o = l .rows r (omega (arith, a .below)) in
         ap (inRow t b k) (a .found) ∙ in-body m t b k (m (index r)) ∙ away t (m (index r)) (before m r) _ o)
         (λ d n. ap (inRow t b k) d ∙ none-in t b k)
@@ -139,10 +142,10 @@ module _ (sh : Shape) (m : Mem) (l : Ledger sh m) where
         tags true = omega arith
         tags false = omega arith
 
-        away : (u : Bool) (x last z : ℕ) → RowOk m sh x last → pick (eqb (m (row x 1)) (tagOf u) && eqb b (m (row x 2))) z 0 ≡ 0
-        away u x last z o = bool (eqb (m (row x 1)) (tagOf u) && eqb b (m (row x 2)))
-            (λ e. let p = both (eqb (m (row x 1)) (tagOf u)) (eqb b (m (row x 2))) e in
-            absurd (omega (arith, o .opens (λ q. omega (arith, tags u, eqb-true (m (row x 1)) (tagOf u) (p .0))) .table, eqb-true b (m (row x 2)) (p .1))))
+        away : (u : Bool) (x last z : ℕ) → RowOk m sh x last → pick (eqb (m (row x rowKind)) (tagOf u) && eqb b (m (row x rowTable))) z 0 ≡ 0
+        away u x last z o = bool (eqb (m (row x rowKind)) (tagOf u) && eqb b (m (row x rowTable)))
+            (λ e. let p = both (eqb (m (row x rowKind)) (tagOf u)) (eqb b (m (row x rowTable))) e in
+            absurd (omega (arith, o .opens (λ q. omega (arith, tags u, eqb-true (m (row x rowKind)) (tagOf u) (p .0))) .table, eqb-true b (m (row x rowTable)) (p .1))))
             (λ e. rw e refl)
 
     marked-by : (t : Bool) (i b k : ℕ) → inRow t b k (find i (s .book .rows)) ≡ bit (isBy t i (s .tables b .slots k))
@@ -161,15 +164,15 @@ module _ (sh : Shape) (m : Mem) (l : Ledger sh m) where
     -- "a table not active has no open reservation or claim"
     pub closing-holds : (b : ℕ) → isActive (s .tables b .life) ≡ false → anyOpen b (s .book .rows) ≡ false
     unfolding rowsView
-    closing-holds b e = rw (v .rows) (none-open m b 0 (m (root 6)) (λ r p q. shut (m (index r)) (before m r) (l .rows r (omega arith))))
+    closing-holds b e = rw (v .rows) (none-open m b 0 (m (root rootUsedRows)) (λ r p q. shut (m (index r)) (before m r) (l .rows r (omega arith))))
       where
         shut : (x last : ℕ) → RowOk m sh x last → opensIn b (bodyAt m x) ≡ false
-        shut x last o = go (m (row x 1)) refl
+        shut x last o = go (m (row x rowKind)) refl
           where
-            other : (m (row x 1) ≡ 3 → ⊥) → eqb b (m (row x 2)) ≡ false
-            other n = ne-eqb b (m (row x 2)) (λ q. let a = o .opens n in clash (v .life (m (row x 2)) (a .table) (a .active)) (rw q at e))
+            other : (m (row x rowKind) ≡ kindParcel → ⊥) → eqb b (m (row x rowTable)) ≡ false
+            other n = ne-eqb b (m (row x rowTable)) (λ q. let a = o .opens n in clash (v .life (m (row x rowTable)) (a .table) (a .active)) (rw q at e))
 
-            go : (w : ℕ) → m (row x 1) ≡ w → opensIn b (bodyBy m x w) ≡ false
+            go : (w : ℕ) → m (row x rowKind) ≡ w → opensIn b (bodyBy m x w) ≡ false
             go zero d = refl
             go (suc zero) d = other (λ z. omega arith)
             go (suc (suc zero)) d = other (λ z. omega arith)

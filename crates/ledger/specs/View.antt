@@ -6,6 +6,8 @@ use native.Mathlib.Omega.{arith}
 use lib.ListN.{length}
 use Rattle.model.specs.State.{Handle, Entry, Entry.moved, Entry.copied, Body, Body.reservation, Body.claim, Body.parcel, Row}
 use Rattle.layout.specs.Layout.{Mem, root, index, row, item}
+use Rattle.layout.specs.Fields.{rootUsedRows, rowId, rowKind, rowTable, rowLength, itemSlot, itemOperation, itemMoved, itemObject, itemRights, itemFlags, itemGranted}
+use Rattle.layout.specs.Values.{kindClaim, kindParcel}
 use Rattle.representation.specs.Represents.{Items, BodyIs, HandleIs, EntryIs, RowsAre}
 
 -- ---- the view
@@ -16,28 +18,28 @@ from f j zero = []
 from f j (suc n) = f j ∷ from f (suc j) n
 
 abbrev pub handleAt : Mem → ℕ → ℕ → Handle
-handleAt m x j = record { object = m (item x j 2); rights = m (item x j 3); flags = m (item x j 4) }
+handleAt m x j = record { object = m (item x j itemObject); rights = m (item x j itemRights); flags = m (item x j itemFlags) }
 
 -- by its operation
 abbrev pub entryBy : Mem → ℕ → ℕ → ℕ → Entry
-entryBy m x j zero = moved (m (item x j 1)) (handleAt m x j) (m (item x j 5))
+entryBy m x j zero = moved (m (item x j itemMoved)) (handleAt m x j) (m (item x j itemGranted))
 entryBy m x j (suc o) = copied (handleAt m x j)
 
 abbrev pub itemAt : Mem → ℕ → ℕ → Entry
-itemAt m x j = entryBy m x j (m (item x j 0))
+itemAt m x j = entryBy m x j (m (item x j itemOperation))
 
 -- by what the row is
 abbrev pub bodyBy : Mem → ℕ → ℕ → Body
-bodyBy m x zero = parcel (from (handleAt m x) 0 (m (row x 3)))
-bodyBy m x (suc zero) = reservation (m (row x 2)) (from (λ j. m (item x j 0)) 0 (m (row x 3)))
-bodyBy m x (suc (suc zero)) = claim (m (row x 2)) (from (itemAt m x) 0 (m (row x 3)))
-bodyBy m x (suc (suc (suc w))) = parcel (from (handleAt m x) 0 (m (row x 3)))
+bodyBy m x zero = parcel (from (handleAt m x) 0 (m (row x rowLength)))
+bodyBy m x (suc zero) = reservation (m (row x rowTable)) (from (λ j. m (item x j itemSlot)) 0 (m (row x rowLength)))
+bodyBy m x (suc (suc zero)) = claim (m (row x rowTable)) (from (itemAt m x) 0 (m (row x rowLength)))
+bodyBy m x (suc (suc (suc w))) = parcel (from (handleAt m x) 0 (m (row x rowLength)))
 
 abbrev pub bodyAt : Mem → ℕ → Body
-bodyAt m x = bodyBy m x (m (row x 1))
+bodyAt m x = bodyBy m x (m (row x rowKind))
 
 abbrev pub rowAt : Mem → ℕ → Row
-rowAt m x = record { id = m (row x 0); body = bodyAt m x }
+rowAt m x = record { id = m (row x rowId); body = bodyAt m x }
 
 -- THE BOOK'S ROWS, by rank
 abbrev pub rowsFrom : Mem → ℕ → ℕ → List Row
@@ -45,7 +47,7 @@ rowsFrom m i zero = []
 rowsFrom m i (suc n) = rowAt m (m (index i)) ∷ rowsFrom m (suc i) n
 
 unfoldable pub rowsView : Mem → List Row
-rowsView m = rowsFrom m 0 (m (root 6))
+rowsView m = rowsFrom m 0 (m (root rootUsedRows))
 
 pub length-from : {A : Type 0} (f : ℕ → A) (j n : ℕ) → length (from f j n) ≡ n
 length-from f j zero = refl
@@ -61,21 +63,21 @@ pub items-from : {A : Type 0} (P : ℕ → A → Type 0) (f : ℕ → A) (j n : 
 items-from P f j zero h = tt
 items-from P f j (suc n) h = (h j (omega arith) (omega arith), items-from P f (suc j) n (λ i a b. h i (omega arith) (omega arith)))
 
-entry-shows : (m : Mem) (x j : ℕ) → m (item x j 0) ≤ 1 → EntryIs m x j (itemAt m x j)
-entry-shows m x j h = go (m (item x j 0)) refl h
+entry-shows : (m : Mem) (x j : ℕ) → m (item x j itemOperation) ≤ 1 → EntryIs m x j (itemAt m x j)
+entry-shows m x j h = go (m (item x j itemOperation)) refl h
   where
-    go : (o : ℕ) → m (item x j 0) ≡ o → o ≤ 1 → EntryIs m x j (entryBy m x j o)
+    go : (o : ℕ) → m (item x j itemOperation) ≡ o → o ≤ 1 → EntryIs m x j (entryBy m x j o)
     go zero e l = (e, refl, (refl, refl, refl), refl)
     go (suc o) e l = (omega arith, (refl, refl, refl))
 
-pub body-shows : (m : Mem) (x : ℕ) → 1 ≤ m (row x 1) → m (row x 1) ≤ 3 → (m (row x 1) ≡ 2 → (j : ℕ) → j < m (row x 3) → m (item x j 0) ≤ 1) → BodyIs m x (bodyAt m x)
-body-shows m x lo hi ops = go (m (row x 1)) refl lo hi ops
+pub body-shows : (m : Mem) (x : ℕ) → 1 ≤ m (row x rowKind) → m (row x rowKind) ≤ kindParcel → (m (row x rowKind) ≡ kindClaim → (j : ℕ) → j < m (row x rowLength) → m (item x j itemOperation) ≤ 1) → BodyIs m x (bodyAt m x)
+body-shows m x lo hi ops = go (m (row x rowKind)) refl lo hi ops
   where
-    go : (w : ℕ) → m (row x 1) ≡ w → 1 ≤ w → w ≤ 3 → (w ≡ 2 → (j : ℕ) → j < m (row x 3) → m (item x j 0) ≤ 1) → BodyIs m x (bodyBy m x w)
+    go : (w : ℕ) → m (row x rowKind) ≡ w → 1 ≤ w → w ≤ kindParcel → (w ≡ kindClaim → (j : ℕ) → j < m (row x rowLength) → m (item x j itemOperation) ≤ 1) → BodyIs m x (bodyBy m x w)
     go zero e a b f = absurd (omega arith)
-    go (suc zero) e a b f = (e, refl, sym (length-from (λ j. m (item x j 0)) 0 (m (row x 3))), items-from (λ j k. m (item x j 0) ≡ k) (λ j. m (item x j 0)) 0 (m (row x 3)) (λ i p q. refl))
-    go (suc (suc zero)) e a b f = (e, refl, sym (length-from (itemAt m x) 0 (m (row x 3))), items-from (EntryIs m x) (itemAt m x) 0 (m (row x 3)) (λ i p q. entry-shows m x i (f refl i (omega arith))))
-    go (suc (suc (suc w))) e a b f = (omega arith, sym (length-from (handleAt m x) 0 (m (row x 3))), items-from (HandleIs m x) (handleAt m x) 0 (m (row x 3)) (λ i p q. (refl, refl, refl)))
+    go (suc zero) e a b f = (e, refl, sym (length-from (λ j. m (item x j itemSlot)) 0 (m (row x rowLength))), items-from (λ j k. m (item x j itemSlot) ≡ k) (λ j. m (item x j itemSlot)) 0 (m (row x rowLength)) (λ i p q. refl))
+    go (suc (suc zero)) e a b f = (e, refl, sym (length-from (itemAt m x) 0 (m (row x rowLength))), items-from (EntryIs m x) (itemAt m x) 0 (m (row x rowLength)) (λ i p q. entry-shows m x i (f refl i (omega arith))))
+    go (suc (suc (suc w))) e a b f = (omega arith, sym (length-from (handleAt m x) 0 (m (row x rowLength))), items-from (HandleIs m x) (handleAt m x) 0 (m (row x rowLength)) (λ i p q. (refl, refl, refl)))
 
 pub rows-show : (m : Mem) (i n : ℕ) → ((r : ℕ) → i ≤ r → r < i + n → BodyIs m (m (index r)) (bodyAt m (m (index r)))) → RowsAre m i (rowsFrom m i n)
 rows-show m i zero h = tt
@@ -95,11 +97,11 @@ items-view P f g j [] p = refl
 items-view P f g j (y ∷ l) p = rw (g j y (p .0)) (ap (λ (t : List _). f j ∷ t) (items-view P f g (suc j) l (p .1)))
 
 pub body-view : (m : Mem) (x : ℕ) (y : Body) → BodyIs m x y → y ≡ bodyAt m x
-body-view m x (reservation b ks) p = rw (p .0, p .1, p .2) (ap (reservation b) (items-view (λ j k. m (item x j 0) ≡ k) (λ j. m (item x j 0)) (λ j y e. sym e) 0 ks (p .3)))
+body-view m x (reservation b ks) p = rw (p .0, p .1, p .2) (ap (reservation b) (items-view (λ j k. m (item x j itemSlot) ≡ k) (λ j. m (item x j itemSlot)) (λ j y e. sym e) 0 ks (p .3)))
 body-view m x (claim b es) p = rw (p .0, p .1, p .2) (ap (claim b) (items-view (EntryIs m x) (itemAt m x) (entry-view m x) 0 es (p .3)))
 body-view m x (parcel hs) p = rw (p .0, p .1) (ap parcel (items-view (HandleIs m x) (handleAt m x) (handle-view m x) 0 hs (p .2)))
 
-row-view : (m : Mem) (x : ℕ) (r : Row) → m (row x 0) ≡ r .id → r .body ≡ bodyAt m x → r ≡ rowAt m x
+row-view : (m : Mem) (x : ℕ) (r : Row) → m (row x rowId) ≡ r .id → r .body ≡ bodyAt m x → r ≡ rowAt m x
 row-view m x r e d = rw (e, ← d)
 
 pub rows-are-view : (m : Mem) (i : ℕ) (rs : List Row) → RowsAre m i rs → rs ≡ rowsFrom m i (length rs)

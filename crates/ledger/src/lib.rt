@@ -3,9 +3,13 @@ ghost use mathlib.Core.Path.{_≡_};
 ghost use Prim.Native.Nat.{_≤_, _<_};
 ghost use Rattle.words.specs.All.{all};
 ghost use Rattle.layout.specs.Layout.{load as loadAt, root};
+ghost use Rattle.layout.specs.Fields.{rootUsedRows};
 ghost use Rattle.ledger.specs.Items.{placeB, namesB, handleB, claimB, itemB};
 ghost use Rattle.ledger.specs.Ledger.{openB, rowB, rankB, hitB, markB, bookB};
 use layout::Shape;
+use layout::field;
+use layout::size;
+use layout::value;
 
 // Whether rank i of the index names a place, and the place knows its rank.
 fn place_ok(s: &[u64], sh: Shape, i: u64) -> bool
@@ -46,16 +50,16 @@ fn names(s: &[u64], sh: Shape, b: u64, k: u64, t: u64, x: u64, j: u64) -> bool
         return false;
     }
     let f = fr - 1;
-    let q = k % 64;
-    let tag = layout::cell_word(s, sh, f, q, 0);
+    let q = k % size::PAGE_SIZE;
+    let tag = layout::cell_word(s, sh, f, q, field::SLOT_TAG);
     if tag != t {
         return false;
     }
-    let place = layout::cell_word(s, sh, f, q, 2);
+    let place = layout::cell_word(s, sh, f, q, field::SLOT_PLACE);
     if place != x {
         return false;
     }
-    let position = layout::cell_word(s, sh, f, q, 3);
+    let position = layout::cell_word(s, sh, f, q, field::SLOT_POSITION);
     if position != j {
         return false;
     }
@@ -66,13 +70,13 @@ fn names(s: &[u64], sh: Shape, b: u64, k: u64, t: u64, x: u64, j: u64) -> bool
 fn handle_ok(s: &[u64], sh: Shape, x: u64, j: u64) -> bool
     ensures { λ r. ⌜ r ≡ handleB (loadAt (now (s .entry)) sh) sh x j ⌝ }
 {
-    let o = layout::item_word(s, sh, x, j, 2);
+    let o = layout::item_word(s, sh, x, j, field::ITEM_OBJECT);
     let n = sh.objects as u64;
     if o >= n {
         return false;
     }
-    let f = layout::item_word(s, sh, x, j, 4);
-    if f > 3 {
+    let f = layout::item_word(s, sh, x, j, field::ITEM_FLAGS);
+    if f > value::KNOWN_FLAGS {
         return false;
     }
     true
@@ -85,23 +89,23 @@ fn claim_ok(s: &[u64], sh: Shape, b: u64, x: u64, j: u64) -> bool
     if !handle_ok(s, sh, x, j) {
         return false;
     }
-    let op = layout::item_word(s, sh, x, j, 0);
-    if op == 0 {
-        let k = layout::item_word(s, sh, x, j, 1);
-        return names(s, sh, b, k, 2, x, j);
+    let op = layout::item_word(s, sh, x, j, field::ITEM_OPERATION);
+    if op == value::OPERATION_MOVE {
+        let k = layout::item_word(s, sh, x, j, field::ITEM_MOVED);
+        return names(s, sh, b, k, value::TAG_TRANSFER_RESERVED, x, j);
     }
-    words::eq(op, 1)
+    words::eq(op, value::OPERATION_COPY)
 }
 
 // Item j of a row that is a w: 1 a reservation, 2 a claim, else a parcel.
 fn item_ok(s: &[u64], sh: Shape, w: u64, b: u64, x: u64, j: u64) -> bool
     ensures { λ r. ⌜ r ≡ itemB (loadAt (now (s .entry)) sh) sh w b x j ⌝ }
 {
-    if w == 1 {
-        let k = layout::item_word(s, sh, x, j, 0);
-        return names(s, sh, b, k, 1, x, j);
+    if w == value::KIND_RESERVATION {
+        let k = layout::item_word(s, sh, x, j, field::ITEM_SLOT);
+        return names(s, sh, b, k, value::TAG_RESERVED, x, j);
     }
-    if w == 2 {
+    if w == value::KIND_CLAIM {
         return claim_ok(s, sh, b, x, j);
     }
     handle_ok(s, sh, x, j)
@@ -124,15 +128,15 @@ fn items_ok(s: &[u64], sh: Shape, w: u64, b: u64, x: u64, n: u64) -> bool
 fn open_ok(s: &[u64], sh: Shape, w: u64, b: u64) -> bool
     ensures { λ r. ⌜ r ≡ openB (loadAt (now (s .entry)) sh) sh w b ⌝ }
 {
-    if w == 3 {
+    if w == value::KIND_PARCEL {
         return true;
     }
     let n = sh.tables as u64;
     if b >= n {
         return false;
     }
-    let life = layout::head_word(s, sh, b, 2);
-    if life != 0 {
+    let life = layout::head_word(s, sh, b, field::HEAD_LIFECYCLE);
+    if life != value::LIFE_ACTIVE {
         return false;
     }
     true
@@ -142,27 +146,27 @@ fn open_ok(s: &[u64], sh: Shape, w: u64, b: u64) -> bool
 fn row_ok(s: &[u64], sh: Shape, x: u64, last: u64) -> bool
     ensures { λ r. ⌜ r ≡ rowB (loadAt (now (s .entry)) sh) sh x last ⌝ }
 {
-    let id = layout::row_word(s, sh, x, 0);
-    let next = layout::root_word(s, sh, 5);
-    let w = layout::row_word(s, sh, x, 1);
-    let b = layout::row_word(s, sh, x, 2);
-    let n = layout::row_word(s, sh, x, 3);
+    let id = layout::row_word(s, sh, x, field::ROW_ID);
+    let next = layout::root_word(s, sh, field::ROOT_NEXT_ID);
+    let w = layout::row_word(s, sh, x, field::ROW_KIND);
+    let b = layout::row_word(s, sh, x, field::ROW_TABLE);
+    let n = layout::row_word(s, sh, x, field::ROW_LENGTH);
     if id <= last {
         return false;
     }
     if id >= next {
         return false;
     }
-    if w < 1 {
+    if w < value::KIND_RESERVATION {
         return false;
     }
-    if w > 3 {
+    if w > value::KIND_PARCEL {
         return false;
     }
     if n < 1 {
         return false;
     }
-    if n > 64 {
+    if n > size::BATCH_MAX {
         return false;
     }
     if !open_ok(s, sh, w, b) {
@@ -173,9 +177,9 @@ fn row_ok(s: &[u64], sh: Shape, x: u64, last: u64) -> bool
 
 // The rows in use, by rank.
 fn rows_ok(s: &[u64], sh: Shape) -> bool
-    ensures { λ r. ⌜ r ≡ all (loadAt (now (s .entry)) sh (root 6)) (rankB (loadAt (now (s .entry)) sh) sh) ⌝ }
+    ensures { λ r. ⌜ r ≡ all (loadAt (now (s .entry)) sh (root rootUsedRows)) (rankB (loadAt (now (s .entry)) sh) sh) ⌝ }
 {
-    let n = layout::root_word(s, sh, 6);
+    let n = layout::root_word(s, sh, field::ROOT_USED_ROWS);
     let mut last: u64 = 0;
     let mut i: u64 = 0;
     while i < n {
@@ -183,24 +187,25 @@ fn rows_ok(s: &[u64], sh: Shape) -> bool
         if !row_ok(s, sh, x, last) {
             return false;
         }
-        last = layout::row_word(s, sh, x, 0);
+        last = layout::row_word(s, sh, x, field::ROW_ID);
         i += 1;
     }
     true
 }
 
-// Whether item j of the row in place x, which is a t, names slot k.
+// Whether item j of the row in place x names slot k, by the slot's tag t: a reservation's item in word 0, a claim's as a move.
 fn hit(s: &[u64], sh: Shape, t: u64, x: u64, j: u64, k: u64) -> bool
     ensures { λ r. ⌜ r ≡ hitB (loadAt (now (s .entry)) sh) t x j k ⌝ }
 {
-    let a = layout::item_word(s, sh, x, j, 0);
-    if t == 1 {
+    // The same word as ITEM_SLOT, of a reservation.
+    let a = layout::item_word(s, sh, x, j, field::ITEM_OPERATION);
+    if t == value::TAG_RESERVED {
         return words::eq(k, a);
     }
-    if a != 0 {
+    if a != value::OPERATION_MOVE {
         return false;
     }
-    let c = layout::item_word(s, sh, x, j, 1);
+    let c = layout::item_word(s, sh, x, j, field::ITEM_MOVED);
     words::eq(k, c)
 }
 
@@ -213,19 +218,19 @@ pub fn mark_ok(s: &[u64], sh: Shape, b: u64, k: u64, t: u64, x: u64, j: u64) -> 
         return false;
     }
     let rank = layout::rank_word(s, sh, x);
-    let used = layout::root_word(s, sh, 6);
+    let used = layout::root_word(s, sh, field::ROOT_USED_ROWS);
     if rank >= used {
         return false;
     }
-    let n = layout::row_word(s, sh, x, 3);
+    let n = layout::row_word(s, sh, x, field::ROW_LENGTH);
     if j >= n {
         return false;
     }
-    let w = layout::row_word(s, sh, x, 1);
+    let w = layout::row_word(s, sh, x, field::ROW_KIND);
     if w != t {
         return false;
     }
-    let c = layout::row_word(s, sh, x, 2);
+    let c = layout::row_word(s, sh, x, field::ROW_TABLE);
     if c != b {
         return false;
     }
@@ -236,8 +241,8 @@ pub fn mark_ok(s: &[u64], sh: Shape, b: u64, k: u64, t: u64, x: u64, j: u64) -> 
 pub fn check_book(s: &[u64], sh: Shape) -> bool
     ensures { λ r. ⌜ r ≡ bookB (loadAt (now (s .entry)) sh) sh ⌝ }
 {
-    let used = layout::root_word(s, sh, 6);
-    let next = layout::root_word(s, sh, 5);
+    let used = layout::root_word(s, sh, field::ROOT_USED_ROWS);
+    let next = layout::root_word(s, sh, field::ROOT_NEXT_ID);
     let rows = sh.rows as u64;
     if used > rows {
         return false;

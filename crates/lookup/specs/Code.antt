@@ -18,6 +18,9 @@ use Rattle.layout.specs.declared.Shape.{Shape}
 use Rattle.layout.specs.declared.CellWords.{CellWords}
 use Rattle.layout.specs.Layout.{Mem, head, entry, cell, object, load}
 use Rattle.layout.specs.Cells.{cellAt}
+use Rattle.layout.specs.Fields.{headMask, headLifecycle, headPages, headFirstEntry, entryFrame, slotTag, slotGeneration, objectKoid, objectKind}
+use Rattle.layout.specs.Values.{tagTransferReserved, tagOccupied}
+use Rattle.layout.specs.Sizes.{pageSize, pagesMax, slotsMax}
 use Rattle.representation.specs.Represents.{wordIn, frameOf, slotWord}
 use Rattle.storage.specs.Cells.{cellIn, slotAt, cell-some}
 use Rattle.lookup.specs.declared.PreparedHandle.{PreparedHandle}
@@ -37,30 +40,30 @@ use Rattle.lookup.specs.Scan.{lengthAt, entryBy, entryOf, FrameFor, next
 
 -- `slot_frame`
 module _ (m : Mem) (b k : ℕ) where
-  pub frame-far : 16777215 ≤ k → 0 ≡ frameOf m b k
+  pub frame-far : slotsMax ≤ k → 0 ≡ frameOf m b k
   unfolding maxSlots
-  frame-far h = rw (le-ltb k 16777215 h)
+  frame-far h = rw (le-ltb k slotsMax h)
 
-  module _ (h : k < 16777215) (n : ℕ) (q : n ≡ m (head b 5)) where
-    pub frame-past : n ≤ k / 64 → 0 ≡ frameOf m b k
+  module _ (h : k < slotsMax) (n : ℕ) (q : n ≡ m (head b headPages)) where
+    pub frame-past : n ≤ k / pageSize → 0 ≡ frameOf m b k
     unfolding maxSlots
-    frame-past l = rw (lt-ltb k 16777215 h, le-ltb (k / 64) (m (head b 5)) (omega arith))
+    frame-past l = rw (lt-ltb k slotsMax h, le-ltb (k / pageSize) (m (head b headPages)) (omega arith))
 
-    pub frame-read : (e r : ℕ) → k / 64 < n → e ≡ m (head b 10) → r ≡ m (entry (e + k / 64) 0) → r ≡ frameOf m b k
+    pub frame-read : (e r : ℕ) → k / pageSize < n → e ≡ m (head b headFirstEntry) → r ≡ m (entry (e + k / pageSize) entryFrame) → r ≡ frameOf m b k
     unfolding maxSlots
-    frame-read e r l d i = rw (lt-ltb k 16777215 h, lt-ltb (k / 64) (m (head b 5)) (omega arith)) (i ∙ ap (λ (x : ℕ). m (entry (x + k / 64) 0)) d)
+    frame-read e r l d i = rw (lt-ltb k slotsMax h, lt-ltb (k / pageSize) (m (head b headPages)) (omega arith)) (i ∙ ap (λ (x : ℕ). m (entry (x + k / pageSize) entryFrame)) d)
 
 -- `slot_words`
 pub words-by : (m : Mem) (fr j x : ℕ) (w : CellWords) → 0 < fr → x ≡ fr - 1 → w ≡ cellAt m x j → w ≡ cellIn m fr j
 words-by m fr j x w h e i = cell-some m fr j w h (i ∙ ap (λ (y : ℕ). cellAt m y j) e)
 
 -- `tag_in`
-pub tag-by : (m : Mem) (fr j t : ℕ) → 0 < fr → t ≡ m (cell (fr - 1) j 0) → t ≡ wordIn m fr j 0
-tag-by m fr j t h e = let z : suc (fr - 1) ≡ fr = omega arith in e ∙ ap (λ (x : ℕ). wordIn m x j 0) z
+pub tag-by : (m : Mem) (fr j t : ℕ) → 0 < fr → t ≡ m (cell (fr - 1) j slotTag) → t ≡ wordIn m fr j slotTag
+tag-by m fr j t h e = let z : suc (fr - 1) ≡ fr = omega arith in e ∙ ap (λ (x : ℕ). wordIn m x j slotTag) z
 
 -- the frame's slot is the table's
-pub words-of : (m : Mem) (b k fr : ℕ) (w : CellWords) → fr ≡ frameOf m b k → w ≡ cellIn m fr (k % 64) → w ≡ slotAt m b k
-words-of m b k fr w e i = i ∙ ap (λ (x : ℕ). cellIn m x (k % 64)) e
+pub words-of : (m : Mem) (b k fr : ℕ) (w : CellWords) → fr ≡ frameOf m b k → w ≡ cellIn m fr (k % pageSize) → w ≡ slotAt m b k
+words-of m b k fr w e i = i ∙ ap (λ (x : ℕ). cellIn m x (k % pageSize)) e
 
 -- `open_slot`
 module _ (m : Mem) (b k g : ℕ) (w : CellWords) (n : ℕ) (e : w ≡ slotAt m b k) (d : n ≡ slotRefusal g w) where
@@ -69,8 +72,8 @@ module _ (m : Mem) (b k g : ℕ) (w : CellWords) (n : ℕ) (e : w ≡ slotAt m b
 
   open-by : viewOpened (slotView m b k g) ≡ pick (eqb (slotRefusal g (slotAt m b k)) 0) (Found (handleAt m b k)) (Refused (slotRefusal g (slotAt m b k)))
   unfolding slotView
-  open-by = bool (eqb g (slotWord m b k 1))
-      (λ p. bool (eqb (slotWord m b k 0) 3) (λ q. rw (p, q)) (λ q. bool (eqb (slotWord m b k 0) 2) (λ r. rw (p, q, r)) (λ r. rw (p, q, r))))
+  open-by = bool (eqb g (slotWord m b k slotGeneration))
+      (λ p. bool (eqb (slotWord m b k slotTag) tagOccupied) (λ q. rw (p, q)) (λ q. bool (eqb (slotWord m b k slotTag) tagTransferReserved) (λ r. rw (p, q, r)) (λ r. rw (p, q, r))))
       (λ p. rw p)
 
   module _ (t : Bool) (q : t ≡ eqb n 0) where
@@ -87,8 +90,8 @@ module _ (m : Mem) (b k g : ℕ) (w : CellWords) (n : ℕ) (e : w ≡ slotAt m b
     open-not z = no-is _ _ _ _ (none ∙ z) (ap Refused number) ∙ sym open-by
 
 -- `open_value`
-module _ (m : Mem) (b v mask : ℕ) (d : Decoded) (e : mask ≡ m (head b 1)) (q : d ≡ decodeOf mask v) where
-  decoded : decodeOf (m (head b 1)) v ≡ d
+module _ (m : Mem) (b v mask : ℕ) (d : Decoded) (e : mask ≡ m (head b headMask)) (q : d ≡ decodeOf mask v) where
+  decoded : decodeOf (m (head b headMask)) v ≡ d
   decoded = sym (q ∙ ap (λ (x : ℕ). decodeOf x v) e)
 
   pub view-at : (k g : ℕ) → d ≡ At k g → slotView m b k g ≡ viewOf m b v
@@ -123,7 +126,7 @@ module _ (m : Mem) (sh : Shape) (b : ℕ) (t : Bool) (e : t ≡ ltb b (sh .table
   unfolding tableRefusal
   table-unknown n = no-is _ _ _ _ (sym e ∙ n) refl
 
-  module _ (y : t ≡ true) (w : ℕ) (i : w ≡ m (head b 2)) (t₂ : Bool) (e₂ : t₂ ≡ eqb w 0) where
+  module _ (y : t ≡ true) (w : ℕ) (i : w ≡ m (head b headLifecycle)) (t₂ : Bool) (e₂ : t₂ ≡ eqb w 0) where
     pub table-active : t₂ ≡ true → 0 ≡ tableRefusal m sh b
     unfolding tableRefusal
     table-active z = yes-is _ _ _ _ (sym e ∙ y) (yes-is _ _ _ _ (ap (λ (x : ℕ). eqb x 0) (sym i) ∙ sym e₂ ∙ z) refl)
@@ -146,7 +149,7 @@ module _ (m : Mem) (sh : Shape) (b v n : ℕ) (e : n ≡ tableRefusal m sh b) (t
   open-view r z i = yes-is _ _ _ _ (tested ∙ z) i
 
 -- `info_of`
-pub info-by : (m : Mem) (h : PreparedHandle) (o k : ℕ) → o ≡ m (object (h .object) 0) → k ≡ m (object (h .object) 1)
+pub info-by : (m : Mem) (h : PreparedHandle) (o k : ℕ) → o ≡ m (object (h .object) objectKoid) → k ≡ m (object (h .object) objectKind)
     → _≡_ {A = HandleInfo} (record { koid = record { 0 = o }; kind = k; rights = h .rights; flags = h .flags }) (infoAt m h)
 info-by m h o k p q = rw (p, q)
 
@@ -184,7 +187,7 @@ module _ (ws os os′ : List ℕ) (sh : Shape) (base r kind : ℕ) (h : Prepared
   resolve-denied z q = no-is _ _ _ _ (sym e ∙ z) (ap (both ws) q)
 
   module _ (y : t ≡ true) (i : HandleInfo) (d : i ≡ infoAt (load ws sh) h) (t₂ : Bool) (e₂ : t₂ ≡ eqb (i .kind) kind) where
-    kinds : eqb (load ws sh (object (h .object) 1)) kind ≡ t₂
+    kinds : eqb (load ws sh (object (h .object) objectKind)) kind ≡ t₂
     kinds = sym (e₂ ∙ ap (λ (z : HandleInfo). eqb (z .kind) kind) d)
 
     pub resolve-other : t₂ ≡ false → os′ ≡ answered os base (4 ∷ []) → both ws os′ ≡ resolvedR ws os sh base r kind h
@@ -197,11 +200,11 @@ module _ (ws os os′ : List ℕ) (sh : Shape) (base r kind : ℕ) (h : Prepared
         (ap (both ws) (q ∙ ap (λ (x : HandleInfo). answered os base (0 ∷ h .object ∷ x .koid .0 ∷ h .rights ∷ [])) d)))
 
 -- `table_length`
-pub length-most : (m : Mem) (b n : ℕ) → n ≡ m (head b 5) → 262144 ≤ n → 16777215 ≡ lengthAt m b
+pub length-most : (m : Mem) (b n : ℕ) → n ≡ m (head b headPages) → pagesMax ≤ n → slotsMax ≡ lengthAt m b
 unfolding maxSlots
 length-most m b n e h = omega arith
 
-pub length-few : (m : Mem) (b n r : ℕ) → n ≡ m (head b 5) → r ≡ min (n * 64) 16777215 → r ≡ lengthAt m b
+pub length-few : (m : Mem) (b n r : ℕ) → n ≡ m (head b headPages) → r ≡ min (n * pageSize) slotsMax → r ≡ lengthAt m b
 unfolding maxSlots
 length-few m b n r e q = q ∙ rw e
 
@@ -214,15 +217,15 @@ entry-by m mask k w h v i p r d = let z : v ≡ record { 0 = encode mask k (w .g
     value-is v x e = rw (← e)
 
 -- `snapshot_at`
-pub entry-at : (m : Mem) (b k mask : ℕ) (w : CellWords) (r : SnapshotEntry) → mask ≡ m (head b 1) → w ≡ slotAt m b k → r ≡ entryBy m mask k w → r ≡ entryOf m b k
+pub entry-at : (m : Mem) (b k mask : ℕ) (w : CellWords) (r : SnapshotEntry) → mask ≡ m (head b headMask) → w ≡ slotAt m b k → r ≡ entryBy m mask k w → r ≡ entryOf m b k
 entry-at m b k mask w r p q i = i ∙ rw (p, q)
 
 -- `frame_on`
-pub frame-next : (m : Mem) (b k fr : ℕ) → k + 1 < 16777215 → fr ≡ frameOf m b k → FrameFor m b (k + 1) fr
+pub frame-next : (m : Mem) (b k fr : ℕ) → k + 1 < slotsMax → fr ≡ frameOf m b k → FrameFor m b (k + 1) fr
 unfolding maxSlots
 frame-next m b k fr l e off =
-    let z : (k + 1) / 64 ≡ k / 64 = omega arith in
-    e ∙ rw (lt-ltb k 16777215 (omega arith), lt-ltb (k + 1) 16777215 l, z)
+    let z : (k + 1) / pageSize ≡ k / pageSize = omega arith in
+    e ∙ rw (lt-ltb k slotsMax (omega arith), lt-ltb (k + 1) slotsMax l, z)
 
 -- `next_cursor`
 module _ (stop long : ℕ) (t : Bool) (q : t ≡ ltb stop long) where

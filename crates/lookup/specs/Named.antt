@@ -15,6 +15,9 @@ pub use Rattle.model.specs.Decided.{onActive, onHandle}
 use Rattle.model.specs.Decision.{Decision, Decision.refusal, unless_refuse_then_}
 use Rattle.layout.specs.declared.Shape.{Shape}
 use Rattle.layout.specs.Layout.{Mem, head, cell}
+use Rattle.layout.specs.Fields.{headMask, headLifecycle, headCursor, slotTag, slotGeneration, slotObject, slotRights, slotFlags}
+use Rattle.layout.specs.Values.{tagTransferReserved, tagOccupied, lifeActive}
+use Rattle.layout.specs.Sizes.{pageSize}
 use Rattle.representation.specs.Represents.{wordIn, frameOf, slotWord, tagged, slotFrom, slotIn, TableIs, Represents}
 use Rattle.representation.specs.Told.{life-tells}
 use Rattle.lookup.specs.declared.PreparedHandle.{PreparedHandle}
@@ -25,17 +28,17 @@ use Rattle.lookup.specs.View.{handleAt, shown, slotView, decodedView, vi
 
 -- ---- slots
 
--- a slot of tag 3 is occupied, by the handle that stands in it
+-- a slot with the tag of an occupied one is occupied, by the handle that stands in it
 tagged-occupied : (m : Mem) (t g x y w : ℕ) → t ≡ 3 → tagged m t g x y w ≡ occupied g (record { object = x; rights = y; flags = w })
 tagged-occupied m t g x y w e = rw e
 
-from-occupied : (m : Mem) (fr j : ℕ) → wordIn m fr j 0 ≡ 3
-    → slotFrom m fr j ≡ occupied (wordIn m fr j 1) (record { object = wordIn m fr j 2; rights = wordIn m fr j 3; flags = wordIn m fr j 4 })
+from-occupied : (m : Mem) (fr j : ℕ) → wordIn m fr j slotTag ≡ tagOccupied
+    → slotFrom m fr j ≡ occupied (wordIn m fr j slotGeneration) (record { object = wordIn m fr j slotObject; rights = wordIn m fr j slotRights; flags = wordIn m fr j slotFlags })
 from-occupied m zero j e = absurd (omega arith)
-from-occupied m (suc fr) j e = tagged-occupied m (m (cell fr j 0)) (m (cell fr j 1)) (m (cell fr j 2)) (m (cell fr j 3)) (m (cell fr j 4)) e
+from-occupied m (suc fr) j e = tagged-occupied m (m (cell fr j slotTag)) (m (cell fr j slotGeneration)) (m (cell fr j slotObject)) (m (cell fr j slotRights)) (m (cell fr j slotFlags)) e
 
-pub slot-occupied : (m : Mem) (b k : ℕ) → slotWord m b k 0 ≡ 3 → slotIn m b k ≡ occupied (handleAt m b k .generation) (handleOf (handleAt m b k))
-slot-occupied m b k e = from-occupied m (frameOf m b k) (k % 64) e
+pub slot-occupied : (m : Mem) (b k : ℕ) → slotWord m b k slotTag ≡ tagOccupied → slotIn m b k ≡ occupied (handleAt m b k .generation) (handleOf (handleAt m b k))
+slot-occupied m b k e = from-occupied m (frameOf m b k) (k % pageSize) e
 
 -- and no other is
 tag-tells : (m : Mem) (t g x y w : ℕ) → eqb t 3 ≡ isOccupied (tagged m t g x y w)
@@ -45,12 +48,12 @@ tag-tells m (suc (suc zero)) g x y w = refl
 tag-tells m (suc (suc (suc zero))) g x y w = refl
 tag-tells m (suc (suc (suc (suc t)))) g x y w = ne-eqb (suc (suc (suc (suc t)))) 3 (λ e. omega arith)
 
-from-tells : (m : Mem) (fr j : ℕ) → eqb (wordIn m fr j 0) 3 ≡ isOccupied (slotFrom m fr j)
+from-tells : (m : Mem) (fr j : ℕ) → eqb (wordIn m fr j slotTag) 3 ≡ isOccupied (slotFrom m fr j)
 from-tells m zero j = refl
-from-tells m (suc fr) j = tag-tells m (m (cell fr j 0)) (m (cell fr j 1)) (m (cell fr j 2)) (m (cell fr j 3)) (m (cell fr j 4))
+from-tells m (suc fr) j = tag-tells m (m (cell fr j slotTag)) (m (cell fr j slotGeneration)) (m (cell fr j slotObject)) (m (cell fr j slotRights)) (m (cell fr j slotFlags))
 
-pub slot-tells : (m : Mem) (b k : ℕ) → eqb (slotWord m b k 0) 3 ≡ isOccupied (slotIn m b k)
-slot-tells m b k = from-tells m (frameOf m b k) (k % 64)
+pub slot-tells : (m : Mem) (b k : ℕ) → eqb (slotWord m b k slotTag) tagOccupied ≡ isOccupied (slotIn m b k)
+slot-tells m b k = from-tells m (frameOf m b k) (k % pageSize)
 
 -- ---- views
 
@@ -67,13 +70,13 @@ tagged-named m k g (suc (suc (suc (suc t)))) n x y w =
     let q : eqb (suc (suc (suc (suc t)))) 2 ≡ false = ne-eqb (suc (suc (suc (suc t)))) 2 (λ e. omega arith) in
     bool (eqb g n) (λ e. rw (e, p, q)) (λ e. rw e)
 
-from-named : (m : Mem) (fr j k g : ℕ) → named (shown g (wordIn m fr j 0) (recordOf k (wordIn m fr j 1) (wordIn m fr j 2) (wordIn m fr j 3) (wordIn m fr j 4))) ≡ viewSlot k g (slotFrom m fr j)
+from-named : (m : Mem) (fr j k g : ℕ) → named (shown g (wordIn m fr j slotTag) (recordOf k (wordIn m fr j slotGeneration) (wordIn m fr j slotObject) (wordIn m fr j slotRights) (wordIn m fr j slotFlags))) ≡ viewSlot k g (slotFrom m fr j)
 from-named m zero j k g = bool (eqb g 0) (λ e. rw e) (λ e. rw e)
-from-named m (suc fr) j k g = tagged-named m k g (m (cell fr j 0)) (m (cell fr j 1)) (m (cell fr j 2)) (m (cell fr j 3)) (m (cell fr j 4))
+from-named m (suc fr) j k g = tagged-named m k g (m (cell fr j slotTag)) (m (cell fr j slotGeneration)) (m (cell fr j slotObject)) (m (cell fr j slotRights)) (m (cell fr j slotFlags))
 
 slot-named : (m : Mem) (b k g : ℕ) → named (slotView m b k g) ≡ viewSlot k g (slotIn m b k)
 unfolding slotView
-slot-named m b k g = from-named m (frameOf m b k) (k % 64) k g
+slot-named m b k g = from-named m (frameOf m b k) (k % pageSize) k g
 
 module _ (m : Mem) (b : ℕ) (t : Table) (i : TableIs m b t) where
   -- THE VIEW of a represented table is the model's
@@ -87,7 +90,7 @@ module _ (m : Mem) (b : ℕ) (t : Table) (i : TableIs m b t) where
   -- a handle that a value names stands in its slot
   pub view-found : (v : ℕ) (h : PreparedHandle) → viewOf m b v ≡ Holds h → t .slots (h .slot) ≡ occupied (h .generation) (handleOf h)
   unfolding viewOf slotView
-  view-found v h e = sym (i .slots (h .slot)) ∙ decoded-found (decodeOf (m (head b 1)) v) e
+  view-found v h e = sym (i .slots (h .slot)) ∙ decoded-found (decodeOf (m (head b headMask)) v) e
     where
       nothing : {A : Type 0} → Invalid ≡ Holds h → A
       nothing z = let y : _≡_ {A = ℕ} 0 1 = cc in absurd (omega arith)
@@ -95,14 +98,14 @@ module _ (m : Mem) (b : ℕ) (t : Table) (i : TableIs m b t) where
       moving : {A : Type 0} → Busy ≡ Holds h → A
       moving z = let y : _≡_ {A = ℕ} 0 1 = cc in absurd (omega arith)
 
-      here : (k : ℕ) → slotWord m b k 0 ≡ 3 → Holds (handleAt m b k) ≡ Holds h → slotIn m b (h .slot) ≡ occupied (h .generation) (handleOf h)
+      here : (k : ℕ) → slotWord m b k slotTag ≡ tagOccupied → Holds (handleAt m b k) ≡ Holds h → slotIn m b (h .slot) ≡ occupied (h .generation) (handleOf h)
       here k d z = let y : h ≡ handleAt m b k = cc in rw y (slot-occupied m b k d)
 
       slot-found : (k g : ℕ) → slotView m b k g ≡ Holds h → slotIn m b (h .slot) ≡ occupied (h .generation) (handleOf h)
-      slot-found k g z = bool (eqb g (slotWord m b k 1))
-          (λ p. bool (eqb (slotWord m b k 0) 3)
-          (λ q. here k (eqb-true (slotWord m b k 0) 3 q) (rw (p, q) at z))
-          (λ q. bool (eqb (slotWord m b k 0) 2) (λ r. moving (rw (p, q, r) at z)) (λ r. nothing (rw (p, q, r) at z))))
+      slot-found k g z = bool (eqb g (slotWord m b k slotGeneration))
+          (λ p. bool (eqb (slotWord m b k slotTag) tagOccupied)
+          (λ q. here k (eqb-true (slotWord m b k slotTag) tagOccupied q) (rw (p, q) at z))
+          (λ q. bool (eqb (slotWord m b k slotTag) tagTransferReserved) (λ r. moving (rw (p, q, r) at z)) (λ r. nothing (rw (p, q, r) at z))))
           (λ p. nothing (rw p at z))
 
       decoded-found : (d : Decoded) → decodedView m b d ≡ Holds h → slotIn m b (h .slot) ≡ occupied (h .generation) (handleOf h)
@@ -129,8 +132,8 @@ module _ (sh : Shape) (m : Mem) (s : State) (i : Represents sh m s) (b : ℕ) wh
   unfolding tableRefusal
   table-open e = bool (ltb b (sh .tables))
       (λ p. let l : b < s .tableCount = omega (arith, ltb-true b (sh .tables) p, i .tableCount) in
-      let d = life-tells (m (head b 2)) (m (head b 3)) (s .tables b .life) (i .tables b l .life) in
-      bool (eqb (m (head b 2)) 0)
+      let d = life-tells (m (head b headLifecycle)) (m (head b headCursor)) (s .tables b .life) (i .tables b l .life) in
+      bool (eqb (m (head b headLifecycle)) lifeActive)
       (λ q. record { known = l; active = sym d ∙ q })
       (λ q. let z : _≡_ {A = ℕ} 16 0 = rw (p, q) at e in absurd (omega arith)))
       (λ p. let z : _≡_ {A = ℕ} 18 0 = rw p at e in absurd (omega arith))
@@ -139,8 +142,8 @@ module _ (sh : Shape) (m : Mem) (s : State) (i : Represents sh m s) (b : ℕ) wh
   unfolding tableRefusal
   table-refused n e c f = bool (ltb b (sh .tables))
       (λ p. let l : b < s .tableCount = omega (arith, ltb-true b (sh .tables) p, i .tableCount) in
-      let d = life-tells (m (head b 2)) (m (head b 3)) (s .tables b .life) (i .tables b l .life) in
-      bool (eqb (m (head b 2)) 0)
+      let d = life-tells (m (head b headLifecycle)) (m (head b headCursor)) (s .tables b .life) (i .tables b l .life) in
+      bool (eqb (m (head b headLifecycle)) lifeActive)
       (λ q. absurd (c (sym (rw (p, q) at e))))
       (λ q. let z : 16 ≡ n = rw (p, q) at e in let x : isActive (s .tables b .life) ≡ false = sym d ∙ q in rw (lt-ltb b (s .tableCount) l, x, ← z)))
       (λ p. let z : 18 ≡ n = rw p at e in rw (le-ltb b (s .tableCount) (omega (arith, ltb-false b (sh .tables) p, i .tableCount)), ← z))

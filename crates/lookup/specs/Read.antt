@@ -14,6 +14,7 @@ use Rattle.model.specs.Words.{infoWords, usedWords}
 use Rattle.model.specs.WellFormed.{SlotRange, WellFormed}
 use Rattle.layout.specs.declared.Shape.{Shape}
 use Rattle.layout.specs.Layout.{Mem, object, load}
+use Rattle.layout.specs.Fields.{objectKoid, objectKind}
 use Rattle.representation.specs.Represents.{Represents, Rep}
 use Rattle.answer.specs.Does.{Both, both, answered, refuseR, Does, does-refused, does-accepted}
 use Rattle.lookup.specs.declared.PreparedHandle.{PreparedHandle}
@@ -30,7 +31,7 @@ onOpened (Found h) refused found = found h
 
 -- mod.rs `HandleInfo`, of a handle
 abbrev pub infoAt : Mem → PreparedHandle → HandleInfo
-infoAt m h = record { koid = record { 0 = m (object (h .object) 0) }; kind = m (object (h .object) 1); rights = h .rights; flags = h .flags }
+infoAt m h = record { koid = record { 0 = m (object (h .object) objectKoid) }; kind = m (object (h .object) objectKind); rights = h .rights; flags = h .flags }
 
 -- "get_info, close: 1 koid, 2 kind, 3 rights, 4 flags"
 abbrev pub infoList : HandleInfo → List ℕ
@@ -46,8 +47,8 @@ getInfoR ws os sh base b v =
 unfoldable pub resolvedR : List ℕ → List ℕ → Shape → ℕ → ℕ → ℕ → PreparedHandle → Both
 resolvedR ws os sh base r kind h =
     pick (contains (h .rights) r)
-    (pick (eqb (load ws sh (object (h .object) 1)) kind)
-    (both ws (answered os base (0 ∷ h .object ∷ load ws sh (object (h .object) 0) ∷ h .rights ∷ [])))
+    (pick (eqb (load ws sh (object (h .object) objectKind)) kind)
+    (both ws (answered os base (0 ∷ h .object ∷ load ws sh (object (h .object) objectKoid) ∷ h .rights ∷ [])))
     (refuseR ws os base 4))
     (refuseR ws os base 5)
 

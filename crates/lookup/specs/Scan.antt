@@ -11,6 +11,8 @@ use Rattle.model.specs.Storage.{Walk, walk}
 use Rattle.layout.specs.declared.Shape.{Shape}
 use Rattle.layout.specs.declared.CellWords.{CellWords}
 use Rattle.layout.specs.Layout.{Mem, head, load}
+use Rattle.layout.specs.Fields.{headMask, headPages, slotGeneration}
+use Rattle.layout.specs.Sizes.{pageSize}
 use Rattle.representation.specs.Represents.{frameOf, slotWord, slotIn}
 use Rattle.answer.specs.Does.{Both, both, answered, refuseR}
 use Rattle.lookup.specs.declared.SnapshotEntry.{SnapshotEntry}
@@ -22,11 +24,11 @@ use Rattle.lookup.specs.Read.{infoAt, infoList}
 
 -- "Detached pages still count in the scan's length"
 abbrev pub lengthAt : Mem → ℕ → ℕ
-lengthAt m b = min (m (head b 5) * 64) maxSlots
+lengthAt m b = min (m (head b headPages) * pageSize) maxSlots
 
 -- the entry of an occupied slot: its value and its handle's info
 abbrev pub entryOf : Mem → ℕ → ℕ → SnapshotEntry
-entryOf m b k = record { value = record { 0 = encode (m (head b 1)) k (slotWord m b k 1) }; info = infoAt m (handleAt m b k) }
+entryOf m b k = record { value = record { 0 = encode (m (head b headMask)) k (slotWord m b k slotGeneration) }; info = infoAt m (handleAt m b k) }
 
 -- by the slot's words, under a mask
 abbrev pub entryBy : Mem → ℕ → ℕ → CellWords → SnapshotEntry
@@ -69,7 +71,7 @@ scanOf m b c = pageOf m b (startAt m b c) (walkAt m b c) (lengthAt m b)
 
 -- a frame, as a link, is that of slot k's page, unless a page begins there
 abbrev pub FrameFor : Mem → ℕ → ℕ → ℕ → Type 0
-FrameFor m b k fr = (k % 64 ≡ 0 → ⊥) → fr ≡ frameOf m b k
+FrameFor m b k fr = (k % pageSize ≡ 0 → ⊥) → fr ≡ frameOf m b k
 
 abbrev pub endedOf : List SnapshotEntry → ℕ → ℕ → ℕ → ℕ → SnapshotPage
 endedOf es len start stop long = record { entries = es; len = len; next = nextAt stop long; examined = stop - start }

@@ -20,6 +20,9 @@ use Rattle.model.specs.Step.{snapshotPage, scanHandlesOf, decide}
 use Rattle.model.specs.Words.{infoWords, entryWords as snapshotWords, usedWords}
 use Rattle.layout.specs.declared.Shape.{Shape}
 use Rattle.layout.specs.Layout.{Mem, head, load}
+use Rattle.layout.specs.Fields.{headPages, slotTag, slotGeneration}
+use Rattle.layout.specs.Values.{tagOccupied}
+use Rattle.layout.specs.Sizes.{pageSize}
 use Rattle.representation.specs.Represents.{slotWord, slotIn, Rep}
 use Rattle.answer.specs.Does.{Does, does-refused, does-accepted}
 use Rattle.lookup.specs.declared.SnapshotEntry.{SnapshotEntry}
@@ -57,7 +60,7 @@ next-is stop long = bool (ltb stop long) (λ e. rw e) (λ e. rw e)
 -- a page of a walk, and the model's
 abbrev pageWith : Mem → ℕ → ℕ → (ℕ → Slot) → ℕ → SnapshotPage
 pageWith m b c f n =
-    let long : ℕ = min (n * 64) maxSlots in
+    let long : ℕ = min (n * pageSize) maxSlots in
     pageOf m b (min c long) (walk f (min c long) (min 256 (long - min c long)) 8) long
 
 abbrev answerWith : State → Table → ℕ → Walk → ℕ → List ℕ
@@ -71,10 +74,10 @@ pub entry-is : (ws : List ℕ) (sh : Shape) (s : State) → Rep ws sh s → (b :
 entry-is ws sh s i b l k q =
     let m : Mem = load ws sh in
     let x = i .reps .memory .tables b l in
-    let tag : slotWord m b k 0 ≡ 3 = eqb-true (slotWord m b k 0) 3 (slot-tells m b k ∙ ap isOccupied (x .slots k) ∙ q) in
-    let e : s .tables b .slots k ≡ occupied (slotWord m b k 1) (handleOf (handleAt m b k)) = sym (x .slots k) ∙ slot-occupied m b k tag in
-    let o = object-known s (i .wellFormed) b l k (slotWord m b k 1) (handleOf (handleAt m b k)) e in
-    rw (e, x .mask) (ap (λ (r : List ℕ). encode (s .tables b .mask) k (slotWord m b k 1) ∷ r) (info-is sh m s (i .reps .memory) (handleAt m b k) o))
+    let tag : slotWord m b k slotTag ≡ tagOccupied = eqb-true (slotWord m b k slotTag) tagOccupied (slot-tells m b k ∙ ap isOccupied (x .slots k) ∙ q) in
+    let e : s .tables b .slots k ≡ occupied (slotWord m b k slotGeneration) (handleOf (handleAt m b k)) = sym (x .slots k) ∙ slot-occupied m b k tag in
+    let o = object-known s (i .wellFormed) b l k (slotWord m b k slotGeneration) (handleOf (handleAt m b k)) e in
+    rw (e, x .mask) (ap (λ (r : List ℕ). encode (s .tables b .mask) k (slotWord m b k slotGeneration) ∷ r) (info-is sh m s (i .reps .memory) (handleAt m b k) o))
 
 -- a page's words are the model's
 page-is : (ws : List ℕ) (sh : Shape) (s : State) → Rep ws sh s → (b : ℕ) → b < s .tableCount → (start n long : ℕ)
@@ -103,7 +106,7 @@ scan-is ws sh s i b l c =
     let f : slotIn m b ≡ s .tables b .slots = fun-ext (x .slots) in
     let long : ℕ = lengthOf till (s .tables b) in
     let z : scanOf m b c ≡ pageWith m b c (s .tables b .slots) (s .tables b .size)
-    = ap (λ (g : ℕ → Slot). pageWith m b c g (m (head b 5))) f ∙ ap (pageWith m b c (s .tables b .slots)) (x .size) in
+    = ap (λ (g : ℕ → Slot). pageWith m b c g (m (head b headPages))) f ∙ ap (pageWith m b c (s .tables b .slots)) (x .size) in
     ap (λ (p : SnapshotPage). 0 ∷ pageList p) z
     ∙ ap (λ (r : List ℕ). 0 ∷ r) (page-is ws sh s i b l (min c long) (min 256 (long - min c long)) long)
 

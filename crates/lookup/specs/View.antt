@@ -10,6 +10,8 @@ use Rattle.model.specs.Lookup.{View as Named, View.invalid, View.busy, View.hol
 use Rattle.layout.specs.declared.Shape.{Shape}
 use Rattle.layout.specs.declared.CellWords.{CellWords}
 use Rattle.layout.specs.Layout.{Mem, head}
+use Rattle.layout.specs.Fields.{headMask, headLifecycle, slotTag, slotGeneration, slotObject, slotRights, slotFlags}
+use Rattle.layout.specs.Values.{lifeActive}
 use Rattle.representation.specs.Represents.{slotWord}
 use Rattle.lookup.specs.declared.PreparedHandle.{PreparedHandle}
 use Rattle.lookup.specs.declared.View.{View}
@@ -19,7 +21,7 @@ use Rattle.lookup.specs.declared.Opened.the-variants.{Refused, Handle as
 
 -- the record in slot k of table b
 abbrev pub handleAt : Mem → ℕ → ℕ → PreparedHandle
-handleAt m b k = record { slot = k; generation = slotWord m b k 1; object = slotWord m b k 2; rights = slotWord m b k 3; flags = slotWord m b k 4 }
+handleAt m b k = record { slot = k; generation = slotWord m b k slotGeneration; object = slotWord m b k slotObject; rights = slotWord m b k slotRights; flags = slotWord m b k slotFlags }
 
 -- by the slot's words
 abbrev pub handleBy : ℕ → CellWords → PreparedHandle
@@ -34,7 +36,7 @@ abbrev pub shown : ℕ → ℕ → PreparedHandle → View
 shown g t h = pick (eqb g (h .generation)) (pick (eqb t 3) (Holds h) (pick (eqb t 2) Busy Invalid)) Invalid
 
 unfoldable pub slotView : Mem → ℕ → ℕ → ℕ → View
-slotView m b k g = shown g (slotWord m b k 0) (handleAt m b k)
+slotView m b k g = shown g (slotWord m b k slotTag) (handleAt m b k)
 
 -- a value that does not decode names nothing
 abbrev pub decodedView : Mem → ℕ → Decoded → View
@@ -43,11 +45,11 @@ decodedView m b NoSlot = Invalid
 
 -- what a value names
 unfoldable pub viewOf : Mem → ℕ → ℕ → View
-viewOf m b v = decodedView m b (decodeOf (m (head b 1)) v)
+viewOf m b v = decodedView m b (decodeOf (m (head b headMask)) v)
 
 -- "18 Misuse: .. unknown table"; "16 TableRetired: not active"; 0 for an active table
 unfoldable pub tableRefusal : Mem → Shape → ℕ → ℕ
-tableRefusal m sh b = pick (ltb b (sh .tables)) (pick (eqb (m (head b 2)) 0) 0 16) 18
+tableRefusal m sh b = pick (ltb b (sh .tables)) (pick (eqb (m (head b headLifecycle)) lifeActive) 0 16) 18
 
 -- "2 InvalidHandle"; "3 Busy"
 abbrev pub viewOpened : View → Opened

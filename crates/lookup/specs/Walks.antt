@@ -11,6 +11,8 @@ use Rattle.model.specs.State.{Slot, isOccupied}
 use Rattle.model.specs.Storage.{Walk, walk}
 use Rattle.layout.specs.declared.CellWords.{CellWords}
 use Rattle.layout.specs.Layout.{Mem, head}
+use Rattle.layout.specs.Fields.{headMask, slotTag}
+use Rattle.layout.specs.Sizes.{pageSize}
 use Rattle.representation.specs.Represents.{wordIn, frameOf, slotIn}
 use Rattle.storage.specs.Cells.{cellIn}
 use Rattle.lookup.specs.declared.SnapshotEntry.{SnapshotEntry}
@@ -138,17 +140,17 @@ module _ (m : Mem) (b start n : ℕ) (es : List SnapshotEntry) (len at left : �
       }
 
   -- a turn of the loop: t tells whether the slot is occupied
-  module _ (h : 0 < left) (l : len < 8) (fr tag : ℕ) (t : Bool) (ef : fr ≡ frameOf m b at) (eg : tag ≡ wordIn m fr (at % 64) 0) (et : t ≡ eqb tag 3) where
+  module _ (h : 0 < left) (l : len < 8) (fr tag : ℕ) (t : Bool) (ef : fr ≡ frameOf m b at) (eg : tag ≡ wordIn m fr (at % pageSize) slotTag) (et : t ≡ eqb tag 3) where
     tells : isOccupied (slotIn m b at) ≡ t
-    tells = sym (slot-tells m b at) ∙ sym (et ∙ ap (λ (x : ℕ). eqb x 3) (eg ∙ ap (λ (x : ℕ). wordIn m x (at % 64) 0) ef))
+    tells = sym (slot-tells m b at) ∙ sym (et ∙ ap (λ (x : ℕ). eqb x 3) (eg ∙ ap (λ (x : ℕ). wordIn m x (at % pageSize) slotTag) ef))
 
     pub scan-past : t ≡ false → Scanning m b start n es len (at + 1) (left - 1)
     scan-past q = scan-miss h l (tells ∙ q)
 
-    pub scan-took : (mask : ℕ) (w : CellWords) (x : SnapshotEntry) → t ≡ true → mask ≡ m (head b 1) → w ≡ cellIn m fr (at % 64) → x ≡ entryBy m mask at w
+    pub scan-took : (mask : ℕ) (w : CellWords) (x : SnapshotEntry) → t ≡ true → mask ≡ m (head b headMask) → w ≡ cellIn m fr (at % pageSize) → x ≡ entryBy m mask at w
         → Scanning m b start n (set es len x) (len + 1) (at + 1) (left - 1)
     scan-took mask w x q p ew d =
-        let z : x ≡ entryOf m b at = d ∙ ap (λ (y : ℕ). entryBy m y at w) p ∙ ap (entryBy m (m (head b 1)) at) (ew ∙ ap (λ (y : ℕ). cellIn m y (at % 64)) ef) in
+        let z : x ≡ entryOf m b at = d ∙ ap (λ (y : ℕ). entryBy m y at w) p ∙ ap (entryBy m (m (head b headMask)) at) (ew ∙ ap (λ (y : ℕ). cellIn m y (at % pageSize)) ef) in
         rw z (scan-hit h l (tells ∙ q))
 
   -- the loop's end: no slot left, or the array full

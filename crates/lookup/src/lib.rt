@@ -8,6 +8,7 @@ ghost use mathlib.Core.List.{_∷_};
 ghost use Prim.Native.Nat.{_≤_, _<_};
 ghost use lib.ListN.{take};
 ghost use Rattle.layout.specs.Layout.{load as loadAt};
+ghost use Rattle.layout.specs.Fields.{slotTag};
 ghost use Rattle.representation.specs.Represents.{wordIn, frameOf};
 ghost use Rattle.storage.specs.Cells.{cellIn};
 ghost use Rattle.request.specs.Answers.{puts};
@@ -22,11 +23,9 @@ use codec::HandleValue;
 use codec::Koid;
 use layout::CellWords;
 use layout::Shape;
-
-// Tags of slots.
-pub const TRANSFER_RESERVED: u64 = 2;
-
-pub const OCCUPIED: u64 = 3;
+use layout::field;
+use layout::size;
+use layout::value;
 
 // A handle in its slot, by value.
 pub struct PreparedHandle {
@@ -103,10 +102,10 @@ fn slot_refusal(g: u64, w: CellWords) -> u64
     ensures { λ r. ⌜ r ≡ slotRefusal g w ⌝ }
 {
     if words::eq(g, w.generation) {
-        if words::eq(w.tag, OCCUPIED) {
+        if words::eq(w.tag, value::TAG_OCCUPIED) {
             return format::refusal::DONE;
         }
-        if words::eq(w.tag, TRANSFER_RESERVED) {
+        if words::eq(w.tag, value::TAG_TRANSFER_RESERVED) {
             return format::refusal::BUSY;
         }
         return format::refusal::INVALID_HANDLE;
@@ -119,7 +118,10 @@ pub fn table_refusal(s: &[u64], sh: Shape, b: u64) -> u64
     ensures { λ r. ⌜ r ≡ tableRefusal (loadAt (now (s .entry)) sh) sh b ⌝ }
 {
     if words::lt(b, sh.tables as u64) {
-        if words::eq(layout::head_word(s, sh, b, 2), 0) {
+        if words::eq(
+            layout::head_word(s, sh, b, field::HEAD_LIFECYCLE),
+            value::LIFE_ACTIVE,
+        ) {
             return format::refusal::DONE;
         }
         return format::refusal::TABLE_RETIRED;
@@ -131,15 +133,15 @@ pub fn table_refusal(s: &[u64], sh: Shape, b: u64) -> u64
 fn slot_frame(s: &[u64], sh: Shape, b: u64, k: u64) -> u64
     ensures { λ r. ⌜ r ≡ frameOf (loadAt (now (s .entry)) sh) b k ⌝ }
 {
-    if k >= 16777215 {
+    if k >= size::SLOTS_MAX {
         return 0;
     }
-    let n = layout::head_word(s, sh, b, 5);
-    if k / 64 >= n {
+    let n = layout::head_word(s, sh, b, field::HEAD_PAGES);
+    if k / size::PAGE_SIZE >= n {
         return 0;
     }
-    let e = layout::head_word(s, sh, b, 10);
-    storage::page_word(s, sh, e, k / 64, 0)
+    let e = layout::head_word(s, sh, b, field::HEAD_FIRST_ENTRY);
+    storage::page_word(s, sh, e, k / size::PAGE_SIZE, field::ENTRY_FRAME)
 }
 
 // As `storage::cell_in`, for `open_slot` alone, so that the words stay in registers.
@@ -158,12 +160,12 @@ fn slot_words(s: &[u64], sh: Shape, fr: u64, j: u64) -> CellWords
     }
     let x = fr - 1;
     CellWords {
-        tag: layout::cell_word(s, sh, x, j, 0),
-        generation: layout::cell_word(s, sh, x, j, 1),
-        object: layout::cell_word(s, sh, x, j, 2),
-        rights: layout::cell_word(s, sh, x, j, 3),
-        flags: layout::cell_word(s, sh, x, j, 4),
-        unused: layout::cell_word(s, sh, x, j, 5),
+        tag: layout::cell_word(s, sh, x, j, field::SLOT_TAG),
+        generation: layout::cell_word(s, sh, x, j, field::SLOT_GENERATION),
+        object: layout::cell_word(s, sh, x, j, field::SLOT_OBJECT),
+        rights: layout::cell_word(s, sh, x, j, field::SLOT_RIGHTS),
+        flags: layout::cell_word(s, sh, x, j, field::SLOT_FLAGS),
+        unused: layout::cell_word(s, sh, x, j, field::SLOT_UNUSED),
     }
 }
 
@@ -172,7 +174,7 @@ fn open_slot(s: &[u64], sh: Shape, b: u64, k: u64, g: u64) -> Opened
     ensures { λ r. ⌜ r ≡ viewOpened (slotView (loadAt (now (s .entry)) sh) b k g) ⌝ }
 {
     let fr = slot_frame(s, sh, b, k);
-    let w = slot_words(s, sh, fr, k % 64);
+    let w = slot_words(s, sh, fr, k % size::PAGE_SIZE);
     let n = slot_refusal(g, w);
     if words::eq(n, format::refusal::DONE) {
         return Opened::Handle(prepared(k, w));
@@ -185,7 +187,7 @@ fn open_value(s: &[u64], sh: Shape, b: u64, v: HandleValue) -> Opened
     ensures { λ r. ⌜ r ≡ viewOpened (viewOf (loadAt (now (s .entry)) sh) b (v .0)) ⌝ }
 {
     let codec = HandleCodec {
-        mask: layout::head_word(s, sh, b, 1),
+        mask: layout::head_word(s, sh, b, field::HEAD_MASK),
     };
     match codec.decode(v) {
         Decoded::At { slot, generation } => open_slot(s, sh, b, slot, generation),
@@ -224,8 +226,8 @@ pub fn info_of(s: &[u64], sh: Shape, h: PreparedHandle) -> HandleInfo
     ensures { λ r. ⌜ r ≡ infoAt (loadAt (now (s .entry)) sh) h ⌝ }
 {
     HandleInfo {
-        koid: Koid(layout::object_word(s, sh, h.object, 0)),
-        kind: layout::object_word(s, sh, h.object, 1),
+        koid: Koid(layout::object_word(s, sh, h.object, field::OBJECT_KOID)),
+        kind: layout::object_word(s, sh, h.object, field::OBJECT_KIND),
         rights: h.rights,
         flags: h.flags,
     }
@@ -299,11 +301,11 @@ pub fn table_length(s: &[u64], sh: Shape, b: u64) -> u64
     ensures { λ r. ⌜ r ≡ lengthAt (loadAt (now (s .entry)) sh) b ⌝ }
 {
     let most = HandleCodec::SLOT_LIMIT + 1;
-    let n = layout::head_word(s, sh, b, 5);
-    if n >= 262144 {
+    let n = layout::head_word(s, sh, b, field::HEAD_PAGES);
+    if n >= size::PAGES_MAX {
         return most;
     }
-    words::smaller(n * 64, most)
+    words::smaller(n * size::PAGE_SIZE, most)
 }
 
 // The snapshot of slot k, whose words are given, in a table of that mask.
@@ -321,7 +323,7 @@ fn snapshot_by(s: &[u64], sh: Shape, mask: u64, k: u64, w: CellWords) -> Snapsho
 pub fn snapshot_at(s: &[u64], sh: Shape, b: u64, k: u64) -> SnapshotEntry
     ensures { λ r. ⌜ r ≡ entryOf (loadAt (now (s .entry)) sh) b k ⌝ }
 {
-    let mask = layout::head_word(s, sh, b, 1);
+    let mask = layout::head_word(s, sh, b, field::HEAD_MASK);
     let w = storage::slot_at(s, sh, b, k);
     snapshot_by(s, sh, mask, k, w)
 }
@@ -345,7 +347,7 @@ fn frame_on(s: &[u64], sh: Shape, b: u64, k: u64, fr: u64) -> u64
     requires { ⌜ FrameFor (loadAt (now s) sh) b k fr ⌝ }
     ensures { λ r. ⌜ r ≡ frameOf (loadAt (now (s .entry)) sh) b k ⌝ }
 {
-    if k % 64 == 0 {
+    if k % size::PAGE_SIZE == 0 {
         return storage::frame_link(s, sh, b, k);
     }
     fr
@@ -353,12 +355,12 @@ fn frame_on(s: &[u64], sh: Shape, b: u64, k: u64, fr: u64) -> u64
 
 // The tag of slot j of a frame, given plus 1; 0 where there is none.
 fn tag_in(s: &[u64], sh: Shape, fr: u64, j: u64) -> u64
-    ensures { λ r. ⌜ r ≡ wordIn (loadAt (now (s .entry)) sh) fr j 0 ⌝ }
+    ensures { λ r. ⌜ r ≡ wordIn (loadAt (now (s .entry)) sh) fr j slotTag ⌝ }
 {
     if fr == 0 {
         return 0;
     }
-    layout::cell_word(s, sh, fr - 1, j, 0)
+    layout::cell_word(s, sh, fr - 1, j, field::SLOT_TAG)
 }
 
 // Where the next scan goes on after one that stopped.
@@ -397,7 +399,7 @@ pub fn scan(s: &[u64], sh: Shape, b: u64, cursor: u64) -> SnapshotPage
 {
     let length = table_length(s, sh, b);
     let start = words::smaller(cursor, length);
-    let mask = layout::head_word(s, sh, b, 1);
+    let mask = layout::head_word(s, sh, b, field::HEAD_MASK);
     let none = no_entry();
     let mut entries = [none; 8];
     let mut len: usize = 0;
@@ -409,8 +411,8 @@ pub fn scan(s: &[u64], sh: Shape, b: u64, cursor: u64) -> SnapshotPage
             return ended(entries, len, start, at, length);
         }
         fr = frame_on(s, sh, b, at, fr);
-        if words::eq(tag_in(s, sh, fr, at % 64), OCCUPIED) {
-            let w = storage::cell_in(s, sh, fr, at % 64);
+        if words::eq(tag_in(s, sh, fr, at % size::PAGE_SIZE), value::TAG_OCCUPIED) {
+            let w = storage::cell_in(s, sh, fr, at % size::PAGE_SIZE);
             entries[len] = snapshot_by(s, sh, mask, at, w);
             len += 1;
             at += 1;

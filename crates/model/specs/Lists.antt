@@ -22,6 +22,7 @@ use Rattle.model.specs.Step.{run, step, snapshotPage}
 use Rattle.model.specs.Words.{Reading, andThen, Fields, odd, readField, readFields, must, goodRecord, readRecord, readMany, readTransferItem}
 use Rattle.model.specs.Words.{readParcelItem, plainRequest, withItems, readRequest, readUpTo, readList, usedWords, entryWords, padded}
 use Rattle.model.specs.Words.{wordsOf, allWords, ran, answerShort, onRequests, call}
+use Rattle.format.specs.Fields.{opField, countField, anOp, anOperation, zeroWord}
 
 -- what was read stood in front of what is left, and has n words at least
 abbrev pub Front {ℓ} : {A : Type ℓ} → ℕ → List ℕ → Option (A × List ℕ) → Type 0
@@ -62,7 +63,7 @@ front-record : (first : ℕ) (mustOf mayOf : ℕ → ℕ) (ws : List ℕ) → Fr
 front-record first mustOf mayOf [] = tt
 front-record first mustOf mayOf (m ∷ ws) = shift (andThen (readFields fieldCount m ws) _)
     (front-then 0 0 ws (readFields fieldCount m ws) _ (front-fields fieldCount m ws) λ r.
-    front-pick (goodRecord first (mustOf (must (r .0) 0)) (mayOf (must (r .0) 0)) m (r .0)) (r .1) r refl)
+    front-pick (goodRecord first (mustOf (must (r .0) opField)) (mayOf (must (r .0) opField)) m (r .0)) (r .1) r refl)
   where
     shift : (x : Reading Fields) → Front 0 ws x → Front 1 (m ∷ ws) x
     shift none p = tt
@@ -80,12 +81,12 @@ front-many read h (suc n) ws =
     ([], refl, omega arith)
 
 front-transfer-item : (ws : List ℕ) → Front 0 ws (readTransferItem ws)
-front-transfer-item ws = front-then 0 0 ws (readRecord 5 (λ o. transferItemMust) (λ o. transferItemMay) ws) _
-    (weaken {A = Fields} ws (readRecord 5 (λ o. transferItemMust) (λ o. transferItemMay) ws) (front-record 5 (λ o. transferItemMust) (λ o. transferItemMay) ws)) λ r. ([], refl, omega arith)
+front-transfer-item ws = front-then 0 0 ws (readRecord anOperation (λ o. transferItemMust) (λ o. transferItemMay) ws) _
+    (weaken {A = Fields} ws (readRecord anOperation (λ o. transferItemMust) (λ o. transferItemMay) ws) (front-record anOperation (λ o. transferItemMust) (λ o. transferItemMay) ws)) λ r. ([], refl, omega arith)
 
 front-parcel-item : (ws : List ℕ) → Front 0 ws (readParcelItem ws)
-front-parcel-item ws = front-then 0 0 ws (readRecord 6 (λ o. parcelItemMust) (λ o. parcelItemMay) ws) _
-    (weaken {A = Fields} ws (readRecord 6 (λ o. parcelItemMust) (λ o. parcelItemMay) ws) (front-record 6 (λ o. parcelItemMust) (λ o. parcelItemMay) ws)) λ r. ([], refl, omega arith)
+front-parcel-item ws = front-then 0 0 ws (readRecord zeroWord (λ o. parcelItemMust) (λ o. parcelItemMay) ws) _
+    (weaken {A = Fields} ws (readRecord zeroWord (λ o. parcelItemMust) (λ o. parcelItemMay) ws) (front-record zeroWord (λ o. parcelItemMust) (λ o. parcelItemMay) ws)) λ r. ([], refl, omega arith)
 
 front-items : (f : Fields) (r : Request) (ws : List ℕ) → Front 0 ws (withItems f r ws)
 front-items f (newObject o r g) ws = ([], refl, omega arith)
@@ -95,13 +96,13 @@ front-items f (retireObject o) ws = ([], refl, omega arith)
 front-items f (reserve b n) ws = ([], refl, omega arith)
 front-items f (trim i n) ws = ([], refl, omega arith)
 front-items f (abort i) ws = ([], refl, omega arith)
-front-items f (publish i is) ws = front-then 0 0 ws (readMany readParcelItem (must f 3) ws) _ (front-many readParcelItem front-parcel-item (must f 3) ws) λ r. ([], refl, omega arith)
+front-items f (publish i is) ws = front-then 0 0 ws (readMany readParcelItem (must f countField) ws) _ (front-many readParcelItem front-parcel-item (must f countField) ws) λ r. ([], refl, omega arith)
 front-items f (getInfo b v) ws = ([], refl, omega arith)
 front-items f (resolve b v r k) ws = ([], refl, omega arith)
 front-items f (replace b v r) ws = ([], refl, omega arith)
 front-items f (close b v) ws = ([], refl, omega arith)
 front-items f (scanHandles b c) ws = ([], refl, omega arith)
-front-items f (prepareTransfer b route o k qs) ws = front-then 0 0 ws (readMany readTransferItem (must f 3) ws) _ (front-many readTransferItem front-transfer-item (must f 3) ws) λ r. ([], refl, omega arith)
+front-items f (prepareTransfer b route o k qs) ws = front-then 0 0 ws (readMany readTransferItem (must f countField) ws) _ (front-many readTransferItem front-transfer-item (must f countField) ws) λ r. ([], refl, omega arith)
 front-items f (prepareConsumption b v r k o) ws = ([], refl, omega arith)
 front-items f (rollback i) ws = ([], refl, omega arith)
 front-items f (commit i) ws = ([], refl, omega arith)
@@ -117,8 +118,8 @@ front-items f (takeEmptyPage b) ws = ([], refl, omega arith)
 pub request-in-front : (ws : List ℕ) → Front 1 ws (readRequest ws)
 unfolding readRequest
 request-in-front ws =
-    front-then 1 0 ws (readRecord 4 (λ op. getD musts op 0) (λ op. getD mays op 0) ws) _ (front-record 4 (λ op. getD musts op 0) (λ op. getD mays op 0) ws) λ r.
-    front-maybe 0 (r .1) (plainRequest (must (r .0) 0)) _ λ make. front-items (r .0) (make (r .0)) (r .1)
+    front-then 1 0 ws (readRecord anOp (λ op. getD musts op 0) (λ op. getD mays op 0) ws) _ (front-record anOp (λ op. getD musts op 0) (λ op. getD mays op 0) ws) λ r.
+    front-maybe 0 (r .1) (plainRequest (must (r .0) opField)) _ λ make. front-items (r .0) (make (r .0)) (r .1)
 
 -- reading a list ends by itself: more fuel than words changes nothing
 pub reading-ends : (n m : ℕ) (ws : List ℕ) → length ws ≤ n → length ws ≤ m → readUpTo n ws ≡ readUpTo m ws

@@ -7,7 +7,7 @@ use lib.ListN.{length, getD, take, drop}
 use lib.Dec.{eqb, ltb}
 use Rattle.authority.specs.Rights.{contains}
 use Rattle.format.specs.Format.{musts, mays, transferItemMust, transferItemMay, parcelItemMust, parcelItemMay, fieldKinds, fieldFits, fieldCount, answerWords}
-use Rattle.format.specs.Fields.{opField, tableField, objectField, countField, valueField, rightsField, flagsField, idField, destinationField, kindField, koidField, cursorField, routeField, offeredRightsField, offeredKindField, expectedKindField, forbiddenObjectField, forbiddenKindField}
+use Rattle.format.specs.Fields.{opField, tableField, objectField, countField, valueField, rightsField, flagsField, idField, destinationField, kindField, koidField, cursorField, routeField, offeredRightsField, offeredKindField, expectedKindField, forbiddenObjectField, forbiddenKindField, anOp, anOperation, zeroWord}
 use Rattle.model.specs.Base.{pick, bit, isSome, orElse, nth}
 use Rattle.model.specs.State.{Sizes, State}
 use Rattle.model.specs.Request.{Route, Route.buffered, Route.rendezvous, Route.stagedStartup, Operation, Operation.asMove, Operation.asCopy, Item, Info, Snapshot, SnapshotPage}
@@ -89,11 +89,11 @@ routeOf (suc (suc n)) = stagedStartup
 -- "there bit 0's word is the item's operation, or 0"
 abbrev pub readTransferItem : List ℕ → Reading Item
 readTransferItem ws =
-    andThen (readRecord 5 (λ o. transferItemMust) (λ o. transferItemMay) ws) λ r.
+    andThen (readRecord anOperation (λ o. transferItemMust) (λ o. transferItemMay) ws) λ r.
     some (record { operation = operationOf (must (r .0) opField); value = must (r .0) valueField; rights = must (r .0) rightsField; offeredRights = may (r .0) offeredRightsField; offeredKind = may (r .0) offeredKindField; expectedKind = may (r .0) expectedKindField }, r .1)
 
 abbrev pub readParcelItem : List ℕ → Reading ℕ
-readParcelItem ws = andThen (readRecord 6 (λ o. parcelItemMust) (λ o. parcelItemMay) ws) λ r. some (must (r .0) idField, r .1)
+readParcelItem ws = andThen (readRecord zeroWord (λ o. parcelItemMust) (λ o. parcelItemMay) ws) λ r. some (must (r .0) idField, r .1)
 
 -- the requests of the ops from 1 on, with their fields; a publish and a transfer take their items as well
 abbrev pub plainRequests : List (Fields → Request)
@@ -157,7 +157,7 @@ withItems f (takeEmptyPage b) ws = some (takeEmptyPage b, ws)
 
 unfoldable pub readRequest : List ℕ → Reading Request
 readRequest ws =
-    andThen (readRecord 4 (λ op. getD musts op 0) (λ op. getD mays op 0) ws) λ r.
+    andThen (readRecord anOp (λ op. getD musts op 0) (λ op. getD mays op 0) ws) λ r.
     andThen (plainRequest (must (r .0) opField)) λ make.
     withItems (r .0) (make (r .0)) (r .1)
 

@@ -9,6 +9,7 @@ use borrow.Author.Tests.{lt-ltb, le-ltb}
 use Rattle.words.specs.Pick.{pick}
 use Rattle.storage.specs.Ops.{up}
 use Rattle.object.specs.declared.ObjectRecord.{ObjectRecord}
+use Rattle.layout.specs.Values.{stageActive, stageRetired}
 
 -- another stage and count
 abbrev pub withCount : ObjectRecord → ℕ → ℕ → ObjectRecord
@@ -16,7 +17,7 @@ withCount x g n = record { koid = x .koid; kind = x .kind; class = x .class; sup
 
 -- activation: "else count 1"
 abbrev pub activatedBy : ObjectRecord → ObjectRecord
-activatedBy x = withCount x 1 1
+activatedBy x = withCount x stageActive 1
 
 -- one handle more; the largest word stays
 abbrev pub raisedBy : ObjectRecord → ObjectRecord
@@ -24,11 +25,11 @@ raisedBy x = withCount x (x .stage) (up (x .count))
 
 -- one handle fewer: "Falling to count 0 retires the object"
 abbrev pub loweredBy : ObjectRecord → ObjectRecord
-loweredBy x = withCount x (pick (ltb 1 (x .count)) (x .stage) 2) (x .count - 1)
+loweredBy x = withCount x (pick (ltb 1 (x .count)) (x .stage) stageRetired) (x .count - 1)
 
 -- "Its owner may retire it by a request accepted in any state"
 abbrev pub retiredBy : ObjectRecord → ObjectRecord
-retiredBy x = withCount x 2 (x .count)
+retiredBy x = withCount x stageRetired (x .count)
 
 -- "Object records are a lent list, read and updated by number"
 

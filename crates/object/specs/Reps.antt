@@ -14,6 +14,7 @@ use Rattle.model.specs.Change.{withObjects}
 use Rattle.model.specs.Objects.{withCount, activated, raise, lower, retiredByOwner, change}
 use Rattle.layout.specs.declared.Shape.{Shape}
 use Rattle.layout.specs.Layout.{Addr, Addr.reg, Mem, total, object, load, save, same, same-is, isIn, length-save, load-save-any, Write, writes, upds, in-object, length-writes, load-writes}
+use Rattle.layout.specs.Fields.{objectStage, objectActive}
 use Rattle.representation.specs.Represents.{stageWord, ObjectIs}
 use Rattle.storage.specs.Kept.{Stays, RowsStay}
 use Rattle.storage.specs.Reps.{Held}
@@ -38,9 +39,9 @@ module _ (f : ObjectRecord → ObjectRecord) (ws : List ℕ) (sh : Shape) (o : �
   pub step-only : total sh ≤ length ws → OnlyObject o (load ws sh) (load (stepW f ws sh o) sh)
   unfolding stepW
   step-only h k x y g n = let r : ObjectRecord = f (recordAt (load ws sh) o) in let a : Addr = reg k x y g in
-      load-save-any (save ws sh (object o 5) (r .stage)) sh (omega (arith, length-save ws sh (object o 5) (r .stage))) (object o 6) (r .count) a
-      ∙ rw (apart-object o 6 k x y g n, and-false (isIn sh (object o 6)))
-      (load-save-any ws sh h (object o 5) (r .stage) a ∙ rw (apart-object o 5 k x y g n, and-false (isIn sh (object o 5))))
+      load-save-any (save ws sh (object o objectStage) (r .stage)) sh (omega (arith, length-save ws sh (object o objectStage) (r .stage))) (object o objectActive) (r .count) a
+      ∙ rw (apart-object o 6 k x y g n, and-false (isIn sh (object o objectActive)))
+      (load-save-any ws sh h (object o objectStage) (r .stage) a ∙ rw (apart-object o 5 k x y g n, and-false (isIn sh (object o objectStage))))
 
   -- so that tables and rows keep theirs
   module _ (h : total sh ≤ length ws) where
@@ -79,7 +80,7 @@ module _ (ws : List ℕ) (sh : Shape) (s : State) (h : Held ws sh s) (o : ℕ) (
       let room : total sh ≤ length ws = h .reps .shaped .room in
       let xs : List Write = recordP o (f (recordAt (load ws sh) o)) in
       let d : o < sh .objects = omega (arith, h .reps .memory .objectCount) in
-      let e : load (writes ws sh xs) sh ≡ upds (load ws sh) xs = load-writes ws sh room xs (in-object sh o 5 d (omega arith), (in-object sh o 6 d (omega arith), tt)) in
+      let e : load (writes ws sh xs) sh ≡ upds (load ws sh) xs = load-writes ws sh room xs (in-object sh o objectStage d (omega arith), (in-object sh o objectActive d (omega arith), tt)) in
       let q = h .reps .memory .objects o l in
       held-object ws (stepW f ws sh o) sh s o (withCount (s .objects o) g n) h (step-length f ws sh o) (step-only f ws sh o room)
       (rw e record {

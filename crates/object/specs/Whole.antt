@@ -13,6 +13,7 @@ use Rattle.model.specs.Change.{withObjects}
 use Rattle.layout.specs.declared.Shape.{Shape}
 use Rattle.layout.specs.Layout.{Addr.reg, Mem, head, load}
 use Rattle.layout.specs.ShapeOf.{roots-kept}
+use Rattle.layout.specs.Fields.{slotPlace}
 use Rattle.representation.specs.Represents.{entryAt, slotWord, ObjectIs, Represents}
 use Rattle.storage.specs.Kept.{Stays, all-stay, slot-kept, table-kept, PoolSame, frames-kept, object-kept, RowsStay, rows-stay, mark-kept, book-kept}
 use Rattle.storage.specs.Reps.{Held}
@@ -45,7 +46,7 @@ module _ (o : ℕ) (m n : Mem) (only : OnlyObject o m n) where
     capacity = r .capacity;
     pageCount = r .pageCount;
     first = λ b l. off-head b 10 ∙ r .first b l;
-    tables = λ b l. table-kept m n b (object-stays b) (s .tables b) (r .tables b l) (λ k e. object-rows .rows (slotWord m b k 2) 0)
+    tables = λ b l. table-kept m n b (object-stays b) (s .tables b) (r .tables b l) (λ k e. object-rows .rows (slotWord m b k slotPlace) 0)
         (λ p f h. only 2 (entryAt m b p) 0 f (λ q. omega arith)) (λ p f h. only 2 (entryAt m b p) 0 f (λ q. omega arith));
     frames = frames-kept m n s (withObjects s (put (s .objects) o x)) object-pool (λ c. off-head c 10) refl refl (λ c p f l h e. (l, h, e)) (r .frames);
     objects = λ i l. bool (eqb i o)

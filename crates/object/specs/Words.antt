@@ -7,33 +7,35 @@ use lib.Dec.{eqb}
 use Rattle.words.specs.Pick.{pick, yes-is, no-is}
 use Rattle.layout.specs.declared.Shape.{Shape}
 use Rattle.layout.specs.Layout.{Mem, object, load, Write, Write.at, writes}
+use Rattle.layout.specs.Fields.{objectKoid, objectKind, objectClass, objectSupported, objectExportable, objectStage, objectActive, objectLimit}
+use Rattle.layout.specs.Values.{stageRetired}
 use Rattle.object.specs.declared.ObjectRecord.{ObjectRecord}
 use Rattle.object.specs.Record.{noRecord, withCount, activatedBy, raisedBy, loweredBy, retiredBy}
 
 -- the record of object o
 unfoldable pub recordAt : Mem → ℕ → ObjectRecord
 recordAt m o = record {
-  koid = record { 0 = m (object o 0) };
-  kind = m (object o 1);
-  class = m (object o 2);
-  supported = m (object o 3);
-  exportable = m (object o 4);
-  stage = m (object o 5);
-  count = m (object o 6);
-  limit = m (object o 7);
+  koid = record { 0 = m (object o objectKoid) };
+  kind = m (object o objectKind);
+  class = m (object o objectClass);
+  supported = m (object o objectSupported);
+  exportable = m (object o objectExportable);
+  stage = m (object o objectStage);
+  count = m (object o objectActive);
+  limit = m (object o objectLimit);
 }
 
 -- what a step reads of it, in the record of no object
 unfoldable pub standingAt : Mem → ℕ → ObjectRecord
-standingAt m o = withCount noRecord (m (object o 5)) (m (object o 6))
+standingAt m o = withCount noRecord (m (object o objectStage)) (m (object o objectActive))
 
-pub standing-is : (m : Mem) (o g n : ℕ) (x y : ObjectRecord) → g ≡ m (object o 5) → n ≡ m (object o 6) → x ≡ noRecord → y ≡ withCount x g n → y ≡ standingAt m o
+pub standing-is : (m : Mem) (o g n : ℕ) (x y : ObjectRecord) → g ≡ m (object o objectStage) → n ≡ m (object o objectActive) → x ≡ noRecord → y ≡ withCount x g n → y ≡ standingAt m o
 unfolding standingAt
 standing-is m o g n x y a b e d = d ∙ rw (e, a, b)
 
 -- its stage and its count, the two words that a step writes
 abbrev pub recordP : ℕ → ObjectRecord → List Write
-recordP o x = at (object o 5) (x .stage) ∷ at (object o 6) (x .count) ∷ []
+recordP o x = at (object o objectStage) (x .stage) ∷ at (object o objectActive) (x .count) ∷ []
 
 -- a step on the record of object o
 unfoldable pub stepW : (ObjectRecord → ObjectRecord) → List ℕ → Shape → ℕ → List ℕ
@@ -63,13 +65,13 @@ step-is f ws sh o x y vs e a b c = c ∙ ap (λ (z : ObjectRecord). writes ws sh
 -- "9, 11" of a copy, beside `copyChecks` of the model; 0 for none
 unfoldable pub raiseRefusal : Mem → ℕ → ℕ
 raiseRefusal m o =
-    pick (eqb (recordAt m o .stage) 2) 9
+    pick (eqb (recordAt m o .stage) stageRetired) 9
     (pick (eqb (recordAt m o .count) (recordAt m o .limit)) 11
     0)
 
 -- `raise_refusal`
-module _ (m : Mem) (o stage : ℕ) (d : stage ≡ m (object o 5)) (t₁ : Bool) (e₁ : t₁ ≡ eqb stage 2) where
-  stage-tells : eqb (recordAt m o .stage) 2 ≡ t₁
+module _ (m : Mem) (o stage : ℕ) (d : stage ≡ m (object o objectStage)) (t₁ : Bool) (e₁ : t₁ ≡ eqb stage 2) where
+  stage-tells : eqb (recordAt m o .stage) stageRetired ≡ t₁
   unfolding recordAt
   stage-tells = sym (e₁ ∙ ap (λ (z : ℕ). eqb z 2) d)
 
@@ -77,10 +79,10 @@ module _ (m : Mem) (o stage : ℕ) (d : stage ≡ m (object o 5)) (t₁ : Bool) 
   unfolding raiseRefusal
   raise-retired y = yes-is _ _ _ _ (stage-tells ∙ y) refl
 
-  module _ (n₁ : t₁ ≡ false) (count limit : ℕ) (f : count ≡ m (object o 6)) (g : limit ≡ m (object o 7)) (t₂ : Bool) (e₂ : t₂ ≡ eqb count limit) where
+  module _ (n₁ : t₁ ≡ false) (count limit : ℕ) (f : count ≡ m (object o objectActive)) (g : limit ≡ m (object o objectLimit)) (t₂ : Bool) (e₂ : t₂ ≡ eqb count limit) where
     count-tells : eqb (recordAt m o .count) (recordAt m o .limit) ≡ t₂
     unfolding recordAt
-    count-tells = sym (e₂ ∙ ap (λ (z : ℕ). eqb z limit) f ∙ ap (eqb (m (object o 6))) g)
+    count-tells = sym (e₂ ∙ ap (λ (z : ℕ). eqb z limit) f ∙ ap (eqb (m (object o objectActive))) g)
 
     pub raise-full : t₂ ≡ true → 11 ≡ raiseRefusal m o
     unfolding raiseRefusal

@@ -5,6 +5,8 @@ ghost use Rattle.object.specs.Record.{noRecord, withCount, activatedBy, 
 ghost use Rattle.object.specs.Words.{recordAt, standingAt, recordP, activateW, raiseW, lowerW, retireW, raiseRefusal};
 use codec::Koid;
 use layout::Shape;
+use layout::field;
+use layout::value;
 
 // "Objects: koid, kind, class, supported rights, exportable or not, state, active count, limit".
 pub struct ObjectRecord {
@@ -18,13 +20,6 @@ pub struct ObjectRecord {
     pub limit: u64,
 }
 
-// The stages: "state (new, active, retired)".
-pub const STILL_NEW: u64 = 0;
-
-pub const NOW_ACTIVE: u64 = 1;
-
-pub const NOW_RETIRED: u64 = 2;
-
 // The record of no object.
 fn no_record() -> ObjectRecord
     ensures { λ r. ⌜ r ≡ noRecord ⌝ }
@@ -32,10 +27,10 @@ fn no_record() -> ObjectRecord
     ObjectRecord {
         koid: Koid(0),
         kind: 0,
-        class: 0,
+        class: value::CLASS_LEAF,
         supported: 0,
         exportable: 0,
-        stage: STILL_NEW,
+        stage: value::STAGE_NEW,
         count: 0,
         limit: 0,
     }
@@ -62,7 +57,7 @@ fn with_count(x: ObjectRecord, stage: u64, count: u64) -> ObjectRecord
 pub fn activated(x: ObjectRecord) -> ObjectRecord
     ensures { λ r. ⌜ r ≡ activatedBy x ⌝ }
 {
-    with_count(x, NOW_ACTIVE, 1)
+    with_count(x, value::STAGE_ACTIVE, 1)
 }
 
 // One handle more.
@@ -81,7 +76,7 @@ pub fn lowered(x: ObjectRecord) -> ObjectRecord
     if 1 < c {
         with_count(x, x.stage, c - 1)
     } else {
-        with_count(x, NOW_RETIRED, 0)
+        with_count(x, value::STAGE_RETIRED, 0)
     }
 }
 
@@ -89,7 +84,7 @@ pub fn lowered(x: ObjectRecord) -> ObjectRecord
 pub fn retired(x: ObjectRecord) -> ObjectRecord
     ensures { λ r. ⌜ r ≡ retiredBy x ⌝ }
 {
-    with_count(x, NOW_RETIRED, x.count)
+    with_count(x, value::STAGE_RETIRED, x.count)
 }
 
 // The count that a record has.
@@ -206,14 +201,14 @@ pub fn retire_local(o: ObjectRecord) -> RecordStep
 pub fn read_object(s: &[u64], sh: Shape, o: u64) -> ObjectRecord
     ensures { λ r. ⌜ r ≡ recordAt (loadAt (now (s .entry)) sh) o ⌝ }
 {
-    let koid = layout::object_word(s, sh, o, 0);
-    let kind = layout::object_word(s, sh, o, 1);
-    let class = layout::object_word(s, sh, o, 2);
-    let supported = layout::object_word(s, sh, o, 3);
-    let exportable = layout::object_word(s, sh, o, 4);
-    let stage = layout::object_word(s, sh, o, 5);
-    let count = layout::object_word(s, sh, o, 6);
-    let limit = layout::object_word(s, sh, o, 7);
+    let koid = layout::object_word(s, sh, o, field::OBJECT_KOID);
+    let kind = layout::object_word(s, sh, o, field::OBJECT_KIND);
+    let class = layout::object_word(s, sh, o, field::OBJECT_CLASS);
+    let supported = layout::object_word(s, sh, o, field::OBJECT_SUPPORTED);
+    let exportable = layout::object_word(s, sh, o, field::OBJECT_EXPORTABLE);
+    let stage = layout::object_word(s, sh, o, field::OBJECT_STAGE);
+    let count = layout::object_word(s, sh, o, field::OBJECT_ACTIVE);
+    let limit = layout::object_word(s, sh, o, field::OBJECT_LIMIT);
     ObjectRecord {
         koid: Koid(koid),
         kind: kind,
@@ -230,8 +225,8 @@ pub fn read_object(s: &[u64], sh: Shape, o: u64) -> ObjectRecord
 fn standing_of(s: &[u64], sh: Shape, o: u64) -> ObjectRecord
     ensures { λ r. ⌜ r ≡ standingAt (loadAt (now (s .entry)) sh) o ⌝ }
 {
-    let stage = layout::object_word(s, sh, o, 5);
-    let count = layout::object_word(s, sh, o, 6);
+    let stage = layout::object_word(s, sh, o, field::OBJECT_STAGE);
+    let count = layout::object_word(s, sh, o, field::OBJECT_ACTIVE);
     with_count(no_record(), stage, count)
 }
 
@@ -239,8 +234,8 @@ fn standing_of(s: &[u64], sh: Shape, o: u64) -> ObjectRecord
 fn write_object(s: &mut [u64], sh: Shape, o: u64, x: ObjectRecord)
     ensures { λ _. ⌜ now (s .exit) ≡ writes (now (s .entry)) sh (recordP o x) ⌝ }
 {
-    layout::put_object(s, sh, o, 5, x.stage);
-    layout::put_object(s, sh, o, 6, x.count);
+    layout::put_object(s, sh, o, field::OBJECT_STAGE, x.stage);
+    layout::put_object(s, sh, o, field::OBJECT_ACTIVE, x.count);
 }
 
 // Object o is active and has its first handle.
@@ -287,12 +282,12 @@ pub fn retire_object(s: &mut [u64], sh: Shape, o: u64)
 pub fn raise_refusal(s: &[u64], sh: Shape, o: u64) -> u64
     ensures { λ r. ⌜ r ≡ raiseRefusal (loadAt (now (s .entry)) sh) o ⌝ }
 {
-    let stage = layout::object_word(s, sh, o, 5);
-    if words::eq(stage, NOW_RETIRED) {
+    let stage = layout::object_word(s, sh, o, field::OBJECT_STAGE);
+    if words::eq(stage, value::STAGE_RETIRED) {
         return format::refusal::OBJECT_RETIRED;
     }
-    let count = layout::object_word(s, sh, o, 6);
-    let limit = layout::object_word(s, sh, o, 7);
+    let count = layout::object_word(s, sh, o, field::OBJECT_ACTIVE);
+    let limit = layout::object_word(s, sh, o, field::OBJECT_LIMIT);
     if words::eq(count, limit) {
         return format::refusal::ACTIVE_HANDLE_LIMIT;
     }

@@ -10,29 +10,32 @@ use Rattle.model.specs.State.{till}
 use Rattle.model.specs.Storage.{slotsOf}
 use Rattle.layout.specs.declared.Shape.{Shape}
 use Rattle.layout.specs.Layout.{Mem, head, entry}
+use Rattle.layout.specs.Fields.{headPages, headFirstFree, headFreeSlots, headFirstEmpty, headFirstDetached, headFirstEntry, entryFrame, entryBusy, entryNext, entryPrevious, slotTag, slotNextFree, slotPreviousFree}
+use Rattle.layout.specs.Values.{tagVacant}
+use Rattle.layout.specs.Sizes.{pagesMax}
 use Rattle.representation.specs.Represents.{frameOf, slotWord}
 use Rattle.storage.specs.Order.{listFrom}
 use Rattle.orders.specs.Walk.{walk, linksBy}
 
 -- ---- what each order is to hold. Pages by their table's count n of pages and number e of its first entry
 
--- slot k of table b is vacant: it has a frame and the tag 0
+-- slot k of table b is vacant: it has a frame and the tag of a vacant slot
 unfoldable pub vacantAt : Mem → ℕ → ℕ → Bool
-vacantAt m b k = not (eqb (frameOf m b k) 0) && eqb (slotWord m b k 0) 0
+vacantAt m b k = not (eqb (frameOf m b k) 0) && eqb (slotWord m b k slotTag) tagVacant
 
 -- page p is attached and has no busy slot
 unfoldable pub emptyAt : Mem → ℕ → ℕ → ℕ → Bool
-emptyAt m n e p = ltb p n && (not (eqb (m (entry (e + p) 0)) 0) && eqb (m (entry (e + p) 2)) 0)
+emptyAt m n e p = ltb p n && (not (eqb (m (entry (e + p) entryFrame)) 0) && eqb (m (entry (e + p) entryBusy)) 0)
 
 -- page p is one of the table's and detached
 unfoldable pub detachedAt : Mem → ℕ → ℕ → ℕ → Bool
-detachedAt m n e p = ltb p n && eqb (m (entry (e + p) 0)) 0
+detachedAt m n e p = ltb p n && eqb (m (entry (e + p) entryFrame)) 0
 
 -- ---- how many
 
 -- the vacant slots of page p: what the stored count of busy ones leaves of an attached page
 unfoldable pub vacantsOn : Mem → ℕ → ℕ → ℕ
-vacantsOn m e p = pick (eqb (m (entry (e + p) 0)) 0) 0 (slotsOf till p - m (entry (e + p) 2))
+vacantsOn m e p = pick (eqb (m (entry (e + p) entryFrame)) 0) 0 (slotsOf till p - m (entry (e + p) entryBusy))
 
 -- of the first n pages
 unfoldable pub vacants : Mem → ℕ → ℕ → ℕ
@@ -46,16 +49,16 @@ tally test n = sum n λ p. bit (test p)
 
 -- what stands after a slot or a page in its order, and before it
 abbrev pub slotNext : Mem → ℕ → ℕ → ℕ
-slotNext m b k = slotWord m b k 2
+slotNext m b k = slotWord m b k slotNextFree
 
 abbrev pub slotPrev : Mem → ℕ → ℕ → ℕ
-slotPrev m b k = slotWord m b k 3
+slotPrev m b k = slotWord m b k slotPreviousFree
 
 abbrev pub pageNext : Mem → ℕ → ℕ → ℕ
-pageNext m e p = m (entry (e + p) 3)
+pageNext m e p = m (entry (e + p) entryNext)
 
 abbrev pub pagePrev : Mem → ℕ → ℕ → ℕ
-pagePrev m e p = m (entry (e + p) 4)
+pagePrev m e p = m (entry (e + p) entryPrevious)
 
 -- a link of the free order, of the empty pages' and of the detached pages'; this one has no links back
 unfoldable pub freeLink : Mem → ℕ → ℕ → ℕ → Bool
@@ -71,27 +74,27 @@ detachedLink m n e h = linksBy (detachedAt m n e) (λ x q. true) h 0
 
 -- "the free order holds every vacant slot once and nothing else", and their stored count is right
 unfoldable pub freeBy : Mem → ℕ → ℕ → ℕ → Bool
-freeBy m b n e = eqb (vacants m n e) (m (head b 7)) && walk (slotNext m b) (freeLink m b) (m (head b 7)) (m (head b 6)) 0
+freeBy m b n e = eqb (vacants m n e) (m (head b headFreeSlots)) && walk (slotNext m b) (freeLink m b) (m (head b headFreeSlots)) (m (head b headFirstFree)) 0
 
 -- "and the empty and detached pages' orders every such page once and nothing else"
 unfoldable pub emptyBy : Mem → ℕ → ℕ → ℕ → Bool
-emptyBy m b n e = walk (pageNext m e) (emptyLink m n e) (tally (emptyAt m n e) n) (m (head b 8)) 0
+emptyBy m b n e = walk (pageNext m e) (emptyLink m n e) (tally (emptyAt m n e) n) (m (head b headFirstEmpty)) 0
 
 unfoldable pub detachedBy : Mem → ℕ → ℕ → ℕ → Bool
-detachedBy m b n e = walk (pageNext m e) (λ h p. detachedLink m n e h) (tally (detachedAt m n e) n) (m (head b 9)) 0
+detachedBy m b n e = walk (pageNext m e) (λ h p. detachedLink m n e h) (tally (detachedAt m n e) n) (m (head b headFirstDetached)) 0
 
 abbrev pub freeB : Mem → ℕ → Bool
-freeB m b = freeBy m b (m (head b 5)) (m (head b 10))
+freeB m b = freeBy m b (m (head b headPages)) (m (head b headFirstEntry))
 
 abbrev pub emptyB : Mem → ℕ → Bool
-emptyB m b = emptyBy m b (m (head b 5)) (m (head b 10))
+emptyB m b = emptyBy m b (m (head b headPages)) (m (head b headFirstEntry))
 
 abbrev pub detachedB : Mem → ℕ → Bool
-detachedB m b = detachedBy m b (m (head b 5)) (m (head b 10))
+detachedB m b = detachedBy m b (m (head b headPages)) (m (head b headFirstEntry))
 
 -- a table has at most 262,144 pages: so the counts stay small
 abbrev pub sizeB : Mem → ℕ → Bool
-sizeB m b = not (ltb 262144 (m (head b 5)))
+sizeB m b = not (ltb pagesMax (m (head b headPages)))
 
 unfoldable pub tableB : Mem → ℕ → Bool
 tableB m b = sizeB m b && (freeB m b && (emptyB m b && detachedB m b))
@@ -102,10 +105,10 @@ ordersB m sh = all (sh .tables) (tableB m)
 -- ---- the orders that the links give
 
 abbrev pub freeList : Mem → ℕ → List ℕ
-freeList m b = listFrom (slotNext m b) (m (head b 7)) (m (head b 6))
+freeList m b = listFrom (slotNext m b) (m (head b headFreeSlots)) (m (head b headFirstFree))
 
 abbrev pub emptyList : Mem → ℕ → List ℕ
-emptyList m b = listFrom (pageNext m (m (head b 10))) (tally (emptyAt m (m (head b 5)) (m (head b 10))) (m (head b 5))) (m (head b 8))
+emptyList m b = listFrom (pageNext m (m (head b headFirstEntry))) (tally (emptyAt m (m (head b headPages)) (m (head b headFirstEntry))) (m (head b headPages))) (m (head b headFirstEmpty))
 
 abbrev pub detachedList : Mem → ℕ → List ℕ
-detachedList m b = listFrom (pageNext m (m (head b 10))) (tally (detachedAt m (m (head b 5)) (m (head b 10))) (m (head b 5))) (m (head b 9))
+detachedList m b = listFrom (pageNext m (m (head b headFirstEntry))) (tally (detachedAt m (m (head b headPages)) (m (head b headFirstEntry))) (m (head b headPages))) (m (head b headFirstDetached))

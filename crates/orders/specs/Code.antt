@@ -13,6 +13,8 @@ use Rattle.model.specs.State.{till}
 use Rattle.model.specs.Storage.{slotsOf}
 use Rattle.layout.specs.declared.Shape.{Shape}
 use Rattle.layout.specs.Layout.{Mem, head, entry, cell}
+use Rattle.layout.specs.Fields.{headPages, headFirstFree, headFreeSlots, headFirstEntry, entryFrame, entryBusy, entryPrevious, slotTag, slotPreviousFree}
+use Rattle.layout.specs.Sizes.{pageSize, pagesMax}
 use Rattle.representation.specs.Represents.{wordIn, frameOf}
 use Rattle.orders.specs.Walk.{walk}
 use Rattle.orders.specs.Check.{vacantAt, emptyAt, detachedAt, vacantsOn, vacants, tally, freeLink, emptyLink, detachedLink}
@@ -20,25 +22,25 @@ use Rattle.orders.specs.Check.{slotNext, freeBy, emptyBy, detachedBy, ta
 
 -- ---- counts
 
-module _ (m : Mem) (e p fr : ℕ) (q : fr ≡ m (entry (e + p) 0)) where
+module _ (m : Mem) (e p fr : ℕ) (q : fr ≡ m (entry (e + p) entryFrame)) where
   pub vacants-off : fr ≡ 0 → 0 ≡ vacantsOn m e p
   unfolding vacantsOn
-  vacants-off z = rw (eq-eqb (m (entry (e + p) 0)) 0 (sym q ∙ z))
+  vacants-off z = rw (eq-eqb (m (entry (e + p) entryFrame)) 0 (sym q ∙ z))
 
-  vacants-left : (fr ≡ 0 → ⊥) → slotsOf till p - m (entry (e + p) 2) ≡ vacantsOn m e p
+  vacants-left : (fr ≡ 0 → ⊥) → slotsOf till p - m (entry (e + p) entryBusy) ≡ vacantsOn m e p
   unfolding vacantsOn
-  vacants-left z = rw (ne-eqb (m (entry (e + p) 0)) 0 (λ y. z (q ∙ y)))
+  vacants-left z = rw (ne-eqb (m (entry (e + p) entryFrame)) 0 (λ y. z (q ∙ y)))
 
-  pub vacants-some : (busy n : ℕ) → (fr ≡ 0 → ⊥) → busy ≡ m (entry (e + p) 2) → n ≡ slotsOf till p → n - busy ≡ vacantsOn m e p
+  pub vacants-some : (busy n : ℕ) → (fr ≡ 0 → ⊥) → busy ≡ m (entry (e + p) entryBusy) → n ≡ slotsOf till p → n - busy ≡ vacantsOn m e p
   vacants-some busy n z a c = omega (arith, vacants-left z)
 
-  pub vacants-full : (busy n : ℕ) → (fr ≡ 0 → ⊥) → busy ≡ m (entry (e + p) 2) → n ≡ slotsOf till p → n ≤ busy → 0 ≡ vacantsOn m e p
+  pub vacants-full : (busy n : ℕ) → (fr ≡ 0 → ⊥) → busy ≡ m (entry (e + p) entryBusy) → n ≡ slotsOf till p → n ≤ busy → 0 ≡ vacantsOn m e p
   vacants-full busy n z a c h = omega (arith, vacants-left z)
 
 -- a page has at most 64
-pub vacants-few : (m : Mem) (e p : ℕ) → vacantsOn m e p ≤ 64
+pub vacants-few : (m : Mem) (e p : ℕ) → vacantsOn m e p ≤ pageSize
 unfolding vacantsOn
-vacants-few m e p = bool (eqb (m (entry (e + p) 0)) 0) (λ y. rw y (omega arith)) (λ y. rw y (omega arith))
+vacants-few m e p = bool (eqb (m (entry (e + p) entryFrame)) 0) (λ y. rw y (omega arith)) (λ y. rw y (omega arith))
 
 pub vacants-start : (m : Mem) (e : ℕ) → 0 ≡ vacants m 0 e
 unfolding vacants
@@ -74,19 +76,19 @@ pub empty-out : (m : Mem) (n e p : ℕ) → n ≤ p → false ≡ emptyAt m n e 
 unfolding emptyAt
 empty-out m n e p h = rw (le-ltb p n h)
 
-pub empty-off : (m : Mem) (n e p fr : ℕ) → p < n → fr ≡ m (entry (e + p) 0) → fr ≡ 0 → false ≡ emptyAt m n e p
+pub empty-off : (m : Mem) (n e p fr : ℕ) → p < n → fr ≡ m (entry (e + p) entryFrame) → fr ≡ 0 → false ≡ emptyAt m n e p
 unfolding emptyAt
-empty-off m n e p fr h q z = rw (lt-ltb p n h, eq-eqb (m (entry (e + p) 0)) 0 (sym q ∙ z))
+empty-off m n e p fr h q z = rw (lt-ltb p n h, eq-eqb (m (entry (e + p) entryFrame)) 0 (sym q ∙ z))
 
-pub empty-read : (m : Mem) (n e p fr busy : ℕ) → p < n → fr ≡ m (entry (e + p) 0) → (fr ≡ 0 → ⊥) → busy ≡ m (entry (e + p) 2) → eqb busy 0 ≡ emptyAt m n e p
+pub empty-read : (m : Mem) (n e p fr busy : ℕ) → p < n → fr ≡ m (entry (e + p) entryFrame) → (fr ≡ 0 → ⊥) → busy ≡ m (entry (e + p) entryBusy) → eqb busy 0 ≡ emptyAt m n e p
 unfolding emptyAt
-empty-read m n e p fr busy h q z a = rw (lt-ltb p n h, ne-eqb (m (entry (e + p) 0)) 0 (λ y. z (q ∙ y)), a)
+empty-read m n e p fr busy h q z a = rw (lt-ltb p n h, ne-eqb (m (entry (e + p) entryFrame)) 0 (λ y. z (q ∙ y)), a)
 
 pub detached-out : (m : Mem) (n e p : ℕ) → n ≤ p → false ≡ detachedAt m n e p
 unfolding detachedAt
 detached-out m n e p h = rw (le-ltb p n h)
 
-pub detached-read : (m : Mem) (n e p fr : ℕ) → p < n → fr ≡ m (entry (e + p) 0) → eqb fr 0 ≡ detachedAt m n e p
+pub detached-read : (m : Mem) (n e p fr : ℕ) → p < n → fr ≡ m (entry (e + p) entryFrame) → eqb fr 0 ≡ detachedAt m n e p
 unfolding detachedAt
 detached-read m n e p fr h q = rw (lt-ltb p n h, q)
 
@@ -98,7 +100,7 @@ free-none m b h p z = rw (eq-eqb h 0 z)
 
 -- the link of a slot, by its frame
 free-by : (m : Mem) (b h p fr : ℕ) → (h ≡ 0 → ⊥) → fr ≡ frameOf m b (h - 1)
-    → ((not (eqb fr 0) && eqb (wordIn m fr ((h - 1) % 64) 0) 0) && eqb (wordIn m fr ((h - 1) % 64) 3) p) ≡ freeLink m b h p
+    → ((not (eqb fr 0) && eqb (wordIn m fr ((h - 1) % pageSize) slotTag) 0) && eqb (wordIn m fr ((h - 1) % pageSize) slotPreviousFree) p) ≡ freeLink m b h p
 unfolding freeLink vacantAt
 free-by m b h p fr z q = rw (ne-eqb h 0 z, q)
 
@@ -109,16 +111,16 @@ word-at : (m : Mem) (fr j f : ℕ) → (fr ≡ 0 → ⊥) → m (cell (fr - 1) j
 word-at m zero j f z = absurd (z refl)
 word-at m (suc fr) j f z = let y : suc fr - 1 ≡ fr = omega arith in rw y
 
-pub free-busy : (m : Mem) (b h p fr tag : ℕ) → (h ≡ 0 → ⊥) → fr ≡ frameOf m b (h - 1) → (fr ≡ 0 → ⊥) → tag ≡ m (cell (fr - 1) ((h - 1) % 64) 0) → (tag ≡ 0 → ⊥)
+pub free-busy : (m : Mem) (b h p fr tag : ℕ) → (h ≡ 0 → ⊥) → fr ≡ frameOf m b (h - 1) → (fr ≡ 0 → ⊥) → tag ≡ m (cell (fr - 1) ((h - 1) % pageSize) slotTag) → (tag ≡ 0 → ⊥)
     → false ≡ freeLink m b h p
 free-busy m b h p fr tag z q y a n =
-    rw (ne-eqb fr 0 y, ne-eqb (wordIn m fr ((h - 1) % 64) 0) 0 (λ x. n (a ∙ word-at m fr ((h - 1) % 64) 0 y ∙ x))) at (free-by m b h p fr z q)
+    rw (ne-eqb fr 0 y, ne-eqb (wordIn m fr ((h - 1) % pageSize) slotTag) 0 (λ x. n (a ∙ word-at m fr ((h - 1) % pageSize) 0 y ∙ x))) at (free-by m b h p fr z q)
 
-pub free-read : (m : Mem) (b h p fr tag back : ℕ) → (h ≡ 0 → ⊥) → fr ≡ frameOf m b (h - 1) → (fr ≡ 0 → ⊥) → tag ≡ m (cell (fr - 1) ((h - 1) % 64) 0) → tag ≡ 0
-    → back ≡ m (cell (fr - 1) ((h - 1) % 64) 3) → eqb back p ≡ freeLink m b h p
+pub free-read : (m : Mem) (b h p fr tag back : ℕ) → (h ≡ 0 → ⊥) → fr ≡ frameOf m b (h - 1) → (fr ≡ 0 → ⊥) → tag ≡ m (cell (fr - 1) ((h - 1) % pageSize) slotTag) → tag ≡ 0
+    → back ≡ m (cell (fr - 1) ((h - 1) % pageSize) slotPreviousFree) → eqb back p ≡ freeLink m b h p
 free-read m b h p fr tag back z q y a n c =
-    ap (λ (x : ℕ). eqb x p) (c ∙ word-at m fr ((h - 1) % 64) 3 y)
-    ∙ (rw (ne-eqb fr 0 y, eq-eqb (wordIn m fr ((h - 1) % 64) 0) 0 (sym (word-at m fr ((h - 1) % 64) 0 y) ∙ sym a ∙ n)) at (free-by m b h p fr z q))
+    ap (λ (x : ℕ). eqb x p) (c ∙ word-at m fr ((h - 1) % pageSize) 3 y)
+    ∙ (rw (ne-eqb fr 0 y, eq-eqb (wordIn m fr ((h - 1) % pageSize) slotTag) 0 (sym (word-at m fr ((h - 1) % pageSize) 0 y) ∙ sym a ∙ n)) at (free-by m b h p fr z q))
 
 pub empty-none : (m : Mem) (n e h p : ℕ) → h ≡ 0 → false ≡ emptyLink m n e h p
 unfolding emptyLink
@@ -128,7 +130,7 @@ pub empty-not : (m : Mem) (n e h p : ℕ) → emptyAt m n e (h - 1) ≡ false �
 unfolding emptyLink
 empty-not m n e h p q z = rw (ne-eqb h 0 z, q)
 
-pub empty-back : (m : Mem) (n e h p back : ℕ) → emptyAt m n e (h - 1) ≡ true → (h ≡ 0 → ⊥) → back ≡ m (entry (e + (h - 1)) 4) → eqb back p ≡ emptyLink m n e h p
+pub empty-back : (m : Mem) (n e h p back : ℕ) → emptyAt m n e (h - 1) ≡ true → (h ≡ 0 → ⊥) → back ≡ m (entry (e + (h - 1)) entryPrevious) → eqb back p ≡ emptyLink m n e h p
 unfolding emptyLink
 empty-back m n e h p back q z a = rw (ne-eqb h 0 z, q, a)
 
@@ -168,32 +170,32 @@ walk-any next test (suc k) h p = refl
 
 -- ---- one table
 
-pub free-miscounted : (m : Mem) (b n e count found : ℕ) → count ≡ m (head b 7) → found ≡ vacants m n e → (found ≡ count → ⊥) → false ≡ freeBy m b n e
+pub free-miscounted : (m : Mem) (b n e count found : ℕ) → count ≡ m (head b headFreeSlots) → found ≡ vacants m n e → (found ≡ count → ⊥) → false ≡ freeBy m b n e
 unfolding freeBy
-free-miscounted m b n e count found q r z = rw (ne-eqb (vacants m n e) (m (head b 7)) (λ y. z (r ∙ y ∙ sym q)))
+free-miscounted m b n e count found q r z = rw (ne-eqb (vacants m n e) (m (head b headFreeSlots)) (λ y. z (r ∙ y ∙ sym q)))
 
-pub free-walked : (m : Mem) (b n e count found first : ℕ) (w : Bool) → count ≡ m (head b 7) → found ≡ vacants m n e → found ≡ count → first ≡ m (head b 6)
+pub free-walked : (m : Mem) (b n e count found first : ℕ) (w : Bool) → count ≡ m (head b headFreeSlots) → found ≡ vacants m n e → found ≡ count → first ≡ m (head b headFirstFree)
     → w ≡ walk (slotNext m b) (freeLink m b) count first 0 → w ≡ freeBy m b n e
 unfolding freeBy
-free-walked m b n e count found first w q r z f h = rw (eq-eqb (vacants m n e) (m (head b 7)) (sym r ∙ z ∙ q), ← q, ← f) h
+free-walked m b n e count found first w q r z f h = rw (eq-eqb (vacants m n e) (m (head b headFreeSlots)) (sym r ∙ z ∙ q), ← q, ← f) h
 
-module _ (m : Mem) (b size : ℕ) (s : size ≡ m (head b 5)) where
-  pub table-large : 262144 < size → false ≡ tableB m b
+module _ (m : Mem) (b size : ℕ) (s : size ≡ m (head b headPages)) where
+  pub table-large : pagesMax < size → false ≡ tableB m b
   unfolding tableB
-  table-large h = rw (lt-ltb 262144 (m (head b 5)) (omega arith))
+  table-large h = rw (lt-ltb pagesMax (m (head b headPages)) (omega arith))
 
   -- the rest of the check
-  table-rest : (e : ℕ) → size ≤ 262144 → e ≡ m (head b 10) → (freeBy m b size e && (emptyBy m b size e && detachedBy m b size e)) ≡ tableB m b
+  table-rest : (e : ℕ) → size ≤ pagesMax → e ≡ m (head b headFirstEntry) → (freeBy m b size e && (emptyBy m b size e && detachedBy m b size e)) ≡ tableB m b
   unfolding tableB
-  table-rest e h q = rw (le-ltb 262144 (m (head b 5)) (omega arith), s, q)
+  table-rest e h q = rw (le-ltb pagesMax (m (head b headPages)) (omega arith), s, q)
 
-  pub table-free : (e : ℕ) → size ≤ 262144 → e ≡ m (head b 10) → freeBy m b size e ≡ false → false ≡ tableB m b
+  pub table-free : (e : ℕ) → size ≤ pagesMax → e ≡ m (head b headFirstEntry) → freeBy m b size e ≡ false → false ≡ tableB m b
   table-free e h q f = rw f at (table-rest e h q)
 
-  pub table-empty : (e : ℕ) → size ≤ 262144 → e ≡ m (head b 10) → freeBy m b size e ≡ true → emptyBy m b size e ≡ false → false ≡ tableB m b
+  pub table-empty : (e : ℕ) → size ≤ pagesMax → e ≡ m (head b headFirstEntry) → freeBy m b size e ≡ true → emptyBy m b size e ≡ false → false ≡ tableB m b
   table-empty e h q f g = rw (f, g) at (table-rest e h q)
 
-  pub table-detached : (e : ℕ) (w : Bool) → size ≤ 262144 → e ≡ m (head b 10) → freeBy m b size e ≡ true → emptyBy m b size e ≡ true → w ≡ detachedBy m b size e → w ≡ tableB m b
+  pub table-detached : (e : ℕ) (w : Bool) → size ≤ pagesMax → e ≡ m (head b headFirstEntry) → freeBy m b size e ≡ true → emptyBy m b size e ≡ true → w ≡ detachedBy m b size e → w ≡ tableB m b
   table-detached e w h q f g d = d ∙ (rw (f, g) at (table-rest e h q))
 
 -- ---- all tables

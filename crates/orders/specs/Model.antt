@@ -17,6 +17,9 @@ use Rattle.model.specs.Counting.{sum-front}
 use Rattle.model.specs.Bounds.{pages-max}
 use Rattle.layout.specs.declared.Shape.{Shape}
 use Rattle.layout.specs.Layout.{Mem, head, entry, cell}
+use Rattle.layout.specs.Fields.{headPages, headFirstEntry, entryFrame, entryBusy, slotTag, slotGeneration, slotObject, slotRights, slotFlags}
+use Rattle.layout.specs.Values.{tagVacant}
+use Rattle.layout.specs.Sizes.{pageSize, pagesMax}
 use Rattle.representation.specs.Represents.{entryAt, linkOf, wordIn, frameOf, tagged, slotFrom, slotIn, TableIs, Represents}
 use Rattle.representation.specs.Told.{frame-at}
 use Rattle.orders.specs.Check.{vacantAt, emptyAt, detachedAt, ordersB}
@@ -25,10 +28,10 @@ use Rattle.orders.specs.Decide.{OrdersAre, orders-complete}
 
 -- the pages and slots of a table as its words have them; no page is attached past its count of pages
 pub record Viewed (m : Mem) (b : ℕ) (t : Table) : Type 0 where
-  pub size : m (head b 5) ≡ t .size
-  pub frame : (p : ℕ) → p < t .size → m (entry (entryAt m b p) 0) ≡ linkOf (t .pages p .frame)
+  pub size : m (head b headPages) ≡ t .size
+  pub frame : (p : ℕ) → p < t .size → m (entry (entryAt m b p) entryFrame) ≡ linkOf (t .pages p .frame)
   pub rest : (p : ℕ) → t .size ≤ p → isAttached t p ≡ false
-  pub busy : (p : ℕ) → p < t .size → isAttached t p ≡ true → m (entry (entryAt m b p) 2) ≡ busyOf till (t .slots) p
+  pub busy : (p : ℕ) → p < t .size → isAttached t p ≡ true → m (entry (entryAt m b p) entryBusy) ≡ busyOf till (t .slots) p
   pub slots : (k : ℕ) → slotIn m b k ≡ t .slots k
 
 -- ---- slots and frames by their words
@@ -59,14 +62,14 @@ tag-busy m (suc (suc zero)) g x y w e = refl
 tag-busy m (suc (suc (suc zero))) g x y w e = refl
 tag-busy m (suc (suc (suc (suc t)))) g x y w e = clash refl e
 
-frame-vacant : (m : Mem) (fr j : ℕ) → (not (eqb fr 0) && eqb (wordIn m fr j 0) 0) ≡ isVacant (slotFrom m fr j)
+frame-vacant : (m : Mem) (fr j : ℕ) → (not (eqb fr 0) && eqb (wordIn m fr j slotTag) 0) ≡ isVacant (slotFrom m fr j)
 frame-vacant m zero j = refl
-frame-vacant m (suc fr) j = rw (ne-eqb (suc fr) 0 (λ e. omega arith)) (sym (tag-vacant m (m (cell fr j 0)) (m (cell fr j 1)) (m (cell fr j 2)) (m (cell fr j 3)) (m (cell fr j 4))))
+frame-vacant m (suc fr) j = rw (ne-eqb (suc fr) 0 (λ e. omega arith)) (sym (tag-vacant m (m (cell fr j slotTag)) (m (cell fr j slotGeneration)) (m (cell fr j slotObject)) (m (cell fr j slotRights)) (m (cell fr j slotFlags))))
 
 -- a slot is vacant by its words exactly if it is
 pub vacant-is : (m : Mem) (b k : ℕ) → vacantAt m b k ≡ isVacant (slotIn m b k)
 unfolding vacantAt
-vacant-is m b k = frame-vacant m (frameOf m b k) (k % 64)
+vacant-is m b k = frame-vacant m (frameOf m b k) (k % pageSize)
 
 pick-bit : (b : Bool) (x : ℕ) → pick b (suc x) x ≡ bit b + x
 pick-bit true x = omega arith
@@ -89,7 +92,7 @@ busy-sum f a (suc n) =
 -- ---- the tests and the table
 
 module _ (m : Mem) (b : ℕ) (t : Table) (v : Viewed m b t) where
-  pub empty-is : (p : ℕ) → emptyAt m (m (head b 5)) (m (head b 10)) p ≡ (isAttached t p && eqb (busyOf till (t .slots) p) 0)
+  pub empty-is : (p : ℕ) → emptyAt m (m (head b headPages)) (m (head b headFirstEntry)) p ≡ (isAttached t p && eqb (busyOf till (t .slots) p) 0)
   unfolding emptyAt
   empty-is p = rw (v .size) (bool (ltb p (t .size))
       (λ l. rw (l, v .frame p (ltb-true p (t .size) l), link-some (t .pages p .frame)) (bool (isAttached t p)
@@ -97,30 +100,30 @@ module _ (m : Mem) (b : ℕ) (t : Table) (v : Viewed m b t) where
       (λ a. rw a)))
       (λ l. rw (l, v .rest p (ltb-false p (t .size) l))))
 
-  pub detached-is : (p : ℕ) → detachedAt m (m (head b 5)) (m (head b 10)) p ≡ (ltb p (t .size) && not (isAttached t p))
+  pub detached-is : (p : ℕ) → detachedAt m (m (head b headPages)) (m (head b headFirstEntry)) p ≡ (ltb p (t .size) && not (isAttached t p))
   unfolding detachedAt
   detached-is p = rw (v .size) (bool (ltb p (t .size))
       (λ l. rw (l, v .frame p (ltb-true p (t .size) l), link-none (t .pages p .frame)))
       (λ l. rw l))
 
   -- a slot that is there is busy exactly if its tag is not 0
-  slot-busy : (p f j : ℕ) → p < m (head b 5) → m (entry (entryAt m b p) 0) ≡ suc f → j < slotsOf till p → isAbsent (t .slots (p * 64 + j)) ≡ false
-      → isBusy (t .slots (p * 64 + j)) ≡ not (eqb (m (cell f j 0)) 0)
+  slot-busy : (p f j : ℕ) → p < m (head b headPages) → m (entry (entryAt m b p) entryFrame) ≡ suc f → j < slotsOf till p → isAbsent (t .slots (p * pageSize + j)) ≡ false
+      → isBusy (t .slots (p * pageSize + j)) ≡ not (eqb (m (cell f j slotTag)) tagVacant)
   slot-busy p f j l e h a =
-      let q : (p * 64 + j) % 64 ≡ j = omega arith in
-      let s : t .slots (p * 64 + j) ≡ slotFrom m (suc f) j =
-      sym (v .slots (p * 64 + j)) ∙ ap (λ (x : ℕ). slotFrom m x ((p * 64 + j) % 64)) (frame-at m b p j l h ∙ e) ∙ ap (slotFrom m (suc f)) q in
-      ap isBusy s ∙ tag-busy m (m (cell f j 0)) (m (cell f j 1)) (m (cell f j 2)) (m (cell f j 3)) (m (cell f j 4)) (sym (ap isAbsent s) ∙ a)
+      let q : (p * pageSize + j) % pageSize ≡ j = omega arith in
+      let s : t .slots (p * pageSize + j) ≡ slotFrom m (suc f) j =
+      sym (v .slots (p * pageSize + j)) ∙ ap (λ (x : ℕ). slotFrom m x ((p * pageSize + j) % pageSize)) (frame-at m b p j l h ∙ e) ∙ ap (slotFrom m (suc f)) q in
+      ap isBusy s ∙ tag-busy m (m (cell f j slotTag)) (m (cell f j slotGeneration)) (m (cell f j slotObject)) (m (cell f j slotRights)) (m (cell f j slotFlags)) (sym (ap isAbsent s) ∙ a)
 
   -- the stored counts are those of the busy tags
   pub busy-stored : ((k : ℕ) → isAbsent (t .slots k) ≡ not (isAttached t (pageOf till k) && ltb k maxSlots)) → BusyStored m b
   busy-stored there p f l e =
       let l′ : p < t .size = omega (arith, v .size) in
       let a : isAttached t p ≡ true = link-is (t .pages p .frame) f (sym (v .frame p l′) ∙ e) in
-      v .busy p l′ a ∙ busy-sum (t .slots) (p * 64) (slotsOf till p)
-      ∙ sum-equal (slotsOf till p) (λ j. bit (isBusy (t .slots (p * 64 + j)))) (λ j. bit (not (eqb (m (cell f j 0)) 0)))
-      (λ j h. let q : (p * 64 + j) / 64 ≡ p = omega arith in
-      ap bit (slot-busy p f j l e h (there (p * 64 + j) ∙ rw (q, a, lt-ltb (p * 64 + j) maxSlots (omega arith)))))
+      v .busy p l′ a ∙ busy-sum (t .slots) (p * pageSize) (slotsOf till p)
+      ∙ sum-equal (slotsOf till p) (λ j. bit (isBusy (t .slots (p * pageSize + j)))) (λ j. bit (not (eqb (m (cell f j slotTag)) tagVacant)))
+      (λ j h. let q : (p * pageSize + j) / pageSize ≡ p = omega arith in
+      ap bit (slot-busy p f j l e h (there (p * pageSize + j) ∙ rw (q, a, lt-ltb (p * pageSize + j) maxSlots (omega arith)))))
 
   -- THE ORDERS that the check gives are a well-formed table's ..
   pub orders-hold : (x y z : List ℕ) → OrdersAre m b x y z
@@ -134,7 +137,7 @@ module _ (m : Mem) (b : ℕ) (t : Table) (v : Viewed m b t) where
   )
 
 -- .. and a well-formed table's orders are what the check asks for
-pub orders-given : (m : Mem) (b : ℕ) (t : Table) → TableIs m b t → Viewed m b t → Orders till t → t .size ≤ 262144 → OrdersAre m b (t .free) (t .empty) (t .detached)
+pub orders-given : (m : Mem) (b : ℕ) (t : Table) → TableIs m b t → Viewed m b t → Orders till t → t .size ≤ pagesMax → OrdersAre m b (t .free) (t .empty) (t .detached)
 orders-given m b t i v o h = record {
   size = omega (arith, i .size);
   free = record {

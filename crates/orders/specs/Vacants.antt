@@ -12,17 +12,20 @@ use Rattle.model.specs.State.{till, maxSlots}
 use Rattle.model.specs.Storage.{slotsOf}
 use Rattle.model.specs.Counting.{sum-append, sum-cut}
 use Rattle.layout.specs.Layout.{Mem, head, entry, cell}
+use Rattle.layout.specs.Fields.{headPages, headFirstEntry, entryFrame, entryBusy, slotTag}
+use Rattle.layout.specs.Values.{tagVacant}
+use Rattle.layout.specs.Sizes.{pageSize}
 use Rattle.representation.specs.Represents.{entryAt, wordIn, frameOf}
 use Rattle.representation.specs.Told.{frame-at}
 use Rattle.orders.specs.Check.{vacantAt, vacantsOn, vacants}
 
 -- how many slots of page p have a tag other than 0, in the frame f
 abbrev pub busyTags : Mem → ℕ → ℕ → ℕ
-busyTags m f p = sum (slotsOf till p) λ j. bit (not (eqb (m (cell f j 0)) 0))
+busyTags m f p = sum (slotsOf till p) λ j. bit (not (eqb (m (cell f j slotTag)) tagVacant))
 
 -- "stored counts equal what they count": each attached page of table b stores how many of its slots are busy
 abbrev pub BusyStored : Mem → ℕ → Type 0
-BusyStored m b = (p f : ℕ) → p < m (head b 5) → m (entry (entryAt m b p) 0) ≡ suc f → m (entry (entryAt m b p) 2) ≡ busyTags m f p
+BusyStored m b = (p f : ℕ) → p < m (head b headPages) → m (entry (entryAt m b p) entryFrame) ≡ suc f → m (entry (entryAt m b p) entryBusy) ≡ busyTags m f p
 
 -- ---- sums
 
@@ -41,18 +44,18 @@ unfolding vacantAt
 no-frame m b k e = rw (eq-eqb (frameOf m b k) 0 e)
 
 -- one that has a frame goes by its tag
-in-frame : (m : Mem) (b k f : ℕ) → frameOf m b k ≡ suc f → vacantAt m b k ≡ eqb (m (cell f (k % 64) 0)) 0
+in-frame : (m : Mem) (b k f : ℕ) → frameOf m b k ≡ suc f → vacantAt m b k ≡ eqb (m (cell f (k % pageSize) slotTag)) tagVacant
 unfolding vacantAt
-in-frame m b k f e = ap (λ (x : ℕ). not (eqb x 0) && eqb (wordIn m x (k % 64) 0) 0) e ∙ rw (ne-eqb (suc f) 0 (λ z. omega arith))
+in-frame m b k f e = ap (λ (x : ℕ). not (eqb x 0) && eqb (wordIn m x (k % pageSize) slotTag) 0) e ∙ rw (ne-eqb (suc f) 0 (λ z. omega arith))
 
 -- a vacant slot has a frame
 framed : (m : Mem) (b k : ℕ) → vacantAt m b k ≡ true → frameOf m b k ≡ 0 → ⊥
 framed m b k e z = clash e (no-frame m b k z)
 
 -- so it stands on one of the table's pages
-pub vacant-below : (m : Mem) (b k : ℕ) → vacantAt m b k ≡ true → k < m (head b 5) * 64
-vacant-below m b k e = bool (ltb (k / 64) (m (head b 5)))
-    (λ h. omega (arith, ltb-true (k / 64) (m (head b 5)) h))
+pub vacant-below : (m : Mem) (b k : ℕ) → vacantAt m b k ≡ true → k < m (head b headPages) * pageSize
+vacant-below m b k e = bool (ltb (k / pageSize) (m (head b headPages)))
+    (λ h. omega (arith, ltb-true (k / pageSize) (m (head b headPages)) h))
     (λ h. absurd (framed m b k e (bool (ltb k maxSlots) (λ l. rw (l, h)) (λ l. rw l))))
 
 pick-zero : (n : ℕ) (x y : ℕ) → n ≡ 0 → pick (eqb n 0) x y ≡ x
@@ -71,29 +74,29 @@ sum-opposite (suc n) t = omega (arith, sum-opposite n t, one (t n))
     one false = refl
 
 -- the vacant slots of a page
-page-vacants : (m : Mem) (b : ℕ) → BusyStored m b → (p : ℕ) → p < m (head b 5) → (link : ℕ) → m (entry (entryAt m b p) 0) ≡ link
-    → (sum (slotsOf till p) λ j. bit (vacantAt m b (p * 64 + j))) ≡ vacantsOn m (m (head b 10)) p
+page-vacants : (m : Mem) (b : ℕ) → BusyStored m b → (p : ℕ) → p < m (head b headPages) → (link : ℕ) → m (entry (entryAt m b p) entryFrame) ≡ link
+    → (sum (slotsOf till p) λ j. bit (vacantAt m b (p * pageSize + j))) ≡ vacantsOn m (m (head b headFirstEntry)) p
 unfolding vacantsOn
 page-vacants m b s p l zero e =
-    sum-zero (slotsOf till p) (λ j. bit (vacantAt m b (p * 64 + j))) (λ j h. ap bit (no-frame m b (p * 64 + j) (frame-at m b p j l h ∙ e)))
-    ∙ sym (pick-zero (m (entry (entryAt m b p) 0)) 0 (slotsOf till p - m (entry (entryAt m b p) 2)) e)
+    sum-zero (slotsOf till p) (λ j. bit (vacantAt m b (p * pageSize + j))) (λ j h. ap bit (no-frame m b (p * pageSize + j) (frame-at m b p j l h ∙ e)))
+    ∙ sym (pick-zero (m (entry (entryAt m b p) entryFrame)) 0 (slotsOf till p - m (entry (entryAt m b p) entryBusy)) e)
 page-vacants m b s p l (suc f) e =
-    sum-equal (slotsOf till p) (λ j. bit (vacantAt m b (p * 64 + j))) (λ j. bit (eqb (m (cell f j 0)) 0))
-    (λ j h. let q : (p * 64 + j) % 64 ≡ j = omega arith in
-    ap bit (in-frame m b (p * 64 + j) f (frame-at m b p j l h ∙ e) ∙ ap (λ (x : ℕ). eqb (m (cell f x 0)) 0) q))
+    sum-equal (slotsOf till p) (λ j. bit (vacantAt m b (p * pageSize + j))) (λ j. bit (eqb (m (cell f j slotTag)) tagVacant))
+    (λ j h. let q : (p * pageSize + j) % pageSize ≡ j = omega arith in
+    ap bit (in-frame m b (p * pageSize + j) f (frame-at m b p j l h ∙ e) ∙ ap (λ (x : ℕ). eqb (m (cell f x slotTag)) tagVacant) q))
     ∙ omega (
       arith,
-      sum-opposite (slotsOf till p) (λ j. eqb (m (cell f j 0)) 0),
+      sum-opposite (slotsOf till p) (λ j. eqb (m (cell f j slotTag)) tagVacant),
       s p f l e,
-      pick-more (m (entry (entryAt m b p) 0)) 0 (slotsOf till p - m (entry (entryAt m b p) 2)) (λ z. omega arith),
+      pick-more (m (entry (entryAt m b p) entryFrame)) 0 (slotsOf till p - m (entry (entryAt m b p) entryBusy)) (λ z. omega arith),
     )
 
 -- THE COUNT by pages is the number of vacant slots
-pub vacants-counted : (m : Mem) (b : ℕ) → BusyStored m b → (sum (m (head b 5) * 64) λ k. bit (vacantAt m b k)) ≡ vacants m (m (head b 5)) (m (head b 10))
+pub vacants-counted : (m : Mem) (b : ℕ) → BusyStored m b → (sum (m (head b headPages) * pageSize) λ k. bit (vacantAt m b k)) ≡ vacants m (m (head b headPages)) (m (head b headFirstEntry))
 unfolding vacants
 vacants-counted m b s =
-    sum-rows 64 (λ k. bit (vacantAt m b k)) (slotsOf till) (λ p. omega arith)
-    (λ p j h l. ap bit (no-frame m b (p * 64 + j) (rw (le-ltb (p * 64 + j) maxSlots (omega arith)))))
-    (m (head b 5))
-    ∙ sum-equal (m (head b 5)) (λ p. sum (slotsOf till p) λ j. bit (vacantAt m b (p * 64 + j))) (λ p. vacantsOn m (m (head b 10)) p)
-    (λ p l. page-vacants m b s p l (m (entry (entryAt m b p) 0)) refl)
+    sum-rows pageSize (λ k. bit (vacantAt m b k)) (slotsOf till) (λ p. omega arith)
+    (λ p j h l. ap bit (no-frame m b (p * pageSize + j) (rw (le-ltb (p * pageSize + j) maxSlots (omega arith)))))
+    (m (head b headPages))
+    ∙ sum-equal (m (head b headPages)) (λ p. sum (slotsOf till p) λ j. bit (vacantAt m b (p * pageSize + j))) (λ p. vacantsOn m (m (head b headFirstEntry)) p)
+    (λ p l. page-vacants m b s p l (m (entry (entryAt m b p) entryFrame)) refl)

@@ -2,36 +2,24 @@
 // many steps.
 ghost use mathlib.Core.Path.{_≡_};
 ghost use Rattle.layout.specs.Layout.{load as loadAt};
-ghost use Rattle.model.specs.State.{till};
-ghost use Rattle.model.specs.Storage.{slotsOf};
 ghost use Rattle.orders.specs.Walk.{walk};
 ghost use Rattle.orders.specs.Check.{emptyAt, detachedAt, vacantsOn, vacants, tally};
 ghost use Rattle.orders.specs.Check.{slotNext, pageNext, freeLink, emptyLink, detachedLink, freeBy, emptyBy, detachedBy, tableB, ordersB};
 use layout::Shape;
-
-// How many slots page p has.
-fn slots_of(p: u32) -> u64
-    ensures { λ r. ⌜ r ≡ slotsOf till p ⌝ }
-{
-    if p < 262143 {
-        return 64;
-    }
-    if p < 262144 {
-        return 63;
-    }
-    0
-}
+use layout::field;
+use layout::size;
+use layout::value;
 
 // The vacant slots of page p, of the table whose first entry is e: what the busy ones leave; none of a detached page.
 fn vacants_on(s: &[u64], sh: Shape, e: u64, p: u32) -> u64
     ensures { λ r. ⌜ r ≡ vacantsOn (loadAt (now (s .entry)) sh) e p ⌝ }
 {
-    let fr = storage::page_word(s, sh, e, p as u64, 0);
+    let fr = storage::page_word(s, sh, e, p as u64, field::ENTRY_FRAME);
     if fr == 0 {
         return 0;
     }
-    let busy = storage::page_word(s, sh, e, p as u64, 2);
-    let n = slots_of(p);
+    let busy = storage::page_word(s, sh, e, p as u64, field::ENTRY_BUSY);
+    let n = head::slots_of(p as u64) as u64;
     if busy < n { n - busy } else { 0 }
 }
 
@@ -55,11 +43,11 @@ fn page_empty(s: &[u64], sh: Shape, n: u32, e: u64, p: u64) -> bool
     if p >= n as u64 {
         return false;
     }
-    let fr = storage::page_word(s, sh, e, p, 0);
+    let fr = storage::page_word(s, sh, e, p, field::ENTRY_FRAME);
     if fr == 0 {
         return false;
     }
-    let busy = storage::page_word(s, sh, e, p, 2);
+    let busy = storage::page_word(s, sh, e, p, field::ENTRY_BUSY);
     busy == 0
 }
 
@@ -70,7 +58,7 @@ fn page_detached(s: &[u64], sh: Shape, n: u32, e: u64, p: u64) -> bool
     if p >= n as u64 {
         return false;
     }
-    let fr = storage::page_word(s, sh, e, p, 0);
+    let fr = storage::page_word(s, sh, e, p, field::ENTRY_FRAME);
     fr == 0
 }
 
@@ -114,11 +102,17 @@ fn free_link(s: &[u64], sh: Shape, b: u64, at: u64, before: u64) -> bool
     if fr == 0 {
         return false;
     }
-    let tag = layout::cell_word(s, sh, fr - 1, k % 64, 0);
-    if tag != 0 {
+    let tag = layout::cell_word(s, sh, fr - 1, k % size::PAGE_SIZE, field::SLOT_TAG);
+    if tag != value::TAG_VACANT {
         return false;
     }
-    let back = layout::cell_word(s, sh, fr - 1, k % 64, 3);
+    let back = layout::cell_word(
+        s,
+        sh,
+        fr - 1,
+        k % size::PAGE_SIZE,
+        field::SLOT_PREVIOUS_FREE,
+    );
     back == before
 }
 
@@ -134,7 +128,7 @@ fn walk_free(s: &[u64], sh: Shape, b: u64, first: u64, count: u64) -> bool
             return false;
         }
         before = at;
-        at = storage::slot_word(s, sh, b, words::dec(at), 2);
+        at = storage::slot_word(s, sh, b, words::dec(at), field::SLOT_NEXT_FREE);
         left -= 1;
     }
     at == 0
@@ -150,7 +144,7 @@ fn empty_link(s: &[u64], sh: Shape, n: u32, e: u64, at: u64, before: u64) -> boo
     if !page_empty(s, sh, n, e, at - 1) {
         return false;
     }
-    let back = storage::page_word(s, sh, e, at - 1, 4);
+    let back = storage::page_word(s, sh, e, at - 1, field::ENTRY_PREVIOUS);
     back == before
 }
 
@@ -165,7 +159,7 @@ fn walk_empty(s: &[u64], sh: Shape, n: u32, e: u64, first: u64, count: u64) -> b
             return false;
         }
         before = at;
-        at = storage::page_word(s, sh, e, words::dec(at), 3);
+        at = storage::page_word(s, sh, e, words::dec(at), field::ENTRY_NEXT);
         left -= 1;
     }
     at == 0
@@ -190,7 +184,7 @@ fn walk_detached(s: &[u64], sh: Shape, n: u32, e: u64, first: u64, count: u64) -
         if !detached_link(s, sh, n, e, at) {
             return false;
         }
-        at = storage::page_word(s, sh, e, words::dec(at), 3);
+        at = storage::page_word(s, sh, e, words::dec(at), field::ENTRY_NEXT);
         left -= 1;
     }
     at == 0
@@ -200,12 +194,12 @@ fn walk_detached(s: &[u64], sh: Shape, n: u32, e: u64, first: u64, count: u64) -
 fn check_free(s: &[u64], sh: Shape, b: u64, n: u32, e: u64) -> bool
     ensures { λ r. ⌜ r ≡ freeBy (loadAt (now (s .entry)) sh) b n e ⌝ }
 {
-    let count = layout::head_word(s, sh, b, 7);
+    let count = layout::head_word(s, sh, b, field::HEAD_FREE_SLOTS);
     let found = count_vacants(s, sh, n, e);
     if found != count {
         return false;
     }
-    let first = layout::head_word(s, sh, b, 6);
+    let first = layout::head_word(s, sh, b, field::HEAD_FIRST_FREE);
     walk_free(s, sh, b, first, count)
 }
 
@@ -214,7 +208,7 @@ fn check_empty(s: &[u64], sh: Shape, b: u64, n: u32, e: u64) -> bool
     ensures { λ r. ⌜ r ≡ emptyBy (loadAt (now (s .entry)) sh) b n e ⌝ }
 {
     let count = count_empties(s, sh, n, e);
-    let first = layout::head_word(s, sh, b, 8);
+    let first = layout::head_word(s, sh, b, field::HEAD_FIRST_EMPTY);
     walk_empty(s, sh, n, e, first, count)
 }
 
@@ -223,18 +217,18 @@ fn check_detached(s: &[u64], sh: Shape, b: u64, n: u32, e: u64) -> bool
     ensures { λ r. ⌜ r ≡ detachedBy (loadAt (now (s .entry)) sh) b n e ⌝ }
 {
     let count = count_detacheds(s, sh, n, e);
-    let first = layout::head_word(s, sh, b, 9);
+    let first = layout::head_word(s, sh, b, field::HEAD_FIRST_DETACHED);
     walk_detached(s, sh, n, e, first, count)
 }
 
 fn check_table(s: &[u64], sh: Shape, b: u64) -> bool
     ensures { λ r. ⌜ r ≡ tableB (loadAt (now (s .entry)) sh) b ⌝ }
 {
-    let size = layout::head_word(s, sh, b, 5);
-    if size > 262144 {
+    let size = layout::head_word(s, sh, b, field::HEAD_PAGES);
+    if size > size::PAGES_MAX {
         return false;
     }
-    let e = layout::head_word(s, sh, b, 10);
+    let e = layout::head_word(s, sh, b, field::HEAD_FIRST_ENTRY);
     let n = size as u32;
     if !check_free(s, sh, b, n, e) {
         return false;

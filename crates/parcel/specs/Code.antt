@@ -10,6 +10,8 @@ use Rattle.authority.specs.Rights.{contains, duplicateRight}
 use Rattle.model.specs.State.{knownFlags}
 use Rattle.layout.specs.declared.Shape.{Shape}
 use Rattle.layout.specs.Layout.{Mem, root, object, row, item, load}
+use Rattle.layout.specs.Fields.{rootNextId, rowLength, itemObject}
+use Rattle.layout.specs.Values.{kindParcel, stageActive, stageRetired}
 use Rattle.object.specs.declared.ObjectRecord.{ObjectRecord}
 use Rattle.object.specs.Words.{recordAt, activateW, raiseW, lowerW, retireW, raiseRefusal}
 use Rattle.book.specs.Ops.{rowLeft, idRefusal, spare, openW, handleW, closeW}
@@ -37,12 +39,12 @@ module _ (x : ObjectRecord) (t₁ : Bool) (e₁ : t₁ ≡ eqb (x .exportable) 0
   unfolding activationRefusal
   activation-kept y = yes-is _ _ _ _ (sym e₁ ∙ y) refl
 
-  module _ (n₁ : t₁ ≡ false) (t₂ : Bool) (e₂ : t₂ ≡ eqb (x .stage) 2) where
+  module _ (n₁ : t₁ ≡ false) (t₂ : Bool) (e₂ : t₂ ≡ eqb (x .stage) stageRetired) where
     pub activation-retired : t₂ ≡ true → 9 ≡ activationRefusal x
     unfolding activationRefusal
     activation-retired y = no-is _ _ _ _ (sym e₁ ∙ n₁) (yes-is _ _ _ _ (sym e₂ ∙ y) refl)
 
-    module _ (n₂ : t₂ ≡ false) (t₃ : Bool) (e₃ : t₃ ≡ eqb (x .stage) 1) where
+    module _ (n₂ : t₂ ≡ false) (t₃ : Bool) (e₃ : t₃ ≡ eqb (x .stage) stageActive) where
       pub activation-active : t₃ ≡ true → 10 ≡ activationRefusal x
       unfolding activationRefusal
       activation-active y = no-is _ _ _ _ (sym e₁ ∙ n₁) (no-is _ _ _ _ (sym e₂ ∙ n₂) (yes-is _ _ _ _ (sym e₃ ∙ y) refl))
@@ -101,7 +103,7 @@ module _ (m : Mem) (sh : Shape) (o r f : ℕ) (t₁ : Bool) (e₁ : t₁ ≡ ltb
 pub put-is : (ws w₁ : List ℕ) (sh : Shape) (x o r f : ℕ) → x ≡ spare (load ws sh) → w₁ ≡ handleW ws sh x 0 o r f → w₁ ≡ handleW ws sh (spare (load ws sh)) 0 o r f
 put-is ws w₁ sh x o r f e a = rw (a, e)
 
-pub parcel-is : (ws w₁ w₂ : List ℕ) (sh : Shape) (o r f : ℕ) → w₁ ≡ handleW ws sh (spare (load ws sh)) 0 o r f → w₂ ≡ openW w₁ sh 3 0 1 → w₂ ≡ parcelW ws sh o r f
+pub parcel-is : (ws w₁ w₂ : List ℕ) (sh : Shape) (o r f : ℕ) → w₁ ≡ handleW ws sh (spare (load ws sh)) 0 o r f → w₂ ≡ openW w₁ sh kindParcel 0 1 → w₂ ≡ parcelW ws sh o r f
 unfolding parcelW
 parcel-is ws w₁ w₂ sh o r f a₁ a₂ = rw (a₂, a₁)
 
@@ -114,7 +116,7 @@ module _ (ws os os′ : List ℕ) (sh : Shape) (base o r f n : ℕ) (t : Bool) (
   unfolding newObjectR
   new-refused y a = no-is _ _ _ _ (new-tested ∙ y) (rw (a, e))
 
-  pub new-done : (w₁ w₂ : List ℕ) (id : ℕ) → t ≡ true → id ≡ load ws sh (root 5) → w₁ ≡ activateW ws sh o → w₂ ≡ parcelW w₁ sh o r f → os′ ≡ answered os base (0 ∷ id ∷ [])
+  pub new-done : (w₁ w₂ : List ℕ) (id : ℕ) → t ≡ true → id ≡ load ws sh (root rootNextId) → w₁ ≡ activateW ws sh o → w₂ ≡ parcelW w₁ sh o r f → os′ ≡ answered os base (0 ∷ id ∷ [])
       → both w₂ os′ ≡ newObjectR ws os sh base o r f
   unfolding newObjectR
   new-done w₁ w₂ id y i a₁ a₂ a₃ = yes-is _ _ _ _ (new-tested ∙ y) (rw (a₂, a₁, a₃, i))
@@ -151,7 +153,7 @@ module _ (ws os os′ : List ℕ) (sh : Shape) (base r : ℕ) (h : PreparedHandl
   unfolding copiedR
   copied-refused y a = no-is _ _ _ _ (copy-tested ∙ y) (rw (a, e))
 
-  pub copied-done : (w₁ w₂ : List ℕ) (id : ℕ) → t ≡ true → id ≡ load ws sh (root 5) → w₁ ≡ raiseW ws sh (h .object) → w₂ ≡ parcelW w₁ sh (h .object) r (h .flags)
+  pub copied-done : (w₁ w₂ : List ℕ) (id : ℕ) → t ≡ true → id ≡ load ws sh (root rootNextId) → w₁ ≡ raiseW ws sh (h .object) → w₂ ≡ parcelW w₁ sh (h .object) r (h .flags)
       → os′ ≡ answered os base (0 ∷ id ∷ []) → both w₂ os′ ≡ copiedR ws os sh base r h
   unfolding copiedR
   copied-done w₁ w₂ id y i a₁ a₂ a₃ = yes-is _ _ _ _ (copy-tested ∙ y) (rw (a₂, a₁, a₃, i))
@@ -184,7 +186,7 @@ pub lowered-start : (ws : List ℕ) (sh : Shape) (x n : ℕ) → loweredW ws sh 
 lowered-start ws sh x n = let z : n - 0 ≡ n = omega arith in rw z
 
 -- the loop at item i has still to do what is left
-pub lowered-turn : (ws us vs : List ℕ) (sh : Shape) (x n i o : ℕ) → i < n → loweredW ws sh x 0 n ≡ loweredW us sh x i (n - i) → o ≡ load us sh (item x i 2) → vs ≡ lowerW us sh o
+pub lowered-turn : (ws us vs : List ℕ) (sh : Shape) (x n i o : ℕ) → i < n → loweredW ws sh x 0 n ≡ loweredW us sh x i (n - i) → o ≡ load us sh (item x i itemObject) → vs ≡ lowerW us sh o
     → loweredW ws sh x 0 n ≡ loweredW vs sh x (i + 1) (n - (i + 1))
 unfolding loweredW
 lowered-turn ws us vs sh x n i o l inv e a =
@@ -196,6 +198,6 @@ unfolding loweredW
 lowered-end ws us sh x n i l inv = let z : n - i ≡ 0 = omega arith in sym (inv ∙ ap (loweredW us sh x i) z)
 
 -- `release_row`
-pub released-is : (ws w₁ w₂ : List ℕ) (sh : Shape) (x n : ℕ) → n ≡ load ws sh (row x 3) → w₁ ≡ loweredW ws sh x 0 n → w₂ ≡ closeW w₁ sh x → w₂ ≡ releasedW ws sh x
+pub released-is : (ws w₁ w₂ : List ℕ) (sh : Shape) (x n : ℕ) → n ≡ load ws sh (row x rowLength) → w₁ ≡ loweredW ws sh x 0 n → w₂ ≡ closeW w₁ sh x → w₂ ≡ releasedW ws sh x
 unfolding releasedW
 released-is ws w₁ w₂ sh x n e a₁ a₂ = rw (a₂, a₁, e)

@@ -9,6 +9,8 @@ use Rattle.model.specs.Book.{find}
 use Rattle.model.specs.Decision.{asParcel}
 use Rattle.layout.specs.declared.Shape.{Shape}
 use Rattle.layout.specs.Layout.{Mem, index, row, load}
+use Rattle.layout.specs.Fields.{rowKind}
+use Rattle.layout.specs.Values.{kindParcel}
 use Rattle.representation.specs.Represents.{BodyIs}
 use Rattle.storage.specs.Reps.{Held}
 use Rattle.book.specs.Lists.{ids-apart, nothing}
@@ -16,13 +18,13 @@ use Rattle.book.specs.Ops.{rowLink}
 use Rattle.book.specs.Find.{Fits, RowAt, row-found, row-none, at-find, kind-none, kind-some}
 use Rattle.parcel.specs.Ops.{parcelLink}
 
--- word 1 of a row tells a parcel
-a-parcel : (m : Mem) (x : ℕ) (y : Body) → BodyIs m x y → m (row x 1) ≡ 3 → (hs : List Handle) × (y ≡ parcel hs)
+-- a row's kind tells a parcel
+a-parcel : (m : Mem) (x : ℕ) (y : Body) → BodyIs m x y → m (row x rowKind) ≡ kindParcel → (hs : List Handle) × (y ≡ parcel hs)
 a-parcel m x (reservation b ks) p e = absurd (omega (arith, p .0))
 a-parcel m x (claim b es) p e = absurd (omega (arith, p .0))
 a-parcel m x (parcel hs) p e = (hs, refl)
 
-no-parcel : (m : Mem) (x : ℕ) (y : Body) → BodyIs m x y → (m (row x 1) ≡ 3 → ⊥) → asParcel (some y) ≡ none
+no-parcel : (m : Mem) (x : ℕ) (y : Body) → BodyIs m x y → (m (row x rowKind) ≡ kindParcel → ⊥) → asParcel (some y) ≡ none
 no-parcel m x (reservation b ks) p e = refl
 no-parcel m x (claim b es) p e = refl
 no-parcel m x (parcel hs) p e = absurd (e (p .0))

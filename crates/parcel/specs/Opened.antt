@@ -22,6 +22,8 @@ use Rattle.model.specs.Step.{newObjectOf, duplicateOf, retireObjectOf, decide}
 use Rattle.model.specs.Words.{usedWords}
 use Rattle.layout.specs.declared.Shape.{Shape}
 use Rattle.layout.specs.Layout.{Mem, root, index, object, item, load, Write.at, load-writes, in-item}
+use Rattle.layout.specs.Fields.{rootUsedRows, itemObject, itemRights, itemFlags}
+use Rattle.layout.specs.Values.{stageActive}
 use Rattle.representation.specs.Represents.{stageWord, HandleIs, ObjectIs, Represents, Rep}
 use Rattle.representation.specs.Told.{retired-tells}
 use Rattle.storage.specs.Reps.{Held, held-of}
@@ -53,13 +55,13 @@ module _ (ws : List ℕ) (sh : Shape) (s : State) (h : Held ws sh s) (free : len
     handle-in : HandleIs (load (handleW ws sh (spare (load ws sh)) 0 o r f) sh) (spare (load ws sh)) 0 (record { object = o; rights = r; flags = f })
     unfolding handleW
     handle-in = let low = spare-low ws sh s h free in
-        let e = load-writes ws sh (h .reps .shaped .room) (at (item x 0 2) o ∷ at (item x 0 3) r ∷ at (item x 0 4) f ∷ [])
-        (in-item sh x 0 2 low (omega arith) (omega arith), (in-item sh x 0 3 low (omega arith) (omega arith), (in-item sh x 0 4 low (omega arith) (omega arith), tt))) in
+        let e = load-writes ws sh (h .reps .shaped .room) (at (item x 0 itemObject) o ∷ at (item x 0 itemRights) r ∷ at (item x 0 itemFlags) f ∷ [])
+        (in-item sh x 0 itemObject low (omega arith) (omega arith), (in-item sh x 0 itemRights low (omega arith) (omega arith), (in-item sh x 0 itemFlags low (omega arith) (omega arith), tt))) in
         rw (e, eq-eqb (spare (load ws sh)) (spare (load ws sh)) refl) (refl, refl, refl)
 
     same-place : spare (load (handleW ws sh (spare (load ws sh)) 0 o r f) sh) ≡ spare (load ws sh)
     same-place = let p = fills in
-        p .rest 9 (load (handleW ws sh (spare (load ws sh)) 0 o r f) sh (root 6)) 0 0 (λ q z. omega arith)
+        p .rest 9 (load (handleW ws sh (spare (load ws sh)) 0 o r f) sh (root rootUsedRows)) 0 0 (λ q z. omega arith)
         ∙ ap (λ (i : ℕ). load ws sh (index i)) (p .rest 0 0 0 6 (λ q z. omega arith))
 
     -- A PARCEL OF ONE HANDLE opens
@@ -111,7 +113,7 @@ copy-checks true true false true i d = refl
 copy-checks true true false false true d = refl
 copy-checks true true false false false d = refl
 
-active-tells : (g : Stage) → eqb (stageWord g) 1 ≡ isNowActive g
+active-tells : (g : Stage) → eqb (stageWord g) stageActive ≡ isNowActive g
 active-tells stillNew = refl
 active-tells nowActive = refl
 active-tells nowRetired = refl

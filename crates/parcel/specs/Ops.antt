@@ -7,6 +7,8 @@ use Rattle.authority.specs.Rights.{contains, duplicateRight}
 use Rattle.model.specs.State.{knownFlags}
 use Rattle.layout.specs.declared.Shape.{Shape}
 use Rattle.layout.specs.Layout.{Mem, root, object, row, item, load}
+use Rattle.layout.specs.Fields.{rootNextId, rowLength, itemObject}
+use Rattle.layout.specs.Values.{kindParcel, stageActive, stageRetired}
 use Rattle.object.specs.declared.ObjectRecord.{ObjectRecord}
 use Rattle.object.specs.Words.{recordAt, activateW, raiseW, lowerW, retireW, raiseRefusal}
 use Rattle.book.specs.Ops.{kindLink, rowLeft, idRefusal, spare, openW, handleW, closeW}
@@ -29,8 +31,8 @@ parcelW ws sh o r f = openW (handleW ws sh (spare (load ws sh)) 0 o r f) sh 3 0 
 unfoldable pub activationRefusal : ObjectRecord → ℕ
 activationRefusal x =
     pick (eqb (x .exportable) 0) 6
-    (pick (eqb (x .stage) 2) 9
-    (pick (eqb (x .stage) 1) 10
+    (pick (eqb (x .stage) stageRetired) 9
+    (pick (eqb (x .stage) stageActive) 10
     (pick (eqb (x .count) (x .limit)) 11 0)))
 
 -- the activation of x, then the id
@@ -49,7 +51,7 @@ newRefusal m sh o r f =
 unfoldable pub newObjectR : List ℕ → List ℕ → Shape → ℕ → ℕ → ℕ → ℕ → Both
 newObjectR ws os sh base o r f =
     let n : ℕ = newRefusal (load ws sh) sh o r f in
-    pick (eqb n 0) (both (parcelW (activateW ws sh o) sh o r f) (answered os base (0 ∷ load ws sh (root 5) ∷ []))) (refuseR ws os base n)
+    pick (eqb n 0) (both (parcelW (activateW ws sh o) sh o r f) (answered os base (0 ∷ load ws sh (root rootNextId) ∷ []))) (refuseR ws os base n)
 
 -- "Duplicate: 16, 1, 2 or 3, 5, 9, 11, 12": from 5 on, of the handle found and its object
 unfoldable pub copyRefusal : Mem → PreparedHandle → ℕ → ℕ
@@ -63,7 +65,7 @@ unfoldable pub copiedR : List ℕ → List ℕ → Shape → ℕ → ℕ → Pre
 copiedR ws os sh base r h =
     let n : ℕ = copyRefusal (load ws sh) h r in
     pick (eqb n 0)
-    (both (parcelW (raiseW ws sh (h .object)) sh (h .object) r (h .flags)) (answered os base (0 ∷ load ws sh (root 5) ∷ [])))
+    (both (parcelW (raiseW ws sh (h .object)) sh (h .object) r (h .flags)) (answered os base (0 ∷ load ws sh (root rootNextId) ∷ [])))
     (refuseR ws os base n)
 
 unfoldable pub duplicateR : List ℕ → List ℕ → Shape → ℕ → ℕ → ℕ → ℕ → Both
@@ -79,16 +81,16 @@ duplicateR ws os sh base b v r =
 
 -- the parcel with an id: its place plus 1, 0 if there is none
 abbrev pub parcelLink : Mem → Shape → ℕ → ℕ
-parcelLink = kindLink 3
+parcelLink = kindLink kindParcel
 
 -- the objects of n handles from item j on, of the row in place x, have one handle fewer each
 unfoldable pub loweredW : List ℕ → Shape → ℕ → ℕ → ℕ → List ℕ
 loweredW ws sh x j zero = ws
-loweredW ws sh x j (suc n) = loweredW (lowerW ws sh (load ws sh (item x j 2))) sh x (suc j) n
+loweredW ws sh x j (suc n) = loweredW (lowerW ws sh (load ws sh (item x j itemObject))) sh x (suc j) n
 
 -- "A parcel can be released, its counts with it"
 unfoldable pub releasedW : List ℕ → Shape → ℕ → List ℕ
-releasedW ws sh x = closeW (loweredW ws sh x 0 (load ws sh (row x 3))) sh x
+releasedW ws sh x = closeW (loweredW ws sh x 0 (load ws sh (row x rowLength))) sh x
 
 abbrev pub releaseR : List ℕ → List ℕ → Shape → ℕ → ℕ → Both
 releaseR ws os sh base i = onRowR (releasedW ws sh) ws os base (parcelLink (load ws sh) sh i)

@@ -22,6 +22,8 @@ use Rattle.invariant.specs.Parcels.{parts}
 use Rattle.invariant.specs.StorageViews.{fillAll-busy}
 use Rattle.layout.specs.declared.Shape.{Shape}
 use Rattle.layout.specs.Layout.{Mem, row, item, load}
+use Rattle.layout.specs.Fields.{rowLength, itemSlot}
+use Rattle.layout.specs.Sizes.{batchMax}
 use Rattle.representation.specs.Represents.{HandleIs, Items}
 use Rattle.storage.specs.Order.{occurs-head}
 use Rattle.storage.specs.Ops.{occupyW}
@@ -93,7 +95,7 @@ fill-append (k ∷ ks) (g ∷ gs) hs t = fill-append ks gs hs (keep till (λ n. 
 keep-busy : (t : Table) (k : ℕ) (h : Handle) (i : ℕ) → isBusy (t .slots i) ≡ true → isBusy (keep till (λ g. occupied g h) t k .slots i) ≡ true
 keep-busy t k h i e = fillAll-busy till (k ∷ []) (h ∷ []) t i e
 
-fill-more : (ws : List ℕ) (sh : Shape) (b x p y j n k : ℕ) (h : Handle) → p + j ≤ 64 → load ws sh (item x (p + j) 0) ≡ k → HandleIs (load ws sh) y j h
+fill-more : (ws : List ℕ) (sh : Shape) (b x p y j n k : ℕ) (h : Handle) → p + j ≤ batchMax → load ws sh (item x (p + j) itemSlot) ≡ k → HandleIs (load ws sh) y j h
     → filledW ws sh b x p y j (suc n) ≡ filledW (occupyW ws sh b k (h .object) (h .rights) (h .flags)) sh b x p y (suc j) n
 unfolding filledW
 fill-more ws sh b x p y j n k h l e q =
@@ -105,12 +107,12 @@ unfolding filledW
 fill-stop ws sh b x p y j = refl
 
 abbrev SlotsAt : Mem → ℕ → ℕ → ℕ → Type 0
-SlotsAt m x j k = m (item x j 0) ≡ k
+SlotsAt m x j k = m (item x j itemSlot) ≡ k
 
 module _ (sh : Shape) (b x y p : ℕ) where
   -- by the handles of one parcel
   filled-keeps : (hs : List Handle) (ks ws : List ℕ) (s : State) (j : ℕ) → Held ws sh s → b < s .tableCount → ((k : ℕ) → 0 < occurs k ks → isBusy (s .tables b .slots k) ≡ true)
-      → Items (SlotsAt (load ws sh) x) (p + j) ks → Items (HandleIs (load ws sh) y) j hs → length hs ≤ length ks → p + j + length ks ≤ 64
+      → Items (SlotsAt (load ws sh) x) (p + j) ks → Items (HandleIs (load ws sh) y) j hs → length hs ≤ length ks → p + j + length ks ≤ batchMax
       → Keeps sh ws s (filledW ws sh b x p y j (length hs)) (withTable s b (fillAll till ks hs (s .tables b)))
   filled-keeps [] ks ws s j h l busy slots handles few room =
       rw (fill-stop ws sh b x p y j, fill-none ks (s .tables b), table-same s b) (keeps-none sh ws s h)
@@ -132,7 +134,7 @@ published-stop : (ws : List ℕ) (sh : Shape) (b x p : ℕ) → publishedW ws sh
 unfolding publishedW
 published-stop ws sh b x p = refl
 
-published-more : (ws : List ℕ) (sh : Shape) (b x p i : ℕ) (is : List ℕ) (y n : ℕ) → parcelLink (load ws sh) sh i ≡ suc y → load ws sh (row y 3) ≡ n → p + n ≤ 64
+published-more : (ws : List ℕ) (sh : Shape) (b x p i : ℕ) (is : List ℕ) (y n : ℕ) → parcelLink (load ws sh) sh i ≡ suc y → load ws sh (row y rowLength) ≡ n → p + n ≤ batchMax
     → publishedW ws sh b x p (i ∷ is) ≡ publishedW (filledW ws sh b x p y 0 n) sh b x (p + n) is
 unfolding publishedW
 published-more ws sh b x p i is y n e q l =
@@ -143,7 +145,7 @@ module _ (sh : Shape) (b x : ℕ) where
   -- by the handles of all parcels
   pub published-keeps : (is : List ℕ) (hs : List Handle) (ks ws : List ℕ) (s : State) (p : ℕ) → Held ws sh s → Fits s → b < s .tableCount
       → ((k : ℕ) → 0 < occurs k ks → isBusy (s .tables b .slots k) ≡ true) → Items (SlotsAt (load ws sh) x) p ks → handlesOf is (s .book .rows) ≡ some hs
-      → length hs ≤ length ks → p + length ks ≤ 64 → Keeps sh ws s (publishedW ws sh b x p is) (withTable s b (fillAll till ks hs (s .tables b)))
+      → length hs ≤ length ks → p + length ks ≤ batchMax → Keeps sh ws s (publishedW ws sh b x p is) (withTable s b (fillAll till ks hs (s .tables b)))
   published-keeps [] hs ks ws s p h f l busy slots e few room =
       let z : hs ≡ [] = cc in
       rw (published-stop ws sh b x p, z, fill-none ks (s .tables b), table-same s b) (keeps-none sh ws s h)
@@ -156,7 +158,7 @@ module _ (sh : Shape) (b x : ℕ) where
       go : (gs rest : List Handle) → find i (s .book .rows) ≡ some (parcel gs) → handlesOf is (s .book .rows) ≡ some rest → hs ≡ gs ++ rest
           → (n : ℕ) → parcelLink (load ws sh) sh i ≡ n
           → ((ks′ ws′ : List ℕ) (s′ : State) (p′ : ℕ) → Held ws′ sh s′ → Fits s′ → b < s′ .tableCount → ((k : ℕ) → 0 < occurs k ks′ → isBusy (s′ .tables b .slots k) ≡ true)
-          → Items (SlotsAt (load ws′ sh) x) p′ ks′ → handlesOf is (s′ .book .rows) ≡ some rest → length rest ≤ length ks′ → p′ + length ks′ ≤ 64
+          → Items (SlotsAt (load ws′ sh) x) p′ ks′ → handlesOf is (s′ .book .rows) ≡ some rest → length rest ≤ length ks′ → p′ + length ks′ ≤ batchMax
           → Keeps sh ws′ s′ (publishedW ws′ sh b x p′ is) (withTable s′ b (fillAll till ks′ rest (s′ .tables b))))
           → Keeps sh ws s (publishedW ws sh b x p (i ∷ is)) (withTable s b (fillAll till ks hs (s .tables b)))
       go gs rest found after whole zero n0 rec = let y : asParcel (find i (s .book .rows)) ≡ some gs = ap asParcel found in

@@ -10,8 +10,10 @@ use Rattle.words.specs.Pick.{pick, yes-is, no-is}
 use Rattle.model.specs.Base.{member}
 use Rattle.model.specs.Words.{must}
 use Rattle.model.specs.Decision.{distinct}
+use Rattle.format.specs.Fields.{idField}
 use Rattle.layout.specs.declared.Shape.{Shape}
 use Rattle.layout.specs.Layout.{Mem, row, item, load}
+use Rattle.layout.specs.Fields.{rowTable, rowLength, itemSlot, itemObject, itemRights, itemFlags}
 use Rattle.request.specs.Place.{fieldsAt, endAt, parcelAt}
 use Rattle.request.specs.Laws.{places-turn, places-end}
 use Rattle.storage.specs.Ops.{occupyW}
@@ -22,7 +24,7 @@ use Rattle.parcel.specs.Publishing.{idsAt, plus, fits, filledW, publishe
 
 -- ---- items
 
-ids-turn : (rq : List ℕ) (at n w e : ℕ) → 0 < n → w ≡ must (fieldsAt rq at) 7 → e ≡ endAt rq at → idsAt rq at n ≡ w ∷ idsAt rq e (n - 1)
+ids-turn : (rq : List ℕ) (at n w e : ℕ) → 0 < n → w ≡ must (fieldsAt rq at) idField → e ≡ endAt rq at → idsAt rq at n ≡ w ∷ idsAt rq e (n - 1)
 unfolding idsAt parcelAt
 ids-turn rq at n w e l p q = rw (places-turn n rq at l, p, q)
 
@@ -36,20 +38,20 @@ module _ (m : Mem) (sh : Shape) (rq : List ℕ) (A : Bool) (place more left : �
   unfolding fits
   fits-end t l q = q ∙ sym (inv ∙ ap (λ (is : List ℕ). fits m sh is left) (ids-end rq place more l))
 
-  module _ (y : 0 < more) (w l : ℕ) (e₁ : w ≡ must (fieldsAt rq place) 7) (e₂ : l ≡ parcelLink m sh w) (t : Bool) (q : t ≡ eqb l 0) where
+  module _ (y : 0 < more) (w l : ℕ) (e₁ : w ≡ must (fieldsAt rq place) idField) (e₂ : l ≡ parcelLink m sh w) (t : Bool) (q : t ≡ eqb l 0) where
     at-first : (e : ℕ) → e ≡ endAt rq place
-        → A ≡ pick (eqb l 0) false (pick (ltb left (m (row (l - 1) 3))) false (fits m sh (idsAt rq e (more - 1)) (left - m (row (l - 1) 3))))
+        → A ≡ pick (eqb l 0) false (pick (ltb left (m (row (l - 1) rowLength))) false (fits m sh (idsAt rq e (more - 1)) (left - m (row (l - 1) rowLength))))
     unfolding fits
     at-first e d = inv ∙ ap (λ (is : List ℕ). fits m sh is left) (ids-turn rq place more w e y e₁ d) ∙ rw e₂
 
     pub fits-unknown : t ≡ true → false ≡ A
     fits-unknown z = yes-is _ _ _ _ (sym q ∙ z) refl ∙ sym (at-first (endAt rq place) refl)
 
-    module _ (z : t ≡ false) (x c : ℕ) (e₃ : x ≡ l - 1) (e₄ : c ≡ m (row x 3)) (t₂ : Bool) (q₂ : t₂ ≡ ltb left c) where
-      same-count : c ≡ m (row (l - 1) 3)
-      same-count = e₄ ∙ ap (λ (k : ℕ). m (row k 3)) e₃
+    module _ (z : t ≡ false) (x c : ℕ) (e₃ : x ≡ l - 1) (e₄ : c ≡ m (row x rowLength)) (t₂ : Bool) (q₂ : t₂ ≡ ltb left c) where
+      same-count : c ≡ m (row (l - 1) rowLength)
+      same-count = e₄ ∙ ap (λ (k : ℕ). m (row k rowLength)) e₃
 
-      over : ltb left (m (row (l - 1) 3)) ≡ t₂
+      over : ltb left (m (row (l - 1) rowLength)) ≡ t₂
       over = sym (q₂ ∙ ap (ltb left) same-count)
 
       pub fits-over : t₂ ≡ true → false ≡ A
@@ -63,7 +65,7 @@ module _ (rq : List ℕ) (A : Bool) (id place more : ℕ) (inv : A ≡ member id
   pub named-end : more ≤ 0 → false ≡ A
   named-end l = sym (inv ∙ ap (member id) (ids-end rq place more l))
 
-  module _ (y : 0 < more) (w : ℕ) (e₁ : w ≡ must (fieldsAt rq place) 7) (t : Bool) (q : t ≡ eqb id w) where
+  module _ (y : 0 < more) (w : ℕ) (e₁ : w ≡ must (fieldsAt rq place) idField) (t : Bool) (q : t ≡ eqb id w) where
     pub named-yes : t ≡ true → true ≡ A
     named-yes z = sym (inv ∙ ap (member id) (ids-turn rq place more w (endAt rq place) y e₁ refl) ∙ rw (sym q ∙ z))
 
@@ -75,7 +77,7 @@ module _ (rq : List ℕ) (A : Bool) (place more : ℕ) (inv : A ≡ distinct (id
   pub distinct-end : more ≤ 0 → true ≡ A
   distinct-end l = sym (inv ∙ ap distinct (ids-end rq place more l))
 
-  module _ (y : 0 < more) (w e : ℕ) (e₁ : w ≡ must (fieldsAt rq place) 7) (e₂ : e ≡ endAt rq place) (t : Bool) (q : t ≡ member w (idsAt rq e (more - 1))) where
+  module _ (y : 0 < more) (w e : ℕ) (e₁ : w ≡ must (fieldsAt rq place) idField) (e₂ : e ≡ endAt rq place) (t : Bool) (q : t ≡ member w (idsAt rq e (more - 1))) where
     pub distinct-no : t ≡ true → false ≡ A
     distinct-no z = sym (inv ∙ ap distinct (ids-turn rq place more w e y e₁ e₂) ∙ rw (sym q ∙ z))
 
@@ -87,7 +89,7 @@ pub filled-start : (ws : List ℕ) (sh : Shape) (b x p y n : ℕ) → filledW ws
 filled-start ws sh b x p y n = let z : n - 0 ≡ n = omega arith in rw z
 
 pub filled-turn : (ws us vs : List ℕ) (sh : Shape) (b x p y n i q k o r f : ℕ) → i < n → filledW ws sh b x p y 0 n ≡ filledW us sh b x p y i (n - i) → q ≡ plus p i
-    → k ≡ load us sh (item x q 0) → o ≡ load us sh (item y i 2) → r ≡ load us sh (item y i 3) → f ≡ load us sh (item y i 4) → vs ≡ occupyW us sh b k o r f
+    → k ≡ load us sh (item x q itemSlot) → o ≡ load us sh (item y i itemObject) → r ≡ load us sh (item y i itemRights) → f ≡ load us sh (item y i itemFlags) → vs ≡ occupyW us sh b k o r f
     → filledW ws sh b x p y 0 n ≡ filledW vs sh b x p y (i + 1) (n - (i + 1))
 unfolding filledW
 filled-turn ws us vs sh b x p y n i q k o r f l inv e₀ e₁ e₂ e₃ e₄ a =
@@ -104,7 +106,7 @@ module _ (sh : Shape) (rq A us : List ℕ) (b x p place more : ℕ) (inv : A ≡
   unfolding publishedW
   published-end l = sym (inv ∙ ap (publishedW us sh b x p) (ids-end rq place more l))
 
-  pub published-turn : (vs : List ℕ) (w l y n p′ e : ℕ) → 0 < more → w ≡ must (fieldsAt rq place) 7 → l ≡ parcelLink (load us sh) sh w → y ≡ l - 1 → n ≡ load us sh (row y 3)
+  pub published-turn : (vs : List ℕ) (w l y n p′ e : ℕ) → 0 < more → w ≡ must (fieldsAt rq place) idField → l ≡ parcelLink (load us sh) sh w → y ≡ l - 1 → n ≡ load us sh (row y rowLength)
       → vs ≡ filledW us sh b x p y 0 n → p′ ≡ plus p n → e ≡ endAt rq place → A ≡ publishedW vs sh b x p′ (idsAt rq e (more - 1))
   unfolding publishedW
   published-turn vs w l y n p′ e g e₁ e₂ e₃ e₄ a e₅ d =
@@ -116,13 +118,13 @@ module _ (sh : Shape) (rq A us : List ℕ) (place more : ℕ) (inv : A ≡ dropp
   unfolding droppedW
   dropped-end l = sym (inv ∙ ap (droppedW us sh) (ids-end rq place more l))
 
-  pub dropped-turn : (vs : List ℕ) (w l y e : ℕ) → 0 < more → w ≡ must (fieldsAt rq place) 7 → l ≡ rowLink (load us sh) sh w → y ≡ l - 1 → vs ≡ closeW us sh y → e ≡ endAt rq place
+  pub dropped-turn : (vs : List ℕ) (w l y e : ℕ) → 0 < more → w ≡ must (fieldsAt rq place) idField → l ≡ rowLink (load us sh) sh w → y ≡ l - 1 → vs ≡ closeW us sh y → e ≡ endAt rq place
       → A ≡ droppedW vs sh (idsAt rq e (more - 1))
   unfolding droppedW
   dropped-turn vs w l y e g e₁ e₂ e₃ a d = inv ∙ ap (droppedW us sh) (ids-turn rq place more w e g e₁ d) ∙ rw (a, e₃, e₂)
 
 -- `publish_row`
-pub spent-is : (ws w₁ w₂ w₃ : List ℕ) (sh : Shape) (x b : ℕ) (is : List ℕ) → b ≡ load ws sh (row x 2) → w₁ ≡ publishedW ws sh b x 0 is → w₂ ≡ closeW w₁ sh x → w₃ ≡ droppedW w₂ sh is
+pub spent-is : (ws w₁ w₂ w₃ : List ℕ) (sh : Shape) (x b : ℕ) (is : List ℕ) → b ≡ load ws sh (row x rowTable) → w₁ ≡ publishedW ws sh b x 0 is → w₂ ≡ closeW w₁ sh x → w₃ ≡ droppedW w₂ sh is
     → w₃ ≡ spentW ws sh x is
 unfolding spentW
 spent-is ws w₁ w₂ w₃ sh x b is e a₁ a₂ a₃ = rw (a₃, a₂, a₁, e)
@@ -136,8 +138,8 @@ module _ (ws os os′ : List ℕ) (sh : Shape) (base i : ℕ) (is : List ℕ) (l
   unfolding publishR
   publish-none y a = yes-is _ _ _ _ (none-there ∙ y) (ap (both ws) a)
 
-  module _ (y : t ≡ false) (x n : ℕ) (e₁ : x ≡ l - 1) (e₂ : n ≡ load ws sh (row x 3)) (t₂ : Bool) (q₂ : t₂ ≡ fits (load ws sh) sh is n) where
-    fitting : fits (load ws sh) sh is (load ws sh (row (reservationLink (load ws sh) sh i - 1) 3)) ≡ t₂
+  module _ (y : t ≡ false) (x n : ℕ) (e₁ : x ≡ l - 1) (e₂ : n ≡ load ws sh (row x rowLength)) (t₂ : Bool) (q₂ : t₂ ≡ fits (load ws sh) sh is n) where
+    fitting : fits (load ws sh) sh is (load ws sh (row (reservationLink (load ws sh) sh i - 1) rowLength)) ≡ t₂
     fitting = rw (q₂, e₂, e₁, e)
 
     pub publish-unfit : t₂ ≡ false → os′ ≡ answered os base (18 ∷ []) → both ws os′ ≡ publishR ws os sh base i is

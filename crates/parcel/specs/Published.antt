@@ -26,6 +26,7 @@ use Rattle.invariant.specs.BookLemmas.{found-range}
 use Rattle.invariant.specs.StorageDecisions.{reservation-owns}
 use Rattle.layout.specs.declared.Shape.{Shape}
 use Rattle.layout.specs.Layout.{Mem, row, load}
+use Rattle.layout.specs.Sizes.{batchMax}
 use Rattle.representation.specs.Represents.{isMarked, Rep}
 use Rattle.storage.specs.Reps.{Held, held-of}
 use Rattle.book.specs.Ops.{rowLink, reservationLink, closeW}
@@ -114,7 +115,7 @@ module _ (ws : List ℕ) (sh : Shape) (s : State) (r : Rep ws sh s) where
     range : (b < s .tableCount) × Batch ks
     range = found-range s (r .wellFormed .ranges .rows) i (reservation b ks) (o .found)
 
-    few : length ks ≤ 64
+    few : length ks ≤ batchMax
     unfolding maxBatch
     few = range .1 .1
 

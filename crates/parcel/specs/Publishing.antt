@@ -7,6 +7,7 @@ use Rattle.words.specs.Pick.{pick}
 use Rattle.model.specs.Decision.{distinct}
 use Rattle.layout.specs.declared.Shape.{Shape}
 use Rattle.layout.specs.Layout.{Mem, row, item, load}
+use Rattle.layout.specs.Fields.{rowTable, rowLength, itemSlot, itemObject, itemRights, itemFlags}
 use Rattle.request.specs.Place.{placesFrom, parcelAt}
 use Rattle.storage.specs.Ops.{occupyW}
 use Rattle.book.specs.Ops.{rowLink, reservationLink, closeW}
@@ -26,19 +27,19 @@ unfoldable pub fits : Mem → Shape → List ℕ → ℕ → Bool
 fits m sh [] n = eqb n 0
 fits m sh (i ∷ is) n =
     pick (eqb (parcelLink m sh i) 0) false
-    (pick (ltb n (m (row (parcelLink m sh i - 1) 3))) false (fits m sh is (n - m (row (parcelLink m sh i - 1) 3))))
+    (pick (ltb n (m (row (parcelLink m sh i - 1) rowLength))) false (fits m sh is (n - m (row (parcelLink m sh i - 1) rowLength))))
 
 -- n handles from item j on, of the parcel in place y, into the slots of the reservation in place x, of table b, whose positions are p more
 unfoldable pub filledW : List ℕ → Shape → ℕ → ℕ → ℕ → ℕ → ℕ → ℕ → List ℕ
 filledW ws sh b x p y j zero = ws
 filledW ws sh b x p y j (suc n) =
-    filledW (occupyW ws sh b (load ws sh (item x (plus p j) 0)) (load ws sh (item y j 2)) (load ws sh (item y j 3)) (load ws sh (item y j 4))) sh b x p y (suc j) n
+    filledW (occupyW ws sh b (load ws sh (item x (plus p j) itemSlot)) (load ws sh (item y j itemObject)) (load ws sh (item y j itemRights)) (load ws sh (item y j itemFlags))) sh b x p y (suc j) n
 
 -- "whose handles in order fill its slots": the handles of the parcels of a list, from position p on
 unfoldable pub publishedW : List ℕ → Shape → ℕ → ℕ → ℕ → List ℕ → List ℕ
 publishedW ws sh b x p [] = ws
 publishedW ws sh b x p (i ∷ is) =
-    let y : ℕ = parcelLink (load ws sh) sh i - 1 in let n : ℕ = load ws sh (row y 3) in
+    let y : ℕ = parcelLink (load ws sh) sh i - 1 in let n : ℕ = load ws sh (row y rowLength) in
     publishedW (filledW ws sh b x p y 0 n) sh b x (plus p n) is
 
 -- the rows of a list of ids leave
@@ -48,13 +49,13 @@ droppedW ws sh (i ∷ is) = droppedW (closeW ws sh (rowLink (load ws sh) sh i - 
 
 -- the slots are filled, then the reservation's row and the parcels' leave
 unfoldable pub spentW : List ℕ → Shape → ℕ → List ℕ → List ℕ
-spentW ws sh x is = droppedW (closeW (publishedW ws sh (load ws sh (row x 2)) x 0 is) sh x) sh is
+spentW ws sh x is = droppedW (closeW (publishedW ws sh (load ws sh (row x rowTable)) x 0 is) sh x) sh is
 
 -- "row named twice; lengths differ": 18
 unfoldable pub publishR : List ℕ → List ℕ → Shape → ℕ → ℕ → List ℕ → Both
 publishR ws os sh base i is =
     let l : ℕ = reservationLink (load ws sh) sh i in
     pick (eqb l 0) (refuseR ws os base 18)
-    (pick (fits (load ws sh) sh is (load ws sh (row (l - 1) 3)))
+    (pick (fits (load ws sh) sh is (load ws sh (row (l - 1) rowLength)))
     (pick (distinct is) (both (spentW ws sh (l - 1) is) (answered os base (0 ∷ []))) (refuseR ws os base 18))
     (refuseR ws os base 18))

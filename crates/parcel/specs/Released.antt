@@ -13,6 +13,7 @@ use Rattle.model.specs.Step.{releaseParcelOf, decide}
 use Rattle.invariant.specs.BookLemmas.{found-range}
 use Rattle.layout.specs.declared.Shape.{Shape}
 use Rattle.layout.specs.Layout.{row, item, load}
+use Rattle.layout.specs.Fields.{itemObject}
 use Rattle.representation.specs.Represents.{HandleIs, Items, Rep}
 use Rattle.storage.specs.Kept.{handles-kept}
 use Rattle.storage.specs.Reps.{Held, held-of}
@@ -28,7 +29,7 @@ use Rattle.parcel.specs.Ops.{parcelLink, loweredW, releasedW, releaseR}
 use Rattle.parcel.specs.Found.{Loose, parcel-none, parcel-some}
 use Rattle.book.specs.Keeps.{Keeps, keeps-none, keeps-then, objects-keep}
 
-lowered-more : (ws : List ℕ) (sh : Shape) (x j n o : ℕ) → load ws sh (item x j 2) ≡ o → loweredW ws sh x j (suc n) ≡ loweredW (lowerW ws sh o) sh x (suc j) n
+lowered-more : (ws : List ℕ) (sh : Shape) (x j n o : ℕ) → load ws sh (item x j itemObject) ≡ o → loweredW ws sh x j (suc n) ≡ loweredW (lowerW ws sh o) sh x (suc j) n
 unfolding loweredW
 lowered-more ws sh x j n o e = ap (λ (k : ℕ). loweredW (lowerW ws sh k) sh x (suc j) n) e
 

@@ -15,17 +15,17 @@ ghost use Rattle.parcel.specs.Ops.{retireR, activationRefusal, rowRefusa
 ghost use Rattle.parcel.specs.Ops.{copyRefusal, copiedR, duplicateR, parcelLink, loweredW, releasedW, releaseR};
 ghost use Rattle.model.specs.Base.{member};
 ghost use Rattle.model.specs.Decision.{distinct};
+ghost use Rattle.format.specs.Fields.{idField};
 ghost use Rattle.parcel.specs.Publishing.{idsAt, plus, fits, filledW, publishedW, droppedW, spentW, publishR};
 use authority::Rights;
 use codec::HandleValue;
 use codec::ReservationId;
 use layout::Shape;
+use layout::field;
+use layout::value;
 use lookup::Opened;
 use lookup::PreparedHandle;
 use object::ObjectRecord;
-
-// "Known flags: bits 0 and 1 of 32".
-pub const KNOWN_FLAGS: u64 = 3;
 
 // "Its owner may retire it by a request accepted in any state"; "unknown .. object": 18.
 pub fn retire_object(s: &mut [u64], sh: Shape, o: u64, out: &mut [u64], base: usize)
@@ -43,7 +43,7 @@ pub fn retire_object(s: &mut [u64], sh: Shape, o: u64, out: &mut [u64], base: us
 fn known_flags(flags: u64) -> bool
     ensures { λ r. ⌜ r ≡ contains knownFlags flags ⌝ }
 {
-    KNOWN_FLAGS & flags == flags
+    value::KNOWN_FLAGS & flags == flags
 }
 
 // "Activation refuses 6 not exportable, 9 retired, 10 active, 11 limit reached, in that order"; 0 for none.
@@ -53,10 +53,10 @@ pub fn activation_refusal(x: ObjectRecord) -> u64
     if words::eq(x.exportable, 0) {
         return format::refusal::UNSUPPORTED_RIGHTS;
     }
-    if words::eq(x.stage, object::NOW_RETIRED) {
+    if words::eq(x.stage, value::STAGE_RETIRED) {
         return format::refusal::OBJECT_RETIRED;
     }
-    if words::eq(x.stage, object::NOW_ACTIVE) {
+    if words::eq(x.stage, value::STAGE_ACTIVE) {
         return format::refusal::OBJECT_ALREADY_ACTIVE;
     }
     if words::eq(x.count, x.limit) {
@@ -119,10 +119,10 @@ pub fn new_object(
 {
     let n = new_refusal(s, sh, o, rights, flags);
     if words::eq(n, 0) {
-        let id = layout::root_word(s, sh, 5);
+        let id = layout::root_word(s, sh, field::ROOT_NEXT_ID);
         object::activate_object(s, sh, o);
         put_parcel(s, sh, o, rights.0, flags);
-        book::open_row(s, sh, book::PARCEL, 0, 1);
+        book::open_row(s, sh, value::KIND_PARCEL, 0, 1);
         answer::say1(out, base, id);
         return;
     }
@@ -160,10 +160,10 @@ fn duplicate_handle(
 {
     let n = copy_refusal(s, sh, h, rights);
     if words::eq(n, 0) {
-        let id = layout::root_word(s, sh, 5);
+        let id = layout::root_word(s, sh, field::ROOT_NEXT_ID);
         object::raise_object(s, sh, h.object);
         put_parcel(s, sh, h.object, rights.0, h.flags);
-        book::open_row(s, sh, book::PARCEL, 0, 1);
+        book::open_row(s, sh, value::KIND_PARCEL, 0, 1);
         answer::say1(out, base, id);
         return;
     }
@@ -206,7 +206,10 @@ pub fn parcel_of(s: &[u64], sh: Shape, id: ReservationId) -> u64
     ensures { λ r. ⌜ r ≡ parcelLink (loadAt (now (s .entry)) sh) sh (id .0) ⌝ }
 {
     let link = book::row_of(s, sh, id.0);
-    if words::eq(layout::row_word(s, sh, words::dec(link), 1), book::PARCEL) {
+    if words::eq(
+        layout::row_word(s, sh, words::dec(link), field::ROW_KIND),
+        value::KIND_PARCEL,
+    ) {
         return link;
     }
     0
@@ -218,7 +221,7 @@ fn lower_items(s: &mut [u64], sh: Shape, x: u64, n: u64)
 {
     let mut i: u64 = 0;
     while i < n {
-        let o = layout::item_word(s, sh, x, i, 2);
+        let o = layout::item_word(s, sh, x, i, field::ITEM_OBJECT);
         object::lower_object(s, sh, o);
         i += 1;
     }
@@ -228,7 +231,7 @@ fn lower_items(s: &mut [u64], sh: Shape, x: u64, n: u64)
 fn release_row(s: &mut [u64], sh: Shape, x: u64)
     ensures words { λ _. ⌜ now (s .exit) ≡ releasedW (now (s .entry)) sh x ⌝ }
 {
-    let n = layout::row_word(s, sh, x, 3);
+    let n = layout::row_word(s, sh, x, field::ROW_LENGTH);
     lower_items(s, sh, x, n);
     book::close_row(s, sh, x);
 }
@@ -259,7 +262,7 @@ fn add(a: u64, b: u64) -> u64
 
 // The id that the item at a place names: behind the operation, where the record has no other field.
 fn item_id(rq: &[u64], at: usize) -> u64
-    ensures { λ r. ⌜ r ≡ must (fieldsAt (now (rq .entry)) at) 7 ⌝ }
+    ensures { λ r. ⌜ r ≡ must (fieldsAt (now (rq .entry)) at) idField ⌝ }
 {
     if at < rq.len() {
         if rq[at] == format::PARCEL_ITEM_MUST {
@@ -293,7 +296,7 @@ fn parcels_fit(s: &[u64], sh: Shape, rq: &[u64], at: usize, count: u64, n: u64) 
         if words::eq(link, 0) {
             return false;
         }
-        let c = layout::row_word(s, sh, words::dec(link), 3);
+        let c = layout::row_word(s, sh, words::dec(link), field::ROW_LENGTH);
         if words::lt(left, c) {
             return false;
         }
@@ -346,10 +349,10 @@ fn fill_from(s: &mut [u64], sh: Shape, b: u64, x: u64, p: u64, y: u64, n: u64)
     let mut i: u64 = 0;
     while i < n {
         let q = add(p, i);
-        let k = layout::item_word(s, sh, x, q, 0);
-        let o = layout::item_word(s, sh, y, i, 2);
-        let r = layout::item_word(s, sh, y, i, 3);
-        let f = layout::item_word(s, sh, y, i, 4);
+        let k = layout::item_word(s, sh, x, q, field::ITEM_SLOT);
+        let o = layout::item_word(s, sh, y, i, field::ITEM_OBJECT);
+        let r = layout::item_word(s, sh, y, i, field::ITEM_RIGHTS);
+        let f = layout::item_word(s, sh, y, i, field::ITEM_FLAGS);
         storage::occupy(s, sh, b, k, o, r, f);
         i += 1;
     }
@@ -365,7 +368,7 @@ fn fill_slots(s: &mut [u64], sh: Shape, b: u64, x: u64, rq: &[u64], at: usize, c
     while 0 < more {
         let link = parcel_of(s, sh, ReservationId(item_id(rq, place)));
         let y = words::dec(link);
-        let n = layout::row_word(s, sh, y, 3);
+        let n = layout::row_word(s, sh, y, field::ROW_LENGTH);
         fill_from(s, sh, b, x, p, y, n);
         p = add(p, n);
         place = item_end(rq, place);
@@ -392,7 +395,7 @@ fn close_parcels(s: &mut [u64], sh: Shape, rq: &[u64], at: usize, count: u64)
 fn publish_row(s: &mut [u64], sh: Shape, x: u64, rq: &[u64], at: usize, count: u64)
     ensures words { λ _. ⌜ now (s .exit) ≡ spentW (now (s .entry)) sh x (idsAt (now (rq .entry)) at count) ⌝ }
 {
-    let b = layout::row_word(s, sh, x, 2);
+    let b = layout::row_word(s, sh, x, field::ROW_TABLE);
     fill_slots(s, sh, b, x, rq, at, count);
     book::close_row(s, sh, x);
     close_parcels(s, sh, rq, at, count);
@@ -418,7 +421,7 @@ pub fn publish(
         return;
     }
     let x = words::dec(link);
-    let n = layout::row_word(s, sh, x, 3);
+    let n = layout::row_word(s, sh, x, field::ROW_LENGTH);
     if parcels_fit(s, sh, rq, at, count, n) {
         if distinct_ids(rq, at, count) {
             publish_row(s, sh, x, rq, at, count);

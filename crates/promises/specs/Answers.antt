@@ -24,37 +24,38 @@ use Rattle.model.specs.Step.{decide, step, carry, newObjectOf, duplicateOf, rel
 use Rattle.model.specs.Decided.{Decided, Any, accepts, checked, with-some, with-view, with-handle, with-reservation, with-claim, while-tearing, after-id, either-way, found-or, first-or}
 use Rattle.model.specs.Refusals.{isRefused, numbered, refused-keeps}
 use Rattle.model.specs.Words.{usedWords, wordsOf}
+use Rattle.format.specs.Ops.{opNewObject, opDuplicate, opReleaseParcel, opRetireObject, opReserve, opTrim, opAbort, opPublish, opGetInfo, opResolve, opReplace, opClose, opScanHandles, opPrepareTransfer, opPrepareConsumption, opRollback, opCommit, opDirectCommit, opDirectRollback, opRemoveStoppingOwner, opTeardownStart, opTeardownStep, opTeardownFinish, opTakeEmptyPage}
 
 -- docs/formats.md, "Ops": the number of a request's op
 abbrev pub opOf : Request → ℕ
-opOf (newObject o r f) = 1
-opOf (duplicate b v r) = 2
-opOf (releaseParcel i) = 3
-opOf (retireObject o) = 4
-opOf (reserve b n) = 5
-opOf (trim i n) = 6
-opOf (abort i) = 7
-opOf (publish i is) = 8
-opOf (getInfo b v) = 9
-opOf (resolve b v r k) = 10
-opOf (replace b v r) = 11
-opOf (close b v) = 12
-opOf (scanHandles b c) = 13
-opOf (prepareTransfer b route o k qs) = 14
-opOf (prepareConsumption b v r k o) = 15
-opOf (rollback i) = 16
-opOf (commit i) = 17
-opOf (directCommit i j) = 18
-opOf (directRollback i j) = 19
-opOf (removeStoppingOwner b c) = 20
-opOf (teardownStart b) = 21
-opOf (teardownStep b) = 22
-opOf (teardownFinish b) = 23
-opOf (takeEmptyPage b) = 24
+opOf (newObject o r f) = opNewObject
+opOf (duplicate b v r) = opDuplicate
+opOf (releaseParcel i) = opReleaseParcel
+opOf (retireObject o) = opRetireObject
+opOf (reserve b n) = opReserve
+opOf (trim i n) = opTrim
+opOf (abort i) = opAbort
+opOf (publish i is) = opPublish
+opOf (getInfo b v) = opGetInfo
+opOf (resolve b v r k) = opResolve
+opOf (replace b v r) = opReplace
+opOf (close b v) = opClose
+opOf (scanHandles b c) = opScanHandles
+opOf (prepareTransfer b route o k qs) = opPrepareTransfer
+opOf (prepareConsumption b v r k o) = opPrepareConsumption
+opOf (rollback i) = opRollback
+opOf (commit i) = opCommit
+opOf (directCommit i j) = opDirectCommit
+opOf (directRollback i j) = opDirectRollback
+opOf (removeStoppingOwner b c) = opRemoveStoppingOwner
+opOf (teardownStart b) = opTeardownStart
+opOf (teardownStep b) = opTeardownStep
+opOf (teardownFinish b) = opTeardownFinish
+opOf (takeEmptyPage b) = opTakeEmptyPage
 
 -- docs/formats.md, "Answers": word 1 of an answer is an id for ops 1, 2, 5, 14 and 15
 abbrev pub givesId : Request → Bool
-givesId r = member (opOf r) (1 ∷ 2 ∷ 5 ∷ 14 ∷ 15 ∷ [])
+givesId r = member (opOf r) (opNewObject ∷ opDuplicate ∷ opReserve ∷ opPrepareTransfer ∷ opPrepareConsumption ∷ [])
 
 -- ---- which answers have an id
 

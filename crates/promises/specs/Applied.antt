@@ -25,6 +25,7 @@ use Rattle.model.specs.Words.{readList, usedWords, padded, wordsOf, allWords}
 use Rattle.model.specs.Cases.{sameList-equal}
 use Rattle.layout.specs.declared.Shape.{Shape}
 use Rattle.layout.specs.Layout.{head, load, load-root}
+use Rattle.layout.specs.Fields.{headFirstFree}
 use Rattle.representation.specs.Represents.{slotIn, TableIs, Rep}
 use Rattle.representation.specs.Unique.{shapeFor, shape-unique, rep-unique}
 use Rattle.answer.specs.Does.{idSpent}
@@ -250,7 +251,7 @@ module _ (ws us : List ℕ) (wb : Begun ws) (ub : Begun us) (hs ps : List Call) 
   -- and by 9 in P; the next id is 11 in H and 10 in P
   commit-and-close : listOf hs ≡ prepareWords ++ (listWords ++ commitWords 6) → listOf ps ≡ plainWords ++ closingWords 0 (v61 ∷ v63 ∷ [])
       → (getD (drop 432 (answersOf ps)) 0 18 ≡ 0) × (getD (drop 432 (answersOf ps)) 72 18 ≡ 0)
-      × (load (left ws hs) sh (head 0 6) ≡ 64) × (load (left us ps) sh (head 0 6) ≡ 64)
+      × (load (left ws hs) sh (head 0 headFirstFree) ≡ 64) × (load (left us ps) sh (head 0 headFirstFree) ≡ 64)
       × (slotIn (load (left ws hs) sh) 1 62 ≡ reserved 1 10) × (slotIn (load (left us ps) sh) 1 62 ≡ reserved 1 9)
       × (getD (left ws hs) 5 0 ≡ 11) × (getD (left us ps) 5 0 ≡ 10)
   unfolding runs ran

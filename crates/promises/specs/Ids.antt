@@ -11,7 +11,7 @@ use lib.ListN.{length, getD, drop, length-append}
 use lib.Dec.{eqb}
 use borrow.Author.Tests.{eqb-true}
 use Rattle.words.specs.Pick.{clash, both}
-use Rattle.format.specs.Fields.{idField, destinationField}
+use Rattle.format.specs.Fields.{opField, tableField, objectField, countField, valueField, rightsField, flagsField, idField, destinationField, kindField, koidField, cursorField, routeField, offeredRightsField, offeredKindField, expectedKindField, forbiddenObjectField, forbiddenKindField, anOp, anOperation, zeroWord}
 use Rattle.format.specs.Format.{musts, mays, transferItemMust, transferItemMay, parcelItemMust, parcelItemMay, fieldKinds, fieldFits, fieldCount}
 use Rattle.model.specs.Base.{pick, nth, orElse}
 use Rattle.model.specs.Request.{Item}
@@ -174,7 +174,7 @@ module _ (f : ℕ → ℕ) (z : f 0 ≡ 0) (ys : List ℕ) where
     where
       passes : (fs : Fields) (rest : List ℕ) → goodRecord first (mustOf (must fs 0)) (mayOf (must fs 0)) m fs ≡ true
           → pick {A = Reading Fields} (goodRecord first (mustOf (must (fieldsBy f 0 fs) 0)) (mayOf (must (fieldsBy f 0 fs) 0)) m (fieldsBy f 0 fs)) (some (fieldsBy f 0 fs, then-ys [] rest)) none ≡ some (fieldsBy f 0 fs, then-ys [] rest)
-      passes fs rest good = rw (must-same f fs 0 refl, fit-by f (first ∷ drop 1 fieldKinds) fs 0 q, good)
+      passes fs rest good = rw (must-same f fs opField refl, fit-by f (first ∷ drop 1 fieldKinds) fs 0 q, good)
 
   -- what a reading makes of the changed words
   abbrev Goes : {A : Type 0} → (List ℕ → Reading A) → (A → A) → Type 0
@@ -213,13 +213,13 @@ module _ (f : ℕ → ℕ) (z : f 0 ≡ 0) (ys : List ℕ) where
   transfer-item-go : Goes readTransferItem (λ q. q)
   unfolding fieldKinds
   transfer-item-go = one-go
-      (λ r. record { operation = operationOf (must r 0); value = must r 4; rights = must r 5; offeredRights = may r 13; offeredKind = may r 14; expectedKind = may r 15 })
-      (λ q. q) 5 transferItemMust transferItemMay refl
-      (λ fs. rw (must-same f fs 0 refl, must-same f fs 4 refl, must-same f fs 5 refl, may-same f fs 13 refl, may-same f fs 14 refl, may-same f fs 15 refl))
+      (λ r. record { operation = operationOf (must r opField); value = must r valueField; rights = must r rightsField; offeredRights = may r offeredRightsField; offeredKind = may r offeredKindField; expectedKind = may r expectedKindField })
+      (λ q. q) anOperation transferItemMust transferItemMay refl
+      (λ fs. rw (must-same f fs opField refl, must-same f fs valueField refl, must-same f fs rightsField refl, may-same f fs offeredRightsField refl, may-same f fs offeredKindField refl, may-same f fs expectedKindField refl))
 
   parcel-item-go : Goes readParcelItem f
   unfolding fieldKinds
-  parcel-item-go = one-go (λ r. must r 7) f 6 parcelItemMust parcelItemMay refl (λ fs. must-by f z fs 7 refl)
+  parcel-item-go = one-go (λ r. must r idField) f zeroWord parcelItemMust parcelItemMay refl (λ fs. must-by f z fs idField refl)
 
   -- a request's items
   abbrev with-go : Reading Request → Reading Request
@@ -238,7 +238,7 @@ module _ (f : ℕ → ℕ) (z : f 0 ≡ 0) (ys : List ℕ) where
   items-go fs (publish i is) ws q rest e =
       let t = then-some (readMany readParcelItem (must fs 3) ws) (λ r. some (publish i (r .0), r .1)) (q, rest) e in
       let a : List ℕ × List ℕ = t .0 in
-      ap (λ (n : ℕ). andThen (readMany readParcelItem n (then-ys [] ws)) λ r. some (publish (f i) (r .0), r .1)) (must-same f fs 3 refl)
+      ap (λ (n : ℕ). andThen (readMany readParcelItem n (then-ys [] ws)) λ r. some (publish (f i) (r .0), r .1)) (must-same f fs countField refl)
       ∙ ap (λ (x : Reading (List ℕ)). andThen x λ r. some (publish (f i) (r .0), r .1)) (many-go readParcelItem f parcel-item-go (must fs 3) ws (a .0) (a .1) (t .1))
       ∙ ap with-go (t .2)
   items-go fs (getInfo c w) ws q rest e = ap with-go e
@@ -249,7 +249,7 @@ module _ (f : ℕ → ℕ) (z : f 0 ≡ 0) (ys : List ℕ) where
   items-go fs (prepareTransfer c route o k qs) ws q rest e =
       let t = then-some (readMany readTransferItem (must fs 3) ws) (λ r. some (prepareTransfer c route o k (r .0), r .1)) (q, rest) e in
       let a : List Item × List ℕ = t .0 in
-      ap (λ (n : ℕ). andThen (readMany readTransferItem n (then-ys [] ws)) λ r. some (prepareTransfer c route o k (r .0), r .1)) (must-same f fs 3 refl)
+      ap (λ (n : ℕ). andThen (readMany readTransferItem n (then-ys [] ws)) λ r. some (prepareTransfer c route o k (r .0), r .1)) (must-same f fs countField refl)
       ∙ ap (λ (x : Reading (List Item)). andThen x λ r. some (prepareTransfer c route o k (r .0), r .1))
       (many-go readTransferItem (λ q. q) transfer-item-go (must fs 3) ws (a .0) (a .1) (t .1) ∙ ap (λ (l : List Item). some (l, then-ys [] (a .1))) (map-same (a .0)))
       ∙ ap with-go (t .2)
@@ -274,30 +274,30 @@ module _ (f : ℕ → ℕ) (z : f 0 ≡ 0) (ys : List ℕ) where
 
   makes : AllMake plainRequests
   makes =
-      (λ fs. rw (must-same f fs 2 refl, must-same f fs 5 refl, must-same f fs 6 refl))
-      & (λ fs. rw (must-same f fs 1 refl, must-same f fs 4 refl, must-same f fs 5 refl))
-      & (λ fs. rw (must-by f z fs 7 refl))
-      & (λ fs. rw (must-same f fs 2 refl))
-      & (λ fs. rw (must-same f fs 1 refl, must-same f fs 3 refl))
-      & (λ fs. rw (must-by f z fs 7 refl, must-same f fs 3 refl))
-      & (λ fs. rw (must-by f z fs 7 refl))
-      & (λ fs. rw (must-by f z fs 7 refl))
-      & (λ fs. rw (must-same f fs 1 refl, must-same f fs 4 refl))
-      & (λ fs. rw (must-same f fs 1 refl, must-same f fs 4 refl, must-same f fs 5 refl, must-same f fs 9 refl))
-      & (λ fs. rw (must-same f fs 1 refl, must-same f fs 4 refl, must-same f fs 5 refl))
-      & (λ fs. rw (must-same f fs 1 refl, must-same f fs 4 refl))
-      & (λ fs. rw (must-same f fs 1 refl, must-same f fs 11 refl))
-      & (λ fs. rw (must-same f fs 1 refl, must-same f fs 12 refl, may-same f fs 16 refl, may-same f fs 17 refl))
-      & (λ fs. rw (must-same f fs 1 refl, must-same f fs 4 refl, must-same f fs 5 refl, must-same f fs 9 refl, must-same f fs 10 refl))
-      & (λ fs. rw (must-by f z fs 7 refl))
-      & (λ fs. rw (must-by f z fs 7 refl))
-      & (λ fs. rw (must-by f z fs 7 refl, must-by f z fs 8 refl))
-      & (λ fs. rw (must-by f z fs 7 refl, must-by f z fs 8 refl))
-      & (λ fs. rw (must-same f fs 1 refl, must-same f fs 11 refl))
-      & (λ fs. rw (must-same f fs 1 refl))
-      & (λ fs. rw (must-same f fs 1 refl))
-      & (λ fs. rw (must-same f fs 1 refl))
-      & (λ fs. rw (must-same f fs 1 refl))
+      (λ fs. rw (must-same f fs objectField refl, must-same f fs rightsField refl, must-same f fs flagsField refl))
+      & (λ fs. rw (must-same f fs tableField refl, must-same f fs valueField refl, must-same f fs rightsField refl))
+      & (λ fs. rw (must-by f z fs idField refl))
+      & (λ fs. rw (must-same f fs objectField refl))
+      & (λ fs. rw (must-same f fs tableField refl, must-same f fs countField refl))
+      & (λ fs. rw (must-by f z fs idField refl, must-same f fs countField refl))
+      & (λ fs. rw (must-by f z fs idField refl))
+      & (λ fs. rw (must-by f z fs idField refl))
+      & (λ fs. rw (must-same f fs tableField refl, must-same f fs valueField refl))
+      & (λ fs. rw (must-same f fs tableField refl, must-same f fs valueField refl, must-same f fs rightsField refl, must-same f fs kindField refl))
+      & (λ fs. rw (must-same f fs tableField refl, must-same f fs valueField refl, must-same f fs rightsField refl))
+      & (λ fs. rw (must-same f fs tableField refl, must-same f fs valueField refl))
+      & (λ fs. rw (must-same f fs tableField refl, must-same f fs cursorField refl))
+      & (λ fs. rw (must-same f fs tableField refl, must-same f fs routeField refl, may-same f fs forbiddenObjectField refl, may-same f fs forbiddenKindField refl))
+      & (λ fs. rw (must-same f fs tableField refl, must-same f fs valueField refl, must-same f fs rightsField refl, must-same f fs kindField refl, must-same f fs koidField refl))
+      & (λ fs. rw (must-by f z fs idField refl))
+      & (λ fs. rw (must-by f z fs idField refl))
+      & (λ fs. rw (must-by f z fs idField refl, must-by f z fs destinationField refl))
+      & (λ fs. rw (must-by f z fs idField refl, must-by f z fs destinationField refl))
+      & (λ fs. rw (must-same f fs tableField refl, must-same f fs cursorField refl))
+      & (λ fs. rw (must-same f fs tableField refl))
+      & (λ fs. rw (must-same f fs tableField refl))
+      & (λ fs. rw (must-same f fs tableField refl))
+      & (λ fs. rw (must-same f fs tableField refl))
       & tt
 
   made : (xs : List (Fields → Request)) (k : ℕ) (x : Fields → Request) → AllMake xs → nth xs k ≡ some x → Makes x
@@ -312,13 +312,13 @@ module _ (f : ℕ → ℕ) (z : f 0 ≡ 0) (ys : List ℕ) where
   request-go : Goes readRequest (requestBy f)
   unfolding readRequest fieldKinds
   request-go ws q rest e =
-      let head : List ℕ → Reading Fields = λ v. readRecord 4 (λ op. getD musts op 0) (λ op. getD mays op 0) v in
+      let head : List ℕ → Reading Fields = λ v. readRecord anOp (λ op. getD musts op 0) (λ op. getD mays op 0) v in
       let make : Fields × List ℕ → Reading Request = λ r. andThen (plainRequest (must (r .0) 0)) λ make. withItems (r .0) (make (r .0)) (r .1) in
       let t = then-some (head ws) make (q, rest) e in
       let r : Fields × List ℕ = t .0 in
       let u = then-some (plainRequest (must (r .0) 0)) (λ m. withItems (r .0) (m (r .0)) (r .1)) (q, rest) (t .2) in
       let m : Fields → Request = u .0 in
-      ap (λ (x : Reading Fields). andThen x make) (record-go 4 (λ op. getD musts op 0) (λ op. getD mays op 0) refl ws (r .0) (r .1) (t .1))
+      ap (λ (x : Reading Fields). andThen x make) (record-go anOp (λ op. getD musts op 0) (λ op. getD mays op 0) refl ws (r .0) (r .1) (t .1))
       ∙ ap (λ (k : ℕ). andThen (plainRequest k) λ x. withItems (fieldsBy f 0 (r .0)) (x (fieldsBy f 0 (r .0))) (then-ys [] (r .1))) (must-same f (r .0) 0 refl)
       ∙ ap (λ (x : Option (Fields → Request)). andThen x λ x. withItems (fieldsBy f 0 (r .0)) (x (fieldsBy f 0 (r .0))) (then-ys [] (r .1))) (u .1)
       ∙ ap (λ (x : Request). withItems (fieldsBy f 0 (r .0)) x (then-ys [] (r .1))) (made-op (must (r .0) 0) m (u .1) (r .0))

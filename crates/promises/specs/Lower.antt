@@ -13,6 +13,7 @@ use borrow.Author.Tests.{eqb-true, eqb-false, ne-eqb, le-ltb}
 use Rattle.words.specs.Pick.{bool, both, clash}
 use Rattle.authority.specs.Rights.{contains}
 use Rattle.format.specs.Format.{musts, mays, fieldKinds, fieldFits, knownOp, fieldCount, answerWords}
+use Rattle.format.specs.Ops.{opLast}
 use Rattle.model.specs.Base.{pick, orElse, every, range}
 use Rattle.model.specs.State.{Sizes, State}
 use Rattle.model.specs.Request.{Answer, Answer.refused, Answer.done, Answer.opened, Answer.batch, Answer.infoOf, Answer.resolved, Answer.renewed, Answer.scanned, Answer.removed, Answer.closed, Answer.taken}
@@ -154,7 +155,7 @@ every-in p k (suc n) i e h l =
     let b = both (p k) (every p (range (suc k) n)) e in
     bool (eqb k i) (λ q. let z : i ≡ k = sym (eqb-true k i q) in rw z (b .0)) (λ q. let z : k ≡ i → ⊥ = eqb-false k i q in every-in p (suc k) n i (b .1) (omega arith) (omega arith))
 
-op-made : (list : List ℕ) (op : ℕ) → 1 ≤ op → op ≤ 24 → opOf (requestOf op list 0) ≡ op
+op-made : (list : List ℕ) (op : ℕ) → 1 ≤ op → op ≤ opLast → opOf (requestOf op list 0) ≡ op
 unfolding requestOf
 op-made list op h l = eqb-true (opOf (requestOf op list 0)) op (every-in (λ k. eqb (opOf (requestOf k list 0)) k) 1 24 op refl h (omega arith))
 

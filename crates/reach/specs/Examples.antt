@@ -18,6 +18,8 @@ use Rattle.model.specs.WellFormed.{WellFormed}
 use Rattle.invariant.specs.Pages.{till-sane}
 use Rattle.invariant.specs.Kept.{run-kept}
 use Rattle.layout.specs.Layout.{Addr, Mem, load, root, head, entry, owner, group, cell, object, index, rank, row, item as itemAt}
+use Rattle.layout.specs.Fields.{headLifecycle}
+use Rattle.layout.specs.Values.{lifeRetired}
 use Rattle.representation.specs.Represents.{slotIn, Rep}
 use Rattle.representation.specs.Unique.{shapeFor, rep-unique}
 use Rattle.written.specs.Words.{tableAt, pageAt, ownerOf, wordAt}
@@ -229,7 +231,7 @@ module _ (hs ps : List Call) (kh : Calls (starts .held .words) hs) (kp : Calls (
   seenP = load (left (starts .plain .words) ps) (starts .sh)
 
   -- slot 57 is reserved by 12 in H and by 11 in P; what the first claim held stands in slot 63 again, and table 1 is retired, in both
-  same-end : (slotIn seenH 0 57 ≡ reserved 1 12) × (slotIn seenP 0 57 ≡ reserved 1 11) × (slotIn seenH 0 63 ≡ first) × (slotIn seenP 0 63 ≡ first) × (seenH (head 1 2) ≡ 2) × (seenP (head 1 2) ≡ 2)
+  same-end : (slotIn seenH 0 57 ≡ reserved 1 12) × (slotIn seenP 0 57 ≡ reserved 1 11) × (slotIn seenH 0 63 ≡ first) × (slotIn seenP 0 63 ≡ first) × (seenH (head 1 headLifecycle) ≡ lifeRetired) × (seenP (head 1 headLifecycle) ≡ lifeRetired)
   unfolding runs ran
   same-end =
       let d : Same runs = demand-3 runs in

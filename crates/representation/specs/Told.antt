@@ -14,6 +14,9 @@ use Rattle.model.specs.Objects.{isNowRetired}
 use Rattle.model.specs.Storage.{slotsOf}
 use Rattle.layout.specs.declared.Shape.{Shape}
 use Rattle.layout.specs.Layout.{Addr, Mem, head, entry, load}
+use Rattle.layout.specs.Fields.{headPages, entryFrame}
+use Rattle.layout.specs.Values.{tagReserved, tagTransferReserved, stageRetired}
+use Rattle.layout.specs.Sizes.{pageSize}
 use Rattle.representation.specs.Represents.{entryAt, linkOf, frameOf, LifeIs, stageWord, isMarked}
 
 pub link-some : (x : Option ℕ) (f : ℕ) → linkOf x ≡ suc f → x ≡ some f
@@ -22,8 +25,8 @@ link-some (some g) f e = let y : g ≡ f = omega arith in rw y
 
 -- the tag of a kind of mark: true for Reserved
 abbrev pub tagOf : Bool → ℕ
-tagOf true = 1
-tagOf false = 2
+tagOf true = tagReserved
+tagOf false = tagTransferReserved
 
 pub marked-full : (x : Slot) → isMarked x ≡ true → isVacant x ≡ false
 marked-full absent e = refl
@@ -37,16 +40,16 @@ life-tells w c active e = eq-eqb w 0 e
 life-tells w c (tearingDown n) e = ne-eqb w 0 (λ z. omega arith)
 life-tells w c retired e = ne-eqb w 0 (λ z. omega arith)
 
-pub retired-tells : (g : Stage) → eqb (stageWord g) 2 ≡ isNowRetired g
+pub retired-tells : (g : Stage) → eqb (stageWord g) stageRetired ≡ isNowRetired g
 retired-tells stillNew = refl
 retired-tells nowActive = refl
 retired-tells nowRetired = refl
 
 -- the frame of slot j of page p
-pub frame-at : (m : Mem) (b p j : ℕ) → p < m (head b 5) → j < slotsOf till p → frameOf m b (p * 64 + j) ≡ m (entry (entryAt m b p) 0)
+pub frame-at : (m : Mem) (b p j : ℕ) → p < m (head b headPages) → j < slotsOf till p → frameOf m b (p * pageSize + j) ≡ m (entry (entryAt m b p) entryFrame)
 frame-at m b p j h i =
-    let a : (p * 64 + j) / 64 ≡ p = omega arith in
-    rw (a, lt-ltb (p * 64 + j) maxSlots (omega arith), lt-ltb p (m (head b 5)) h)
+    let a : (p * pageSize + j) / pageSize ≡ p = omega arith in
+    rw (a, lt-ltb (p * pageSize + j) maxSlots (omega arith), lt-ltb p (m (head b headPages)) h)
 
 pub load-small : (ws : List ℕ) (sh : Shape) → Small ws → (a : Addr) → load ws sh a < 2 ^ 64
 unfolding load

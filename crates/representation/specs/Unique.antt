@@ -17,6 +17,7 @@ use Rattle.layout.specs.declared.Shape.{Shape}
 use Rattle.layout.specs.declared.ShapeRead.the-variants.{Shape as found}
 use Rattle.layout.specs.Layout.{Mem, head, item, index, load}
 use Rattle.layout.specs.ShapeOf.{shape-is}
+use Rattle.layout.specs.Fields.{headLifecycle, headCursor, headFirstFree, headFirstEmpty, headFirstDetached, itemSlot}
 use Rattle.representation.specs.Represents.{linkOf, Chain, Linked, LifeIs, TableIs, classWord, stageWord, ObjectIs, HandleIs, EntryIs, Items, BodyIs, RowsAre, Represents, Rep}
 
 -- the counts of a state
@@ -165,10 +166,10 @@ page-unique m b t v i j rest p = bool (ltb p (t .size))
 pub table-unique : (m : Mem) (b : ℕ) (t v : Table) → TableIs m b t → TableIs m b v → ((p : ℕ) → t .size ≤ p → t .pages p ≡ v .pages p) → t ≡ v
 table-unique m b t v i j rest =
     table-parts v (t .limit) (t .mask) (t .life) (t .epoch) (t .size) (t .pages) (t .slots) (t .free) (t .empty) (t .detached)
-    (sym (i .limit) ∙ j .limit) (sym (i .mask) ∙ j .mask) (life-unique (m (head b 2)) (m (head b 3)) (t .life) (v .life) (i .life) (j .life)) (sym (i .epoch) ∙ j .epoch) (sym (i .size) ∙ j .size)
+    (sym (i .limit) ∙ j .limit) (sym (i .mask) ∙ j .mask) (life-unique (m (head b headLifecycle)) (m (head b headCursor)) (t .life) (v .life) (i .life) (j .life)) (sym (i .epoch) ∙ j .epoch) (sym (i .size) ∙ j .size)
     (fun-ext (page-unique m b t v i j rest)) (fun-ext λ k. sym (i .slots k) ∙ j .slots k)
-    (chain-unique _ _ (m (head b 6)) 0 0 (t .free) (v .free) (i .free) (j .free)) (chain-unique _ _ (m (head b 8)) 0 0 (t .empty) (v .empty) (i .empty) (j .empty))
-    (linked-unique _ (m (head b 9)) (t .detached) (v .detached) (i .detached) (j .detached))
+    (chain-unique _ _ (m (head b headFirstFree)) 0 0 (t .free) (v .free) (i .free) (j .free)) (chain-unique _ _ (m (head b headFirstEmpty)) 0 0 (t .empty) (v .empty) (i .empty) (j .empty))
+    (linked-unique _ (m (head b headFirstDetached)) (t .detached) (v .detached) (i .detached) (j .detached))
 
 pub object-unique : (m : Mem) (o : ℕ) (x y : Object) → ObjectIs m o x → ObjectIs m o y → x ≡ y
 object-unique m o x y i j =
@@ -198,7 +199,7 @@ entry-unique m r j (copied h) (copied h′) p q = ap copied (handle-unique m r j
 pub body-unique : (m : Mem) (r : ℕ) (x y : Body) → BodyIs m r x → BodyIs m r y → x ≡ y
 body-unique m r (reservation b ks) (reservation b′ ks′) p q =
     let a : b ≡ b′ = sym (p .1) ∙ q .1 in
-    let c : ks ≡ ks′ = items-unique (λ j k. m (item r j 0) ≡ k) (λ j x y i e. sym i ∙ e) 0 ks ks′ (sym (p .2) ∙ q .2) (p .3) (q .3) in rw (a, c)
+    let c : ks ≡ ks′ = items-unique (λ j k. m (item r j itemSlot) ≡ k) (λ j x y i e. sym i ∙ e) 0 ks ks′ (sym (p .2) ∙ q .2) (p .3) (q .3) in rw (a, c)
 body-unique m r (reservation b ks) (claim b′ es′) p q = absurd (omega arith)
 body-unique m r (reservation b ks) (parcel hs′) p q = absurd (omega arith)
 body-unique m r (claim b es) (reservation b′ ks′) p q = absurd (omega arith)

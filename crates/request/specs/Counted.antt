@@ -18,6 +18,7 @@ use Rattle.format.specs.Format.{fieldFits, fieldKinds, fieldCount}
 use Rattle.words.specs.Pick.{both-is, and-left, and-right}
 use Rattle.model.specs.Base.{pick}
 use Rattle.model.specs.Words.{Fields, odd, fitAll, may, must}
+use Rattle.format.specs.Fields.{opField, tableField, objectField, countField, valueField, rightsField, flagsField, idField, destinationField, kindField, koidField, cursorField, routeField, offeredRightsField, offeredKindField, expectedKindField, forbiddenObjectField, forbiddenKindField, number32, aKoid, aRoute}
 use Rattle.request.specs.declared.Three.{Three}
 use Rattle.request.specs.declared.Next.the-variants.{At, Malformed}
 use Rattle.request.specs.declared.Optional.{Optional}
@@ -209,33 +210,33 @@ fit-end = refl
 -- so of 18 fields nine are tested
 fit-all : (first : ℕ) (x0 x1 x2 x3 x4 x5 x6 x7 x8 x9 x10 x11 x12 x13 x14 x15 x16 x17 : Option ℕ)
     → fits (first ∷ 0 ∷ 0 ∷ 0 ∷ 0 ∷ 0 ∷ 1 ∷ 0 ∷ 0 ∷ 1 ∷ 2 ∷ 0 ∷ 3 ∷ 0 ∷ 1 ∷ 1 ∷ 2 ∷ 1 ∷ []) (x0 ∷ x1 ∷ x2 ∷ x3 ∷ x4 ∷ x5 ∷ x6 ∷ x7 ∷ x8 ∷ x9 ∷ x10 ∷ x11 ∷ x12 ∷ x13 ∷ x14 ∷ x15 ∷ x16 ∷ x17 ∷ [])
-    ≡ (fitOne first x0 && (fitOne 1 x6 && (fitOne 1 x9 && (fitOne 2 x10 && (fitOne 3 x12 && (fitOne 1 x14 && (fitOne 1 x15 && (fitOne 2 x16 && (fitOne 1 x17 && true)))))))))
+    ≡ (fitOne first x0 && (fitOne number32 x6 && (fitOne number32 x9 && (fitOne aKoid x10 && (fitOne aRoute x12 && (fitOne number32 x14 && (fitOne number32 x15 && (fitOne aKoid x16 && (fitOne number32 x17 && true)))))))))
 fit-all first x0 x1 x2 x3 x4 x5 x6 x7 x8 x9 x10 x11 x12 x13 x14 x15 x16 x17 =
     fit-step first x0 _ _ _ (fit-any x1 _ _ _ (fit-any x2 _ _ _ (fit-any x3 _ _ _ (fit-any x4 _ _ _ (fit-any x5 _ _ _ (fit-step 1 x6 _ _ _
     (fit-any x7 _ _ _ (fit-any x8 _ _ _ (fit-step 1 x9 _ _ _ (fit-step 2 x10 _ _ _ (fit-any x11 _ _ _ (fit-step 3 x12 _ _ _ (fit-any x13 _ _ _
     (fit-step 1 x14 _ _ _ (fit-step 1 x15 _ _ _ (fit-step 2 x16 _ _ _ (fit-step 1 x17 _ _ _ fit-end)))))))))))))))))
 
-pub fits-are : (first m : ℕ) (ws : List ℕ) (p : ℕ) → fitAll (kindsOf first) (fieldsFrom fieldCount m ws p) ≡ (fitOne first (may (fieldsFrom fieldCount m ws p) 0) && narrowFit (fieldsFrom fieldCount m ws p))
+pub fits-are : (first m : ℕ) (ws : List ℕ) (p : ℕ) → fitAll (kindsOf first) (fieldsFrom fieldCount m ws p) ≡ (fitOne first (may (fieldsFrom fieldCount m ws p) opField) && narrowFit (fieldsFrom fieldCount m ws p))
 unfolding fieldsFrom narrowFit fits kindsOf fieldKinds
 fits-are first m ws p =
     let fs : Fields = fieldsFrom fieldCount m ws p in
-    fit-all first (may fs 0) (may fs 1) (may fs 2) (may fs 3) (may fs 4) (may fs 5) (may fs 6) (may fs 7) (may fs 8) (may fs 9) (may fs 10) (may fs 11) (may fs 12) (may fs 13) (may fs 14) (may fs 15) (may fs 16) (may fs 17)
+    fit-all first (may fs opField) (may fs tableField) (may fs objectField) (may fs countField) (may fs valueField) (may fs rightsField) (may fs flagsField) (may fs idField) (may fs destinationField) (may fs kindField) (may fs koidField) (may fs cursorField) (may fs routeField) (may fs offeredRightsField) (may fs offeredKindField) (may fs expectedKindField) (may fs forbiddenObjectField) (may fs forbiddenKindField)
 
 -- The place after a record's fields
 
 module _ (first m : ℕ) (ws : List ℕ) (p n : ℕ) (h : p ≤ length ws) (e : n ≡ ones (m % 2 ^ 18)) where
   walk-is : walk (kindsOf first) ws m p
-      ≡ pick (leb (p + n) (length ws) && (fitOne first (may (fieldsFrom fieldCount m ws p) 0) && narrowFit (fieldsFrom fieldCount m ws p))) (some (p + n)) none
+      ≡ pick (leb (p + n) (length ws) && (fitOne first (may (fieldsFrom fieldCount m ws p) opField) && narrowFit (fieldsFrom fieldCount m ws p))) (some (p + n)) none
   walk-is =
       walk-all first ws m p h
       ∙ ap₂ (λ (k : ℕ) (b : Bool). pick (leb k (length ws) && b) (some k) none) (after-ones 18 m p ∙ ap (λ (k : ℕ). p + k) (sym e)) (fits-are first m ws p)
 
-  pub fields-fit : (t : Bool) → n ≤ length ws - p → t ≡ (fitOne first (may (fieldsFrom fieldCount m ws p) 0) && narrowFit (fieldsFrom fieldCount m ws p)) → t ≡ true → At (p + n) ≡ nextOf (walk (kindsOf first) ws m p)
+  pub fields-fit : (t : Bool) → n ≤ length ws - p → t ≡ (fitOne first (may (fieldsFrom fieldCount m ws p) opField) && narrowFit (fieldsFrom fieldCount m ws p)) → t ≡ true → At (p + n) ≡ nextOf (walk (kindsOf first) ws m p)
   fields-fit t l f q = sym (ap nextOf (walk-is ∙ ap₂ (λ (a b : Bool). pick (a && b) (some (p + n)) none) (le-leb (p + n) (length ws) (omega arith)) (sym f ∙ q)))
 
-  pub fields-unfit : (t : Bool) → n ≤ length ws - p → t ≡ (fitOne first (may (fieldsFrom fieldCount m ws p) 0) && narrowFit (fieldsFrom fieldCount m ws p)) → t ≡ false → Malformed ≡ nextOf (walk (kindsOf first) ws m p)
+  pub fields-unfit : (t : Bool) → n ≤ length ws - p → t ≡ (fitOne first (may (fieldsFrom fieldCount m ws p) opField) && narrowFit (fieldsFrom fieldCount m ws p)) → t ≡ false → Malformed ≡ nextOf (walk (kindsOf first) ws m p)
   fields-unfit t l f q = sym (ap nextOf (walk-is ∙ ap₂ (λ (a b : Bool). pick (a && b) (some (p + n)) none) (le-leb (p + n) (length ws) (omega arith)) (sym f ∙ q)))
 
   pub fields-short : length ws - p < n → Malformed ≡ nextOf (walk (kindsOf first) ws m p)
   fields-short l =
-      sym (ap nextOf (walk-is ∙ ap (λ (a : Bool). pick (a && (fitOne first (may (fieldsFrom fieldCount m ws p) 0) && narrowFit (fieldsFrom fieldCount m ws p))) (some (p + n)) none) (lt-leb (p + n) (length ws) (omega arith))))
+      sym (ap nextOf (walk-is ∙ ap (λ (a : Bool). pick (a && (fitOne first (may (fieldsFrom fieldCount m ws p) opField) && narrowFit (fieldsFrom fieldCount m ws p))) (some (p + n)) none) (lt-leb (p + n) (length ws) (omega arith))))

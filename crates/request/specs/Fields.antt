@@ -15,6 +15,7 @@ use Rattle.authority.specs.Rights.{contains}
 use Rattle.format.specs.Format.{fieldFits, fieldKinds, fieldCount}
 use Rattle.model.specs.Base.{pick, orElse}
 use Rattle.model.specs.Words.{Reading, andThen, Fields, odd, readField, readFields, fitAll, may, must, goodRecord, readRecord}
+use Rattle.format.specs.Fields.{opField}
 use Rattle.request.specs.Place.{upTo, past, after, here, fieldsFrom, mapAt, fieldsAt, endAt, kindsOf, fieldEnd, walk, goodMap, recordEnd}
 
 pub after-ge : (n map p : ℕ) → p ≤ after n map p
@@ -148,15 +149,15 @@ walk-18 first ws at h = walk-all first ws (mapAt ws at) (suc at) h
 -- a record is read as the model reads it
 pub record-read : (first : ℕ) (mustOf mayOf : ℕ → ℕ) (ws : List ℕ) (at : ℕ)
     → readRecord first mustOf mayOf (drop at ws)
-    ≡ upTo ws (recordEnd first (mustOf (must (fieldsAt ws at) 0)) (mustOf (must (fieldsAt ws at) 0) + mayOf (must (fieldsAt ws at) 0)) ws at) (fieldsAt ws at)
+    ≡ upTo ws (recordEnd first (mustOf (must (fieldsAt ws at) opField)) (mustOf (must (fieldsAt ws at) opField) + mayOf (must (fieldsAt ws at) opField)) ws at) (fieldsAt ws at)
 unfolding recordEnd fieldsAt goodMap kindsOf
 record-read first mustOf mayOf ws at = go (ltb at (length ws)) refl
   where
     op : ℕ
-    op = must (fieldsAt ws at) 0
+    op = must (fieldsAt ws at) opField
 
     judge : Fields × List ℕ → Reading Fields
-    judge r = pick (goodRecord first (mustOf (must (r .0) 0)) (mayOf (must (r .0) 0)) (mapAt ws at) (r .0)) (some r) none
+    judge r = pick (goodRecord first (mustOf (must (r .0) opField)) (mayOf (must (r .0) opField)) (mapAt ws at) (r .0)) (some r) none
 
     go : (t : Bool) → ltb at (length ws) ≡ t
         → readRecord first mustOf mayOf (drop at ws)
@@ -230,7 +231,7 @@ module _ (ws : List ℕ) where
   find-out at k h = rw (List·getD-eq-default ws 0 h) (no-field fieldCount (suc at) k)
 
 -- bit 0's word fits its kind: an op is known, an item's operation is 0 or 1
-pub first-fits : (first m l : ℕ) (ws : List ℕ) (at e : ℕ) → Whole first m l ws at e → fieldFits first (must (fieldsAt ws at) 0) ≡ true
+pub first-fits : (first m l : ℕ) (ws : List ℕ) (at e : ℕ) → Whole first m l ws at e → fieldFits first (must (fieldsAt ws at) opField) ≡ true
 unfolding goodMap kindsOf fieldsAt fieldsFrom
 first-fits first m l ws at e w = go (odd (mapAt ws at)) (both (odd (mapAt ws at)) _ (w .known) .0) (w .fit)
   where

@@ -17,6 +17,8 @@ use Rattle.model.specs.Request.{Item, Request, Request.publish, Request.prepare
 use Rattle.model.specs.Words.{Reading, andThen, Fields, may, must, readRecord, readMany, routeOf, plainRequests, plainRequest, withItems, readRequest, readUpTo, readList}
 use Rattle.model.specs.Lists.{Front, request-in-front, reading-ends}
 use Rattle.model.specs.Tests.{_&_, nth-some}
+use Rattle.format.specs.Fields.{opField, tableField, idField, routeField, forbiddenObjectField, forbiddenKindField, anOp, anOperation, zeroWord}
+use Rattle.format.specs.Ops.{opPublish, opPrepareTransfer, opLast}
 use Rattle.request.specs.declared.Next.the-variants.{At}
 use Rattle.request.specs.declared.Listed.the-variants.{Requests, Malformed as ListMalformed}
 use Rattle.request.specs.Place.{nextOf, placed, upTo, counted, listed, fieldsAt, endAt, recordEnd, manyEnd, placesFrom, placeOf, itemOf, itemAt, parcelAt, opAt, countAt, itemPlaces, itemsEnd, requestEnd, requestOf, requestAt}
@@ -100,27 +102,27 @@ module _ (ws : List ℕ) (at : ℕ) where
       withItems (fieldsAt ws at) (make (fieldsAt ws at)) (drop (endAt ws at) ws)
       ≡ upTo ws (itemsEnd k (countAt ws at) ws (endAt ws at)) (requestOf k ws at)
 
-  itemed-publish : Itemed 8 (λ f. publish (must f 7) [])
+  itemed-publish : Itemed opPublish (λ f. publish (must f idField) [])
   unfolding Itemed itemsEnd requestOf parcelAt
   itemed-publish =
-      ap (with-parcels) (many-read (λ f. must f 7) 6 parcelItemMust parcelItemMay (countAt ws at) ws (endAt ws at))
+      ap (with-parcels) (many-read (λ f. must f idField) zeroWord parcelItemMust parcelItemMay (countAt ws at) ws (endAt ws at))
       ∙ go (manyEnd 6 parcelItemMust (parcelItemMust + parcelItemMay) (countAt ws at) ws (endAt ws at))
     where
       with-parcels : Reading (List ℕ) → Reading Request
-      with-parcels x = andThen x λ r. some (publish (must (fieldsAt ws at) 7) (r .0), r .1)
+      with-parcels x = andThen x λ r. some (publish (must (fieldsAt ws at) idField) (r .0), r .1)
 
-      go : (x : Option ℕ) → with-parcels (upTo ws x (map (parcelAt ws) (itemPlaces ws at))) ≡ upTo ws x (publish (must (fieldsAt ws at) 7) (map (parcelAt ws) (itemPlaces ws at)))
+      go : (x : Option ℕ) → with-parcels (upTo ws x (map (parcelAt ws) (itemPlaces ws at))) ≡ upTo ws x (publish (must (fieldsAt ws at) idField) (map (parcelAt ws) (itemPlaces ws at)))
       go none = refl
       go (some e) = refl
 
-  itemed-transfer : Itemed 14 (λ f. prepareTransfer (must f 1) (routeOf (must f 12)) (may f 16) (may f 17) [])
+  itemed-transfer : Itemed opPrepareTransfer (λ f. prepareTransfer (must f tableField) (routeOf (must f routeField)) (may f forbiddenObjectField) (may f forbiddenKindField) [])
   unfolding Itemed itemsEnd requestOf itemAt
   itemed-transfer =
-      ap (with-items) (many-read itemOf 5 transferItemMust transferItemMay (countAt ws at) ws (endAt ws at))
+      ap (with-items) (many-read itemOf anOperation transferItemMust transferItemMay (countAt ws at) ws (endAt ws at))
       ∙ go (manyEnd 5 transferItemMust (transferItemMust + transferItemMay) (countAt ws at) ws (endAt ws at))
     where
       whole : List Item → Request
-      whole qs = prepareTransfer (must (fieldsAt ws at) 1) (routeOf (must (fieldsAt ws at) 12)) (may (fieldsAt ws at) 16) (may (fieldsAt ws at) 17) qs
+      whole qs = prepareTransfer (must (fieldsAt ws at) tableField) (routeOf (must (fieldsAt ws at) routeField)) (may (fieldsAt ws at) forbiddenObjectField) (may (fieldsAt ws at) forbiddenKindField) qs
 
       with-items : Reading (List Item) → Reading Request
       with-items x = andThen x λ r. some (whole (r .0), r .1)
@@ -134,7 +136,7 @@ module _ (ws : List ℕ) (at : ℕ) where
   unfolding Itemed itemsEnd requestOf
   table = refl & refl & refl & refl & refl & refl & refl & itemed-publish & refl & refl & refl & refl & refl & itemed-transfer & refl & refl & refl & refl & refl & refl & refl & refl & refl & refl & tt
 
-  known : (op : ℕ) → 1 ≤ op → op ≤ 24 → (make : Fields → Request) × (plainRequest op ≡ some make) × Itemed op make
+  known : (op : ℕ) → 1 ≤ op → op ≤ opLast → (make : Fields → Request) × (plainRequest op ≡ some make) × Itemed op make
   known zero a b = absurd (omega arith)
   known (suc n) a b =
       let k = nth-some plainRequests n (omega arith) in
@@ -142,11 +144,11 @@ module _ (ws : List ℕ) (at : ℕ) where
       (k .0, k .1, subst (λ (j : ℕ). Itemed j (k .0)) e (from Itemed plainRequests 1 n (k .0) table (k .1)))
 
 -- a known op has its request
-pub known-op : (op : ℕ) → fieldFits 4 op ≡ true → (1 ≤ op) × (op ≤ 24)
+pub known-op : (op : ℕ) → fieldFits anOp op ≡ true → (1 ≤ op) × (op ≤ opLast)
 unfolding fieldFits knownOp
 known-op op e = both (leb 1 op) (leb op 24) refl refl e
   where
-    both : (a b : Bool) → leb 1 op ≡ a → leb op 24 ≡ b → (a && b) ≡ true → (1 ≤ op) × (op ≤ 24)
+    both : (a b : Bool) → leb 1 op ≡ a → leb op 24 ≡ b → (a && b) ≡ true → (1 ≤ op) × (op ≤ opLast)
     both true true p q r = (leb-true 1 op p, leb-true op 24 q)
     both true false p q r = let z : _≡_ {A = ℕ} 0 1 = cc in absurd (omega arith)
     both false b p q r = let z : _≡_ {A = ℕ} 0 1 = cc in absurd (omega arith)
@@ -160,7 +162,7 @@ module _ (ws : List ℕ) (at : ℕ) where
       ∙ go (recordEnd 4 (getD musts (opAt ws at) 0) (getD musts (opAt ws at) 0 + getD mays (opAt ws at) 0) ws at) refl
     where
       make : Fields × List ℕ → Reading Request
-      make r = andThen (plainRequest (must (r .0) 0)) λ f. withItems (r .0) (f (r .0)) (r .1)
+      make r = andThen (plainRequest (must (r .0) opField)) λ f. withItems (r .0) (f (r .0)) (r .1)
 
       itemed : (f : Option (Fields → Request)) (x : Fields → Request) → f ≡ some x → Itemed ws at (opAt ws at) x
           → andThen f (λ y. withItems (fieldsAt ws at) (y (fieldsAt ws at)) (drop (endAt ws at) ws)) ≡ upTo ws (itemsEnd (opAt ws at) (countAt ws at) ws (endAt ws at)) (requestOf (opAt ws at) ws at)
@@ -180,7 +182,7 @@ module _ (ws : List ℕ) (at : ℕ) where
 
 items-ends : (op n : ℕ) (ws : List ℕ) (p e : ℕ) → itemsEnd op n ws p ≡ some e → p ≤ length ws → (p ≤ e) × (e ≤ length ws)
 unfolding itemsEnd
-items-ends op n ws p e q h = go (eqb op 8) (eqb op 14) q
+items-ends op n ws p e q h = go (eqb op opPublish) (eqb op opPrepareTransfer) q
   where
     go : (b c : Bool)
         → pick b (manyEnd 6 parcelItemMust (parcelItemMust + parcelItemMay) n ws p) (pick c (manyEnd 5 transferItemMust (transferItemMust + transferItemMay) n ws p) (some p)) ≡ some e

@@ -11,6 +11,8 @@ use Rattle.format.specs.Format.{musts, mays, transferItemMust, transferItemMay,
 use Rattle.model.specs.Base.{pick, nth}
 use Rattle.model.specs.Request.{Item, Request, Request.getInfo, Request.publish, Request.prepareTransfer}
 use Rattle.model.specs.Words.{Reading, andThen, Fields, odd, may, must, operationOf, routeOf, plainRequest}
+use Rattle.format.specs.Fields.{opField, tableField, countField, valueField, rightsField, flagsField, idField, kindField, koidField, routeField, offeredRightsField, offeredKindField, expectedKindField, forbiddenObjectField, forbiddenKindField, number32, aKoid, aRoute}
+use Rattle.format.specs.Ops.{opPublish, opPrepareTransfer}
 use Rattle.request.specs.declared.Three.{Three}
 use Rattle.request.specs.declared.Next.{Next}
 use Rattle.request.specs.declared.Next.the-variants.{At, Malformed}
@@ -104,8 +106,8 @@ fitOne kind (some w) = fieldFits kind w
 -- whether those fields fit that do not take every word, bit 0 apart
 unfoldable pub narrowFit : Fields → Bool
 narrowFit fs =
-    fitOne 1 (may fs 6) && (fitOne 1 (may fs 9) && (fitOne 2 (may fs 10) && (fitOne 3 (may fs 12)
-    && (fitOne 1 (may fs 14) && (fitOne 1 (may fs 15) && (fitOne 2 (may fs 16) && (fitOne 1 (may fs 17) && true)))))))
+    fitOne number32 (may fs flagsField) && (fitOne number32 (may fs kindField) && (fitOne aKoid (may fs koidField) && (fitOne aRoute (may fs routeField)
+    && (fitOne number32 (may fs offeredKindField) && (fitOne number32 (may fs expectedKindField) && (fitOne aKoid (may fs forbiddenObjectField) && (fitOne number32 (may fs forbiddenKindField) && true)))))))
 
 -- the place after one field, or none: "list ends inside a record"; "too wide or a koid of 0"
 unfoldable pub fieldEnd : List ℕ → ℕ → ℕ → ℕ → Option ℕ
@@ -144,21 +146,21 @@ placeOf (suc i) ws at = endAt ws (placeOf i ws at)
 
 -- "there bit 0's word is the item's operation, or 0"
 abbrev pub itemOf : Fields → Item
-itemOf f = record { operation = operationOf (must f 0); value = must f 4; rights = must f 5; offeredRights = may f 13; offeredKind = may f 14; expectedKind = may f 15 }
+itemOf f = record { operation = operationOf (must f opField); value = must f valueField; rights = must f rightsField; offeredRights = may f offeredRightsField; offeredKind = may f offeredKindField; expectedKind = may f expectedKindField }
 
 unfoldable pub itemAt : List ℕ → ℕ → Item
 itemAt ws at = itemOf (fieldsAt ws at)
 
 unfoldable pub parcelAt : List ℕ → ℕ → ℕ
-parcelAt ws at = must (fieldsAt ws at) 7
+parcelAt ws at = must (fieldsAt ws at) idField
 
 -- One request
 
 abbrev pub opAt : List ℕ → ℕ → ℕ
-opAt ws at = must (fieldsAt ws at) 0
+opAt ws at = must (fieldsAt ws at) opField
 
 abbrev pub countAt : List ℕ → ℕ → ℕ
-countAt ws at = must (fieldsAt ws at) 3
+countAt ws at = must (fieldsAt ws at) countField
 
 -- the places of its items
 abbrev pub itemPlaces : List ℕ → ℕ → List ℕ
@@ -167,8 +169,8 @@ itemPlaces ws at = placesFrom (countAt ws at) ws (endAt ws at)
 -- the place after the items of an op, which begin at e: "as many as its count field says"
 unfoldable pub itemsEnd : ℕ → ℕ → List ℕ → ℕ → Option ℕ
 itemsEnd op n ws e =
-    pick (eqb op 8) (manyEnd 6 parcelItemMust (parcelItemMust + parcelItemMay) n ws e)
-    (pick (eqb op 14) (manyEnd 5 transferItemMust (transferItemMust + transferItemMay) n ws e) (some e))
+    pick (eqb op opPublish) (manyEnd 6 parcelItemMust (parcelItemMust + parcelItemMay) n ws e)
+    (pick (eqb op opPrepareTransfer) (manyEnd 5 transferItemMust (transferItemMust + transferItemMay) n ws e) (some e))
 
 -- the place after the request at a place, or none where it is malformed
 unfoldable pub requestEnd : List ℕ → ℕ → Option ℕ
@@ -190,8 +192,8 @@ applied (some make) f = make f
 -- the request of an op at a place
 unfoldable pub requestOf : ℕ → List ℕ → ℕ → Request
 requestOf op ws at =
-    pick (eqb op 8) (publish (must (fieldsAt ws at) 7) (map (parcelAt ws) (itemPlaces ws at)))
-    (pick (eqb op 14) (prepareTransfer (must (fieldsAt ws at) 1) (routeOf (must (fieldsAt ws at) 12)) (may (fieldsAt ws at) 16) (may (fieldsAt ws at) 17) (map (itemAt ws) (itemPlaces ws at)))
+    pick (eqb op opPublish) (publish (must (fieldsAt ws at) idField) (map (parcelAt ws) (itemPlaces ws at)))
+    (pick (eqb op opPrepareTransfer) (prepareTransfer (must (fieldsAt ws at) tableField) (routeOf (must (fieldsAt ws at) routeField)) (may (fieldsAt ws at) forbiddenObjectField) (may (fieldsAt ws at) forbiddenKindField) (map (itemAt ws) (itemPlaces ws at)))
     (applied (plainRequest op) (fieldsAt ws at)))
 
 unfoldable pub requestAt : List ℕ → ℕ → Request

@@ -12,6 +12,7 @@ use lib.Dec.{ltb}
 use borrow.Author.Tests.{lt-ltb, le-ltb, ltb-true, ltb-false, eq-eqb, ne-eqb}
 use Rattle.format.specs.Format.{musts, mays, answerWords, fieldCount}
 use Rattle.format.specs.Laws.{must-below, may-below}
+use Rattle.format.specs.Ops.{opPublish, opPrepareTransfer}
 use Rattle.model.specs.Base.{orElse, isSome}
 use Rattle.model.specs.Words.{andThen, may, must, readRequest, readList}
 use Rattle.request.specs.declared.Next.{Next}
@@ -96,18 +97,18 @@ module _ (ws : List ℕ) where
     skipped-end place (suc left) s h = absurd (omega arith)
 
 module _ (ws : List ℕ) (at op e : ℕ) (o : op ≡ opAt ws at) (q : e ≡ endAt ws at) where
-  pub next-parcels : (r n : ℕ) → op ≡ 8 → n ≡ countAt ws at → r ≡ placeOf n ws e → r ≡ nextAt ws at
+  pub next-parcels : (r n : ℕ) → op ≡ opPublish → n ≡ countAt ws at → r ≡ placeOf n ws e → r ≡ nextAt ws at
   unfolding nextAt
   next-parcels r n p c i = rw (eq-eqb (opAt ws at) 8 (sym o ∙ p)) (i ∙ ap (λ (k : ℕ). placeOf k ws e) c ∙ ap (placeOf (countAt ws at) ws) q)
 
-  pub next-transfer : (r n : ℕ) → (op ≡ 8 → ⊥) → op ≡ 14 → n ≡ countAt ws at → r ≡ placeOf n ws e → r ≡ nextAt ws at
+  pub next-transfer : (r n : ℕ) → (op ≡ opPublish → ⊥) → op ≡ opPrepareTransfer → n ≡ countAt ws at → r ≡ placeOf n ws e → r ≡ nextAt ws at
   unfolding nextAt
   next-transfer r n f p c i =
-      rw (ne-eqb (opAt ws at) 8 (λ (z : opAt ws at ≡ 8). f (o ∙ z)), eq-eqb (opAt ws at) 14 (sym o ∙ p)) (i ∙ ap (λ (k : ℕ). placeOf k ws e) c ∙ ap (placeOf (countAt ws at) ws) q)
+      rw (ne-eqb (opAt ws at) 8 (λ (z : opAt ws at ≡ opPublish). f (o ∙ z)), eq-eqb (opAt ws at) 14 (sym o ∙ p)) (i ∙ ap (λ (k : ℕ). placeOf k ws e) c ∙ ap (placeOf (countAt ws at) ws) q)
 
-  pub next-plain : (op ≡ 8 → ⊥) → (op ≡ 14 → ⊥) → e ≡ nextAt ws at
+  pub next-plain : (op ≡ opPublish → ⊥) → (op ≡ opPrepareTransfer → ⊥) → e ≡ nextAt ws at
   unfolding nextAt
-  next-plain f g = rw (ne-eqb (opAt ws at) 8 (λ (z : opAt ws at ≡ 8). f (o ∙ z)), ne-eqb (opAt ws at) 14 (λ (z : opAt ws at ≡ 14). g (o ∙ z))) q
+  next-plain f g = rw (ne-eqb (opAt ws at) 8 (λ (z : opAt ws at ≡ opPublish). f (o ∙ z)), ne-eqb (opAt ws at) 14 (λ (z : opAt ws at ≡ opPrepareTransfer). g (o ∙ z))) q
 
 -- The checks of a record
 
@@ -167,17 +168,17 @@ short-is n count = go (ltb (n / 72) count) refl
 -- Items, requests and lists
 
 module _ (op n : ℕ) (ws : List ℕ) (e : ℕ) where
-  pub items-parcels : (r : Next) → op ≡ 8 → r ≡ nextOf (manyEnd 6 129 129 n ws e) → r ≡ nextOf (itemsEnd op n ws e)
+  pub items-parcels : (r : Next) → op ≡ opPublish → r ≡ nextOf (manyEnd 6 129 129 n ws e) → r ≡ nextOf (itemsEnd op n ws e)
   unfolding itemsEnd
-  items-parcels r p q = rw (eq-eqb op 8 p) q
+  items-parcels r p q = rw (eq-eqb op opPublish p) q
 
-  pub items-transfer : (r : Next) → (op ≡ 8 → ⊥) → op ≡ 14 → r ≡ nextOf (manyEnd 5 49 57393 n ws e) → r ≡ nextOf (itemsEnd op n ws e)
+  pub items-transfer : (r : Next) → (op ≡ opPublish → ⊥) → op ≡ opPrepareTransfer → r ≡ nextOf (manyEnd 5 49 57393 n ws e) → r ≡ nextOf (itemsEnd op n ws e)
   unfolding itemsEnd
-  items-transfer r f p q = rw (ne-eqb op 8 f, eq-eqb op 14 p) q
+  items-transfer r f p q = rw (ne-eqb op opPublish f, eq-eqb op opPrepareTransfer p) q
 
-  pub items-none : (op ≡ 8 → ⊥) → (op ≡ 14 → ⊥) → At e ≡ nextOf (itemsEnd op n ws e)
+  pub items-none : (op ≡ opPublish → ⊥) → (op ≡ opPrepareTransfer → ⊥) → At e ≡ nextOf (itemsEnd op n ws e)
   unfolding itemsEnd
-  items-none f g = rw (ne-eqb op 8 f, ne-eqb op 14 g)
+  items-none f g = rw (ne-eqb op opPublish f, ne-eqb op opPrepareTransfer g)
 
 -- an op's must and may fields together fit a word
 pub maps-fit : (op m y : ℕ) → m ≡ getD musts op 0 → y ≡ getD mays op 0 → m + y < 524288

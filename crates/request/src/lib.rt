@@ -74,7 +74,7 @@ fn field_in(rq: &[u64], at: usize, map: u64, bit: u64) -> Optional
     requires { ⌜ at ≤ length (now rq) ⌝ }
     ensures { λ r. ⌜ r ≡ optional (may (fieldsFrom fieldCount map (now (rq .entry)) at) bit) ⌝ }
 {
-    if bit < 18 {
+    if bit < format::field::FIELDS {
         return word_of(rq, map >> bit, at + below(map, bit));
     }
     Optional::Absent
@@ -168,7 +168,7 @@ pub fn record_end(rq: &[u64], at: usize) -> usize
     ensures { λ r. ⌜ r ≡ endAt (now (rq .entry)) at ⌝ }
 {
     if at < rq.len() {
-        return at + 1 + below(rq[at], 18);
+        return at + 1 + below(rq[at], format::field::FIELDS);
     }
     at
 }
@@ -298,9 +298,16 @@ fn fields_end(rq: &[u64], at: usize, map: u64, first: u64) -> Next
     requires { ⌜ at ≤ length (now rq) ⌝ }
     ensures { λ r. ⌜ r ≡ nextOf (walk (kindsOf first) (now (rq .entry)) map at) ⌝ }
 {
-    let count = below(map, 18);
+    let count = below(map, format::field::FIELDS);
     if count <= rq.len() - at {
-        if fits_too(rq, at, map, 0, first, narrow_fit(rq, at, map)) {
+        if fits_too(
+            rq,
+            at,
+            map,
+            format::field::FIELD_OP,
+            first,
+            narrow_fit(rq, at, map),
+        ) {
             return Next::At(at + count);
         }
         return Next::Malformed;

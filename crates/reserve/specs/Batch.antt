@@ -18,6 +18,9 @@ use Rattle.model.specs.Words.{usedWords}
 use Rattle.invariant.specs.Pages.{vacant-there}
 use Rattle.layout.specs.declared.Shape.{Shape}
 use Rattle.layout.specs.Layout.{root, head, index, item, load}
+use Rattle.layout.specs.Fields.{rootUsedRows, headFirstFree, slotNextFree, slotPreviousFree, itemSlot}
+use Rattle.layout.specs.Values.{kindReservation}
+use Rattle.layout.specs.Sizes.{batchMax}
 use Rattle.representation.specs.Represents.{slotWord, Items}
 use Rattle.storage.specs.Slots.{free-vacant}
 use Rattle.storage.specs.Reps.{Held}
@@ -29,7 +32,7 @@ use Rattle.reserve.specs.Ops.{listW, batchW, batchWords}
 use Rattle.reserve.specs.Listed.{listed-fills, listed-items}
 use Rattle.reserve.specs.Taken.{taken-all, values-are}
 
-module _ (ws : List ℕ) (sh : Shape) (s : State) (h : Held ws sh s) (b : ℕ) (l : b < s .tableCount) (n : ℕ) (few : n ≤ 64) (enough : n ≤ length (s .tables b .free))
+module _ (ws : List ℕ) (sh : Shape) (s : State) (h : Held ws sh s) (b : ℕ) (l : b < s .tableCount) (n : ℕ) (few : n ≤ batchMax) (enough : n ≤ length (s .tables b .free))
     (room : length (s .book .rows) < s .book .capacity) where
   abbrev x : ℕ
   x = spare (load ws sh)
@@ -42,7 +45,7 @@ module _ (ws : List ℕ) (sh : Shape) (s : State) (h : Held ws sh s) (b : ℕ) (
 
   fills : Fills ws ws′ sh x
   unfolding listW
-  fills = listed-fills sh b x n ws 0 (load ws sh (head b 6)) (h .reps .shaped .room)
+  fills = listed-fills sh b x n ws 0 (load ws sh (head b headFirstFree)) (h .reps .shaped .room)
 
   -- the state is as it was
   pub listed-held : Held ws′ sh s
@@ -57,11 +60,11 @@ module _ (ws : List ℕ) (sh : Shape) (s : State) (h : Held ws sh s) (b : ℕ) (
       omega (arith, r .book .places (length (s .book .rows)) room .0, r .capacity)
 
   same-place : spare (load ws′ sh) ≡ x
-  same-place = ap (λ (i : ℕ). load ws′ sh (index i)) (fills .rest 0 0 0 6 (λ q z. omega arith)) ∙ fills .rest 9 (load ws sh (root 6)) 0 0 (λ q z. omega arith)
+  same-place = ap (λ (i : ℕ). load ws′ sh (index i)) (fills .rest 0 0 0 6 (λ q z. omega arith)) ∙ fills .rest 9 (load ws sh (root rootUsedRows)) 0 0 (λ q z. omega arith)
 
-  items : Items (λ i k. load ws′ sh (item x i 0) ≡ k) 0 ks
+  items : Items (λ i k. load ws′ sh (item x i itemSlot) ≡ k) 0 ks
   unfolding listW
-  items = listed-items sh b x low n ws 0 (load ws sh (head b 6)) 0 (λ k. slotWord (load ws sh) b k 2) (λ k. slotWord (load ws sh) b k 3) (s .tables b .free)
+  items = listed-items sh b x low n ws 0 (load ws sh (head b headFirstFree)) 0 (λ k. slotWord (load ws sh) b k slotNextFree) (λ k. slotWord (load ws sh) b k slotPreviousFree) (s .tables b .free)
       (h .reps .shaped .room) (omega arith) enough (λ k. refl) (h .reps .memory .tables b l .free)
 
   -- THE ANSWER
@@ -73,7 +76,7 @@ module _ (ws : List ℕ) (sh : Shape) (s : State) (h : Held ws sh s) (b : ℕ) (
   batch-words =
       let r = listed-held .reps .memory in
       let c : length (map (valueAt (s .tables b)) ks) ≡ n = length-map ks (valueAt (s .tables b)) ∙ long in
-      let z : min n 64 ≡ length ks = omega (arith, long) in
+      let z : min n batchMax ≡ length ks = omega (arith, long) in
       rw (r .book .next, c, same-place, z)
       (ap (λ (vs : List ℕ). 0 ∷ s .book .next ∷ n ∷ vs)
       (values-are (load ws′ sh) b (s .tables b) (r .tables b l) x 0 ks there items))
@@ -85,7 +88,7 @@ module _ (ws : List ℕ) (sh : Shape) (s : State) (h : Held ws sh s) (b : ℕ) (
 
     pub batch-held : Held (batchW ws′ sh b n) sh (withTable (addRow (reservation b ks) s) b (takeFree till n (λ g. reserved g (s .book .next)) (s .tables b)))
     unfolding batchW
-    batch-held = taken-all sh (spare (load ws′ sh)) b (s .book .next) ks n (openW ws′ sh 1 b n) (addRow (reservation b ks) s) 0
+    batch-held = taken-all sh (spare (load ws′ sh)) b (s .book .next) ks n (openW ws′ sh kindReservation b n) (addRow (reservation b ks) s) 0
         (open-held ws′ sh s listed-held room 1 b n (reservation b ks) opens left) l
         (open-row ws′ sh s listed-held room 1 b n (reservation b ks) opens left) enough
         (λ q k c e. let z : 0 + q ≡ q = omega arith in rw z (nth-take n (s .tables b .free) q c ∙ e))

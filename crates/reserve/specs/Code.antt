@@ -8,17 +8,19 @@ use lib.Dec.{eqb, ltb}
 use Rattle.words.specs.Pick.{yes-is, no-is}
 use Rattle.layout.specs.declared.Shape.{Shape}
 use Rattle.layout.specs.Layout.{row, load}
+use Rattle.layout.specs.Fields.{rowTable, rowLength}
+use Rattle.layout.specs.Sizes.{batchMax}
 use Rattle.book.specs.Ops.{reservationLink, closeW, shrinkW, vacateItemsW}
 use Rattle.answer.specs.Does.{both, answered}
 use Rattle.reserve.specs.Ops.{abortedW, trimmedW, trimR}
 
 -- `abort_row`
-pub aborted-is : (ws w₁ w₂ : List ℕ) (sh : Shape) (x b n : ℕ) → b ≡ load ws sh (row x 2) → n ≡ load ws sh (row x 3) → w₁ ≡ vacateItemsW ws sh b x 0 (min n 64 - 0) → w₂ ≡ closeW w₁ sh x → w₂ ≡ abortedW ws sh x
+pub aborted-is : (ws w₁ w₂ : List ℕ) (sh : Shape) (x b n : ℕ) → b ≡ load ws sh (row x rowTable) → n ≡ load ws sh (row x rowLength) → w₁ ≡ vacateItemsW ws sh b x 0 (min n batchMax - 0) → w₂ ≡ closeW w₁ sh x → w₂ ≡ abortedW ws sh x
 unfolding abortedW
-aborted-is ws w₁ w₂ sh x b n e₁ e₂ a₁ a₂ = let z : min n 64 - 0 ≡ min n 64 = omega arith in rw (a₂, a₁, z, e₁, e₂)
+aborted-is ws w₁ w₂ sh x b n e₁ e₂ a₁ a₂ = let z : min n batchMax - 0 ≡ min n batchMax = omega arith in rw (a₂, a₁, z, e₁, e₂)
 
 -- `trim_row`
-pub trimmed-is : (ws w₁ w₂ : List ℕ) (sh : Shape) (x n b c : ℕ) → b ≡ load ws sh (row x 2) → c ≡ load ws sh (row x 3) → w₁ ≡ vacateItemsW ws sh b x n (min c 64 - n) → w₂ ≡ shrinkW w₁ sh x n
+pub trimmed-is : (ws w₁ w₂ : List ℕ) (sh : Shape) (x n b c : ℕ) → b ≡ load ws sh (row x rowTable) → c ≡ load ws sh (row x rowLength) → w₁ ≡ vacateItemsW ws sh b x n (min c batchMax - n) → w₂ ≡ shrinkW w₁ sh x n
     → w₂ ≡ trimmedW ws sh x n
 unfolding trimmedW
 trimmed-is ws w₁ w₂ sh x n b c e₁ e₂ a₁ a₂ = rw (a₂, a₁, e₁, e₂)
@@ -37,8 +39,8 @@ module _ (ws os os′ : List ℕ) (sh : Shape) (base i l : ℕ) (t : Bool) (e : 
     unfolding trimR
     trim-nought z a = no-is _ _ _ _ (none-there ∙ y) (yes-is _ _ _ _ (sym q₂ ∙ z) (ap (both ws) a))
 
-    module _ (z : t₂ ≡ false) (c : ℕ) (t₃ : Bool) (g : c ≡ load ws sh (row x 3)) (q₃ : t₃ ≡ ltb c n) where
-      over : ltb (load ws sh (row (reservationLink (load ws sh) sh i - 1) 3)) n ≡ t₃
+    module _ (z : t₂ ≡ false) (c : ℕ) (t₃ : Bool) (g : c ≡ load ws sh (row x rowLength)) (q₃ : t₃ ≡ ltb c n) where
+      over : ltb (load ws sh (row (reservationLink (load ws sh) sh i - 1) rowLength)) n ≡ t₃
       over = rw (q₃, g, d, e)
 
       pub trim-above : t₃ ≡ true → os′ ≡ answered os base (18 ∷ []) → both ws os′ ≡ trimR ws os sh base i n

@@ -18,6 +18,8 @@ use Rattle.model.specs.Words.{usedWords}
 use Rattle.invariant.specs.BookLemmas.{found-range}
 use Rattle.layout.specs.declared.Shape.{Shape}
 use Rattle.layout.specs.Layout.{row, load}
+use Rattle.layout.specs.Fields.{rowLength}
+use Rattle.layout.specs.Sizes.{batchMax}
 use Rattle.representation.specs.Represents.{Rep}
 use Rattle.storage.specs.Reps.{Held, held-of}
 use Rattle.book.specs.Reservations.{abort-held, trim-held}
@@ -28,7 +30,7 @@ use Rattle.book.specs.Found.{Open, reservation-none, reservation-some}
 
 module _ (ws : List ℕ) (sh : Shape) (s : State) (r : Rep ws sh s) (x i b : ℕ) (ks : List ℕ) (o : Open (load ws sh) s x i b ks) where
   -- a batch has at most 64 slots
-  count : min (load ws sh (row x 3)) 64 ≡ length ks
+  count : min (load ws sh (row x rowLength)) batchMax ≡ length ks
   unfolding maxBatch
   count = omega (arith, o .row .body .2, found-range s (r .wellFormed .ranges .rows) i (reservation b ks) (o .found) .1 .1)
 

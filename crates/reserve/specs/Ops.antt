@@ -7,11 +7,14 @@ use Rattle.layout.specs.declared.Shape.{Shape}
 use Rattle.codec.specs.Codec.{encode}
 use Rattle.model.specs.State.{lastId}
 use Rattle.layout.specs.Layout.{Mem, root, head, row, item, load, save}
+use Rattle.layout.specs.Fields.{rootNextId, rootUsedRows, rootFreeFrames, headMask, headFirstFree, slotGeneration, slotNextFree, rowTable, rowLength, itemSlot}
+use Rattle.layout.specs.Values.{kindReservation}
+use Rattle.layout.specs.Sizes.{batchMax}
 use Rattle.representation.specs.Represents.{slotWord}
 use Rattle.storage.specs.Sight.{Spot.hd}
 use Rattle.storage.specs.Ops.{seen, takeW}
 use Rattle.book.specs.Ops.{reservationLink, spare, openW, closeW, shrinkW, vacateItemsW}
-use Rattle.growth.specs.Words.{pagesNeeded, growW}
+use Rattle.growth.specs.Words.{pagesNeeded, growW, noPlan}
 use Rattle.lookup.specs.View.{tableRefusal}
 use Rattle.answer.specs.Does.{Both, both, answered, refuseR, onRowR}
 
@@ -19,11 +22,11 @@ use Rattle.answer.specs.Does.{Both, both, answered, refuseR, onRowR}
 
 -- the reservation in place x ends: its slots, at most 64, fall vacant in order, and its row leaves
 unfoldable pub abortedW : List ℕ → Shape → ℕ → List ℕ
-abortedW ws sh x = closeW (vacateItemsW ws sh (load ws sh (row x 2)) x 0 (min (load ws sh (row x 3)) 64)) sh x
+abortedW ws sh x = closeW (vacateItemsW ws sh (load ws sh (row x rowTable)) x 0 (min (load ws sh (row x rowLength)) batchMax)) sh x
 
 -- it keeps its first n slots
 unfoldable pub trimmedW : List ℕ → Shape → ℕ → ℕ → List ℕ
-trimmedW ws sh x n = shrinkW (vacateItemsW ws sh (load ws sh (row x 2)) x n (min (load ws sh (row x 3)) 64 - n)) sh x n
+trimmedW ws sh x n = shrinkW (vacateItemsW ws sh (load ws sh (row x rowTable)) x n (min (load ws sh (row x rowLength)) batchMax - n)) sh x n
 
 abbrev pub abortR : List ℕ → List ℕ → Shape → ℕ → ℕ → Both
 abortR ws os sh base i = onRowR (abortedW ws sh) ws os base (reservationLink (load ws sh) sh i)
@@ -34,48 +37,48 @@ trimR ws os sh base i n =
     let l : ℕ = reservationLink (load ws sh) sh i in
     pick (eqb l 0) (refuseR ws os base 18)
     (pick (eqb n 0) (refuseR ws os base 18)
-    (pick (ltb (load ws sh (row (l - 1) 3)) n) (refuseR ws os base 18)
+    (pick (ltb (load ws sh (row (l - 1) rowLength)) n) (refuseR ws os base 18)
     (both (trimmedW ws sh (l - 1) n) (answered os base (0 ∷ [])))))
 
 -- ---- reserve
 
 -- "Reserve: 16, 17, 13": the number of the refusal, 0 for none
 unfoldable pub batchRefusal : Mem → Shape → ℕ → ℕ → ℕ
-batchRefusal m sh b n = pick (eqb (tableRefusal m sh b) 0) (pick (eqb n 0) 17 (pick (ltb 64 n) 13 0)) (tableRefusal m sh b)
+batchRefusal m sh b n = pick (eqb (tableRefusal m sh b) 0) (pick (eqb n 0) 17 (pick (ltb batchMax n) 13 0)) (tableRefusal m sh b)
 
--- "15, 1, 12" for a batch that needs p pages: 65 are more than any plan has
+-- "15, 1, 12" for a batch that needs p pages: noPlan is more than any plan has
 unfoldable pub roomRefusal : Mem → Shape → ℕ → ℕ
 roomRefusal m sh p =
-    pick (eqb p 65) 15
-    (pick (ltb (m (root 7)) p) 1
-    (pick (ltb (m (root 6)) (sh .rows)) (pick (eqb (m (root 5)) lastId) 12 0) 1))
+    pick (eqb p noPlan) 15
+    (pick (ltb (m (root rootFreeFrames)) p) 1
+    (pick (ltb (m (root rootUsedRows)) (sh .rows)) (pick (eqb (m (root rootNextId)) lastId) 12 0) 1))
 
 -- n slots of the free order of table b, from the link l on, into the items from j on of the row in place x
 unfoldable pub listedW : List ℕ → Shape → ℕ → ℕ → ℕ → ℕ → ℕ → List ℕ
 listedW ws sh b x j l zero = ws
-listedW ws sh b x j l (suc n) = listedW (save ws sh (item x j 0) (l - 1)) sh b x (suc j) (slotWord (load ws sh) b (l - 1) 2) n
+listedW ws sh b x j l (suc n) = listedW (save ws sh (item x j itemSlot) (l - 1)) sh b x (suc j) (slotWord (load ws sh) b (l - 1) slotNextFree) n
 
 -- the first n slots of the free order into the items of the row to come
 unfoldable pub listW : List ℕ → Shape → ℕ → ℕ → List ℕ
-listW ws sh b n = listedW ws sh b (spare (load ws sh)) 0 (load ws sh (head b 6)) n
+listW ws sh b n = listedW ws sh b (spare (load ws sh)) 0 (load ws sh (head b headFirstFree)) n
 
 -- n times the head of the free order is taken, for the positions from j on of the row in place x
 unfoldable pub takenW : List ℕ → Shape → ℕ → ℕ → ℕ → ℕ → List ℕ
 takenW ws sh b x j zero = ws
-takenW ws sh b x j (suc n) = takenW (takeW ws sh b (seen ws sh b (hd 6) - 1) x j) sh b x (suc j) n
+takenW ws sh b x j (suc n) = takenW (takeW ws sh b (seen ws sh b (hd headFirstFree) - 1) x j) sh b x (suc j) n
 
 -- the row opens, and the slots that its items name are taken
 unfoldable pub batchW : List ℕ → Shape → ℕ → ℕ → List ℕ
-batchW ws sh b n = takenW (openW ws sh 1 b n) sh b (spare (load ws sh)) 0 n
+batchW ws sh b n = takenW (openW ws sh kindReservation b n) sh b (spare (load ws sh)) 0 n
 
 -- the values of the slots that n items from j on name
 abbrev pub valuesAt : Mem → ℕ → ℕ → ℕ → ℕ → List ℕ
 valuesAt m b x j zero = []
-valuesAt m b x j (suc n) = encode (m (head b 1)) (m (item x j 0)) (slotWord m b (m (item x j 0)) 1) ∷ valuesAt m b x (suc j) n
+valuesAt m b x j (suc n) = encode (m (head b headMask)) (m (item x j itemSlot)) (slotWord m b (m (item x j itemSlot)) slotGeneration) ∷ valuesAt m b x (suc j) n
 
 -- "reserve: 1 id, 2 count, 3 on the values": the answer's words, at most 64 values
 unfoldable pub batchWords : Mem → ℕ → ℕ → List ℕ
-batchWords m b n = 0 ∷ m (root 5) ∷ n ∷ valuesAt m b (spare m) 0 (min n 64)
+batchWords m b n = 0 ∷ m (root rootNextId) ∷ n ∷ valuesAt m b (spare m) 0 (min n batchMax)
 
 -- a batch of n slots after p pages
 unfoldable pub openR : List ℕ → List ℕ → Shape → ℕ → ℕ → ℕ → ℕ → Both

@@ -22,9 +22,11 @@ use Rattle.model.specs.Words.{usedWords}
 use Rattle.model.specs.Bounds.{batch-max}
 use Rattle.layout.specs.declared.Shape.{Shape}
 use Rattle.layout.specs.Layout.{root, load}
+use Rattle.layout.specs.Fields.{rootNextId, rootUsedRows, rootFreeFrames}
+use Rattle.layout.specs.Sizes.{batchMax}
 use Rattle.representation.specs.Represents.{Rep}
 use Rattle.storage.specs.Reps.{Held, held-of}
-use Rattle.growth.specs.Words.{pagesNeeded, growW}
+use Rattle.growth.specs.Words.{pagesNeeded, growW, noPlan}
 use Rattle.growth.specs.Plan.{needed-some, needed-none, plan-short}
 use Rattle.growth.specs.Grow.{grow-held, grow-enough}
 use Rattle.lookup.specs.View.{tableRefusal}
@@ -65,25 +67,25 @@ module _ (ws : List ℕ) (sh : Shape) (s : State) (r : Rep ws sh s) (b n : ℕ) 
       (λ p. let a = table-open sh (load ws sh) s (r .reps .memory) b (eqb-true (tableRefusal (load ws sh) sh b) 0 p) in
       active-on s b a (sized s b n) ∙ bool (eqb n 0)
       (λ q. let z : 17 ≡ k = rw (p, q) at e in rw (le-ltb 0 n (omega (arith, eqb-true n 0 q)), ← z))
-      (λ q. bool (ltb 64 n)
+      (λ q. bool (ltb batchMax n)
       (λ t. let z : 13 ≡ k = rw (p, q, t) at e in rw (lt-ltb 0 n (omega (arith, eqb-false n 0 q)), batch-max, t, ← z))
       (λ t. absurd (c (sym (rw (p, q, t) at e))))))
       (λ p. let z : tableRefusal (load ws sh) sh b ≡ k = rw p at e in table-refused sh (load ws sh) s (r .reps .memory) b k z c (sized s b n))
 
-  batch-passed : batchRefusal (load ws sh) sh b n ≡ 0 → Active s b × (0 < n) × (n ≤ 64)
+  batch-passed : batchRefusal (load ws sh) sh b n ≡ 0 → Active s b × (0 < n) × (n ≤ batchMax)
   unfolding batchRefusal
   batch-passed e = bool (eqb (tableRefusal (load ws sh) sh b) 0)
       (λ p. let a = table-open sh (load ws sh) s (r .reps .memory) b (eqb-true (tableRefusal (load ws sh) sh b) 0 p) in
       bool (eqb n 0)
       (λ q. let z : _≡_ {A = ℕ} 17 0 = rw (p, q) at e in absurd (omega arith))
-      (λ q. bool (ltb 64 n)
+      (λ q. bool (ltb batchMax n)
       (λ t. let z : _≡_ {A = ℕ} 13 0 = rw (p, q, t) at e in absurd (omega arith))
-      (λ t. (a, omega (arith, eqb-false n 0 q), ltb-false 64 n t))))
+      (λ t. (a, omega (arith, eqb-false n 0 q), ltb-false batchMax n t))))
       (λ p. let z : tableRefusal (load ws sh) sh b ≡ 0 = rw p at e in absurd (eqb-false (tableRefusal (load ws sh) sh b) 0 p z))
 
-  module _ (a : Active s b) (pos : 0 < n) (few : n ≤ 64) where
+  module _ (a : Active s b) (pos : 0 < n) (few : n ≤ batchMax) where
     passed : onActive s b (sized s b n) ≡ planned s b n (s .tables b)
-    passed = active-on s b a (sized s b n) ∙ rw (lt-ltb 0 n pos, batch-max, le-ltb 64 n few)
+    passed = active-on s b a (sized s b n) ∙ rw (lt-ltb 0 n pos, batch-max, le-ltb batchMax n few)
 
     -- a batch that is opened
     module _ (ps : List ℕ) (e : pagesFor till (s .tables b) n ≡ some ps) (fit : length ps ≤ length (s .frames)) (room : length (s .book .rows) < s .book .capacity)
@@ -127,15 +129,15 @@ module _ (ws : List ℕ) (sh : Shape) (s : State) (r : Rep ws sh s) (b n : ℕ) 
       unfolding roomRefusal openR
       planned-does none e =
           let t = r .reps .memory .tables b (a .known) in
-          let z : pagesNeeded (load ws sh) b n ≡ 65 = needed-none (load ws sh) b (s .tables b) t (held-of ws sh s r .placed .sound b (a .known)) n few e in
-          rw z (no-room 65 15 refl (λ y. omega arith) (rw e))
+          let z : pagesNeeded (load ws sh) b n ≡ noPlan = needed-none (load ws sh) b (s .tables b) t (held-of ws sh s r .placed .sound b (a .known)) n few e in
+          rw z (no-room noPlan 15 refl (λ y. omega arith) (rw e))
       planned-does (some ps) e =
           let t = r .reps .memory .tables b (a .known) in
           let z : pagesNeeded (load ws sh) b n ≡ length ps = needed-some (load ws sh) b (s .tables b) t (held-of ws sh s r .placed .sound b (a .known)) n few ps e in
-          let k : eqb (length ps) 65 ≡ false = ne-eqb (length ps) 65 (λ y. omega (arith, plan-short (s .tables b) n ps e)) in
-          let frames : load ws sh (root 7) ≡ length (s .frames) = r .reps .memory .frames .count in
-          let used : load ws sh (root 6) ≡ length (s .book .rows) = r .reps .memory .book .used in
-          let next : load ws sh (root 5) ≡ s .book .next = r .reps .memory .book .next in
+          let k : eqb (length ps) noPlan ≡ false = ne-eqb (length ps) noPlan (λ y. omega (arith, plan-short (s .tables b) n ps e)) in
+          let frames : load ws sh (root rootFreeFrames) ≡ length (s .frames) = r .reps .memory .frames .count in
+          let used : load ws sh (root rootUsedRows) ≡ length (s .book .rows) = r .reps .memory .book .used in
+          let next : load ws sh (root rootNextId) ≡ s .book .next = r .reps .memory .book .next in
           let rows : sh .rows ≡ s .book .capacity = r .reps .memory .capacity in
           rw z (bool (ltb (length (s .frames)) (length ps))
           (λ p. no-room (length ps) 1 (rw (k, frames, p)) (λ y. omega arith) (rw (e, p)))

@@ -11,12 +11,14 @@ use Rattle.codec.specs.Codec.{encode}
 use Rattle.model.specs.State.{lastId}
 use Rattle.layout.specs.declared.Shape.{Shape}
 use Rattle.layout.specs.Layout.{Mem, root, head, item, load, save}
+use Rattle.layout.specs.Fields.{rootNextId, rootUsedRows, rootFreeFrames, headMask, headFirstFree, slotGeneration, slotNextFree, itemSlot}
+use Rattle.layout.specs.Sizes.{batchMax}
 use Rattle.representation.specs.Represents.{slotWord}
 use Rattle.request.specs.Answers.{puts}
 use Rattle.storage.specs.Sight.{Spot.hd}
 use Rattle.storage.specs.Ops.{seen, takeW}
 use Rattle.book.specs.Ops.{spare}
-use Rattle.growth.specs.Words.{pagesNeeded, growW}
+use Rattle.growth.specs.Words.{pagesNeeded, growW, noPlan}
 use Rattle.lookup.specs.View.{tableRefusal}
 use Rattle.answer.specs.Does.{both, answered}
 use Rattle.reserve.specs.Ops.{batchRefusal, roomRefusal, listedW, listW, takenW, batchW, valuesAt, batchWords, openR, reserveR}
@@ -35,7 +37,7 @@ module _ (m : Mem) (sh : Shape) (b n k : ℕ) (e : k ≡ tableRefusal m sh b) (t
     unfolding batchRefusal
     batch-empty z = yes-is _ _ _ _ (open-table ∙ y) (yes-is _ _ _ _ (sym q₂ ∙ z) refl)
 
-    module _ (z : t₂ ≡ false) (t₃ : Bool) (q₃ : t₃ ≡ ltb 64 n) where
+    module _ (z : t₂ ≡ false) (t₃ : Bool) (q₃ : t₃ ≡ ltb batchMax n) where
       pub batch-large : t₃ ≡ true → 13 ≡ batchRefusal m sh b n
       unfolding batchRefusal
       batch-large v = yes-is _ _ _ _ (open-table ∙ y) (no-is _ _ _ _ (sym q₂ ∙ z) (yes-is _ _ _ _ (sym q₃ ∙ v) refl))
@@ -45,29 +47,29 @@ module _ (m : Mem) (sh : Shape) (b n k : ℕ) (e : k ≡ tableRefusal m sh b) (t
       batch-right v = yes-is _ _ _ _ (open-table ∙ y) (no-is _ _ _ _ (sym q₂ ∙ z) (no-is _ _ _ _ (sym q₃ ∙ v) refl))
 
 -- `room_refusal`
-module _ (m : Mem) (sh : Shape) (p : ℕ) (t : Bool) (q : t ≡ eqb p 65) where
+module _ (m : Mem) (sh : Shape) (p : ℕ) (t : Bool) (q : t ≡ eqb p noPlan) where
   pub room-full : t ≡ true → 15 ≡ roomRefusal m sh p
   unfolding roomRefusal
   room-full y = yes-is _ _ _ _ (sym q ∙ y) refl
 
-  module _ (y : t ≡ false) (f : ℕ) (e₂ : f ≡ m (root 7)) (t₂ : Bool) (q₂ : t₂ ≡ ltb f p) where
-    few-frames : ltb (m (root 7)) p ≡ t₂
+  module _ (y : t ≡ false) (f : ℕ) (e₂ : f ≡ m (root rootFreeFrames)) (t₂ : Bool) (q₂ : t₂ ≡ ltb f p) where
+    few-frames : ltb (m (root rootFreeFrames)) p ≡ t₂
     few-frames = rw (q₂, e₂)
 
     pub room-frames : t₂ ≡ true → 1 ≡ roomRefusal m sh p
     unfolding roomRefusal
     room-frames z = no-is _ _ _ _ (sym q ∙ y) (yes-is _ _ _ _ (few-frames ∙ z) refl)
 
-    module _ (z : t₂ ≡ false) (w : ℕ) (e₃ : w ≡ m (root 6)) (t₃ : Bool) (q₃ : t₃ ≡ ltb w (sh .rows)) where
-      free-place : ltb (m (root 6)) (sh .rows) ≡ t₃
+    module _ (z : t₂ ≡ false) (w : ℕ) (e₃ : w ≡ m (root rootUsedRows)) (t₃ : Bool) (q₃ : t₃ ≡ ltb w (sh .rows)) where
+      free-place : ltb (m (root rootUsedRows)) (sh .rows) ≡ t₃
       free-place = rw (q₃, e₃)
 
       pub room-rows : t₃ ≡ false → 1 ≡ roomRefusal m sh p
       unfolding roomRefusal
       room-rows v = no-is _ _ _ _ (sym q ∙ y) (no-is _ _ _ _ (few-frames ∙ z) (no-is _ _ _ _ (free-place ∙ v) refl))
 
-      module _ (v : t₃ ≡ true) (i : ℕ) (e₄ : i ≡ m (root 5)) (t₄ : Bool) (q₄ : t₄ ≡ eqb i 0xffff_ffff_ffff_ffff) where
-        last-spent : eqb (m (root 5)) lastId ≡ t₄
+      module _ (v : t₃ ≡ true) (i : ℕ) (e₄ : i ≡ m (root rootNextId)) (t₄ : Bool) (q₄ : t₄ ≡ eqb i 0xffff_ffff_ffff_ffff) where
+        last-spent : eqb (m (root rootNextId)) lastId ≡ t₄
         unfolding lastId
         last-spent = rw (q₄, e₄)
 
@@ -85,8 +87,8 @@ module _ (m : Mem) (sh : Shape) (p : ℕ) (t : Bool) (q : t ≡ eqb p 65) where
 pub listed-start : (ws : List ℕ) (sh : Shape) (b x l n : ℕ) → listedW ws sh b x 0 l n ≡ listedW ws sh b x 0 l (n - 0)
 listed-start ws sh b x l n = let z : n - 0 ≡ n = omega arith in rw z
 
-pub listed-turn : (ws us vs : List ℕ) (sh : Shape) (b x l n i j k l₂ : ℕ) → j < n → listedW ws sh b x 0 l n ≡ listedW us sh b x j i (n - j) → k ≡ i - 1 → l₂ ≡ slotWord (load us sh) b k 2
-    → vs ≡ save us sh (item x j 0) k → listedW ws sh b x 0 l n ≡ listedW vs sh b x (j + 1) l₂ (n - (j + 1))
+pub listed-turn : (ws us vs : List ℕ) (sh : Shape) (b x l n i j k l₂ : ℕ) → j < n → listedW ws sh b x 0 l n ≡ listedW us sh b x j i (n - j) → k ≡ i - 1 → l₂ ≡ slotWord (load us sh) b k slotNextFree
+    → vs ≡ save us sh (item x j itemSlot) k → listedW ws sh b x 0 l n ≡ listedW vs sh b x (j + 1) l₂ (n - (j + 1))
 unfolding listedW
 listed-turn ws us vs sh b x l n i j k l₂ low inv e d a =
     let z : n - j ≡ suc (n - (j + 1)) = omega arith in let y : j + 1 ≡ suc j = omega arith in
@@ -100,7 +102,7 @@ listed-end ws us sh b x l n i j low inv = let z : n - j ≡ 0 = omega arith in s
 pub taken-start : (ws : List ℕ) (sh : Shape) (b x n : ℕ) → takenW ws sh b x 0 n ≡ takenW ws sh b x 0 (n - 0)
 taken-start ws sh b x n = let z : n - 0 ≡ n = omega arith in rw z
 
-pub taken-turn : (ws us vs : List ℕ) (sh : Shape) (b x n j k : ℕ) → j < n → takenW ws sh b x 0 n ≡ takenW us sh b x j (n - j) → k ≡ seen us sh b (hd 6) - 1 → vs ≡ takeW us sh b k x j
+pub taken-turn : (ws us vs : List ℕ) (sh : Shape) (b x n j k : ℕ) → j < n → takenW ws sh b x 0 n ≡ takenW us sh b x j (n - j) → k ≡ seen us sh b (hd headFirstFree) - 1 → vs ≡ takeW us sh b k x j
     → takenW ws sh b x 0 n ≡ takenW vs sh b x (j + 1) (n - (j + 1))
 unfolding takenW
 taken-turn ws us vs sh b x n j k low inv e a =
@@ -113,26 +115,26 @@ taken-end ws us sh b x n j low inv = let z : n - j ≡ 0 = omega arith in sym (i
 
 -- `say_values`
 abbrev pub Said : Mem → ℕ → ℕ → ℕ → List ℕ → List ℕ → ℕ → ℕ → Type 0
-Said m b x base os us n j = puts os base 3 (valuesAt m b x 0 (min n 64)) ≡ puts us base (j + 3) (valuesAt m b x j (min n 64 - j))
+Said m b x base os us n j = puts os base 3 (valuesAt m b x 0 (min n batchMax)) ≡ puts us base (j + 3) (valuesAt m b x j (min n batchMax - j))
 
 pub said-start : (m : Mem) (b x base : ℕ) (os : List ℕ) (n : ℕ) → Said m b x base os os n 0
-said-start m b x base os n = let z : min n 64 - 0 ≡ min n 64 = omega arith in rw z
+said-start m b x base os n = let z : min n batchMax - 0 ≡ min n batchMax = omega arith in rw z
 
-pub said-turn : (m : Mem) (b x base : ℕ) (os us vs : List ℕ) (n most j mask k g v : ℕ) → most ≡ min n 64 → j < most → Said m b x base os us n j
-    → mask ≡ m (head b 1) → k ≡ m (item x j 0) → g ≡ slotWord m b k 1 → v ≡ encode mask k g → vs ≡ set us (base + (j + 3)) v → Said m b x base os vs n (j + 1)
+pub said-turn : (m : Mem) (b x base : ℕ) (os us vs : List ℕ) (n most j mask k g v : ℕ) → most ≡ min n batchMax → j < most → Said m b x base os us n j
+    → mask ≡ m (head b headMask) → k ≡ m (item x j itemSlot) → g ≡ slotWord m b k slotGeneration → v ≡ encode mask k g → vs ≡ set us (base + (j + 3)) v → Said m b x base os vs n (j + 1)
 unfolding puts
 said-turn m b x base os us vs n most j mask k g v e₀ low inv e₁ e₂ e₃ e₄ a =
-    let z : min n 64 - j ≡ suc (min n 64 - (j + 1)) = omega arith in let y : j + 1 ≡ suc j = omega arith in let w : suc j + 3 ≡ suc (j + 3) = omega arith in
+    let z : min n batchMax - j ≡ suc (min n batchMax - (j + 1)) = omega arith in let y : j + 1 ≡ suc j = omega arith in let w : suc j + 3 ≡ suc (j + 3) = omega arith in
     inv ∙ ap (λ (c : ℕ). puts us base (j + 3) (valuesAt m b x j c)) z ∙ rw (y, w, a, e₄, e₃, e₂, e₁)
 
-pub said-end : (m : Mem) (b x base : ℕ) (os us : List ℕ) (n most j : ℕ) → most ≡ min n 64 → most ≤ j → Said m b x base os us n j → us ≡ puts os base 3 (valuesAt m b x 0 (min n 64))
+pub said-end : (m : Mem) (b x base : ℕ) (os us : List ℕ) (n most j : ℕ) → most ≡ min n batchMax → most ≤ j → Said m b x base os us n j → us ≡ puts os base 3 (valuesAt m b x 0 (min n batchMax))
 unfolding puts
-said-end m b x base os us n most j e low inv = let z : min n 64 - j ≡ 0 = omega arith in
+said-end m b x base os us n most j e low inv = let z : min n batchMax - j ≡ 0 = omega arith in
     sym (inv ∙ ap (λ (c : ℕ). puts us base (j + 3) (valuesAt m b x j c)) z)
 
 -- ---- straight stores
 
-pub batch-said : (m : Mem) (b n base x id : ℕ) (os o₁ o₂ : List ℕ) → x ≡ spare m → id ≡ m (root 5) → o₁ ≡ answered os base (0 ∷ id ∷ n ∷ []) → o₂ ≡ puts o₁ base 3 (valuesAt m b x 0 (min n 64))
+pub batch-said : (m : Mem) (b n base x id : ℕ) (os o₁ o₂ : List ℕ) → x ≡ spare m → id ≡ m (root rootNextId) → o₁ ≡ answered os base (0 ∷ id ∷ n ∷ []) → o₂ ≡ puts o₁ base 3 (valuesAt m b x 0 (min n batchMax))
     → o₂ ≡ answered os base (batchWords m b n)
 unfolding batchWords puts
 batch-said m b n base x id os o₁ o₂ e₁ e₂ a₁ a₂ = rw (a₂, a₁, e₁, e₂)

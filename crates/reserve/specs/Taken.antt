@@ -15,6 +15,7 @@ use Rattle.model.specs.Lookup.{valueAt}
 use Rattle.invariant.specs.Pointwise.{place-free}
 use Rattle.layout.specs.declared.Shape.{Shape}
 use Rattle.layout.specs.Layout.{Mem, head, item, load}
+use Rattle.layout.specs.Fields.{headFirstFree, slotGeneration, itemSlot}
 use Rattle.representation.specs.Represents.{slotWord, Items, TableIs}
 use Rattle.storage.specs.Order.{occurs-head}
 use Rattle.storage.specs.Sight.{Spot.hd, look}
@@ -30,9 +31,9 @@ use Rattle.reserve.specs.Ops.{takenW, valuesAt}
 use Rattle.book.specs.Vacated.{with-table-at as table-at, with-own as table-same, with-over as table-twice}
 
 -- the head of the free order, by its words
-head-is : (m : Mem) (b : ℕ) (t : Table) → TableIs m b t → (k : ℕ) (l : List ℕ) → t .free ≡ k ∷ l → look m b (hd 6) - 1 ≡ k
+head-is : (m : Mem) (b : ℕ) (t : Table) → TableIs m b t → (k : ℕ) (l : List ℕ) → t .free ≡ k ∷ l → look m b (hd headFirstFree) - 1 ≡ k
 unfolding look
-head-is m b t i k l e = let c : m (head b 6) ≡ suc k = (rw e at (i .free)) .0 in omega arith
+head-is m b t i k l e = let c : m (head b headFirstFree) ≡ suc k = (rw e at (i .free)) .0 in omega arith
 
 take-none : (f : ℕ → Slot) (t : Table) → takeFree till 0 f t ≡ t
 unfolding takeFree
@@ -41,7 +42,7 @@ take-none f t = refl
 taken-free : (t : Table) (k : ℕ) (l : List ℕ) (i : ℕ) → taken t k l i .free ≡ l
 taken-free t k l i = place-free till (withFree t l) k (reserved (generation (t .slots k)) i)
 
-taken-more : (ws : List ℕ) (sh : Shape) (b x j n k : ℕ) → seen ws sh b (hd 6) - 1 ≡ k → takenW ws sh b x j (suc n) ≡ takenW (takeW ws sh b k x j) sh b x (suc j) n
+taken-more : (ws : List ℕ) (sh : Shape) (b x j n k : ℕ) → seen ws sh b (hd headFirstFree) - 1 ≡ k → takenW ws sh b x j (suc n) ≡ takenW (takeW ws sh b k x j) sh b x (suc j) n
 unfolding takenW
 taken-more ws sh b x j n k e = ap (λ (v : ℕ). takenW (takeW ws sh b v x j) sh b x (suc j) n) e
 
@@ -81,10 +82,10 @@ module _ (sh : Shape) (x b i : ℕ) (ks : List ℕ) where
 
 -- the words of the items' values are those of the table's slots
 pub values-are : (m : Mem) (b : ℕ) (t : Table) → TableIs m b t → (x j : ℕ) (ks : List ℕ) → ((k : ℕ) → 0 < occurs k ks → isAbsent (t .slots k) ≡ false)
-    → Items (λ i k. m (item x i 0) ≡ k) j ks → valuesAt m b x j (length ks) ≡ map (valueAt t) ks
+    → Items (λ i k. m (item x i itemSlot) ≡ k) j ks → valuesAt m b x j (length ks) ≡ map (valueAt t) ks
 unfolding look
 values-are m b t i x j [] there p = refl
 values-are m b t i x j (k ∷ ks) there p =
-    let g : slotWord m b k 1 ≡ generation (t .slots k) = sym (slot-gen m (look m b) t (see m b t i) k (there k (occurs-head k ks))) in
+    let g : slotWord m b k slotGeneration ≡ generation (t .slots k) = sym (slot-gen m (look m b) t (see m b t i) k (there k (occurs-head k ks))) in
     rw (p .0, i .mask, g) (ap (λ (l : List ℕ). encode (t .mask) k (generation (t .slots k)) ∷ l)
     (values-are m b t i x (suc j) ks (λ v o. there v (omega arith)) (p .1)))

@@ -6,22 +6,23 @@
 ghost use mathlib.Core.Path.{_≡_};
 ghost use Prim.Native.Nat.{min};
 ghost use Rattle.layout.specs.Layout.{load as loadAt};
+ghost use Rattle.layout.specs.Sizes.{batchMax};
 ghost use Rattle.request.specs.Answers.{puts};
 ghost use Rattle.answer.specs.Does.{both, answered};
 ghost use Rattle.reserve.specs.Ops.{abortedW, trimmedW, abortR, trimR, batchRefusal, roomRefusal, listedW, listW, takenW, batchW, valuesAt, batchWords, openR, reserveR};
 use codec::HandleCodec;
 use codec::ReservationId;
 use layout::Shape;
-
-// What `growth::pages_needed` gives where a new page would pass the limit.
-pub const NO_PLAN: u64 = 65;
+use layout::field;
+use layout::size;
+use layout::value;
 
 // The reservation in place x ends: its slots fall vacant and its row leaves.
 fn abort_row(s: &mut [u64], sh: Shape, x: u64)
     ensures words { λ _. ⌜ now (s .exit) ≡ abortedW (now (s .entry)) sh x ⌝ }
 {
-    let b = layout::row_word(s, sh, x, 2);
-    let n = layout::row_word(s, sh, x, 3);
+    let b = layout::row_word(s, sh, x, field::ROW_TABLE);
+    let n = layout::row_word(s, sh, x, field::ROW_LENGTH);
     book::vacate_items(s, sh, b, x, 0, n);
     book::close_row(s, sh, x);
 }
@@ -43,8 +44,8 @@ pub fn abort(s: &mut [u64], sh: Shape, id: ReservationId, out: &mut [u64], base:
 fn trim_row(s: &mut [u64], sh: Shape, x: u64, n: u64)
     ensures words { λ _. ⌜ now (s .exit) ≡ trimmedW (now (s .entry)) sh x n ⌝ }
 {
-    let b = layout::row_word(s, sh, x, 2);
-    let count = layout::row_word(s, sh, x, 3);
+    let b = layout::row_word(s, sh, x, field::ROW_TABLE);
+    let count = layout::row_word(s, sh, x, field::ROW_LENGTH);
     book::vacate_items(s, sh, b, x, n, count);
     book::shrink_row(s, sh, x, n);
 }
@@ -63,7 +64,7 @@ pub fn trim(s: &mut [u64], sh: Shape, id: ReservationId, n: u64, out: &mut [u64]
         answer::refuse(out, base, format::refusal::MISUSE);
         return;
     }
-    if words::lt(layout::row_word(s, sh, x, 3), n) {
+    if words::lt(layout::row_word(s, sh, x, field::ROW_LENGTH), n) {
         answer::refuse(out, base, format::refusal::MISUSE);
         return;
     }
@@ -80,7 +81,7 @@ fn batch_refusal(s: &[u64], sh: Shape, b: u64, n: u64) -> u64
         if words::eq(n, 0) {
             return format::refusal::EMPTY_RESERVATION;
         }
-        if words::lt(book::MAX_BATCH, n) {
+        if words::lt(size::BATCH_MAX, n) {
             return format::refusal::RESERVATION_TOO_LARGE;
         }
         return format::refusal::DONE;
@@ -92,14 +93,17 @@ fn batch_refusal(s: &[u64], sh: Shape, b: u64, n: u64) -> u64
 fn room_refusal(s: &[u64], sh: Shape, p: u64) -> u64
     ensures { λ r. ⌜ r ≡ roomRefusal (loadAt (now (s .entry)) sh) sh p ⌝ }
 {
-    if words::eq(p, NO_PLAN) {
+    if words::eq(p, growth::NO_PLAN) {
         return format::refusal::TABLE_FULL;
     }
-    if words::lt(layout::root_word(s, sh, 7), p) {
+    if words::lt(layout::root_word(s, sh, field::ROOT_FREE_FRAMES), p) {
         return format::refusal::ALLOCATION;
     }
-    if words::lt(layout::root_word(s, sh, 6), sh.rows as u64) {
-        if words::eq(layout::root_word(s, sh, 5), book::LAST_ID) {
+    if words::lt(
+        layout::root_word(s, sh, field::ROOT_USED_ROWS),
+        sh.rows as u64,
+    ) {
+        if words::eq(layout::root_word(s, sh, field::ROOT_NEXT_ID), book::LAST_ID) {
             return format::refusal::RESERVATION_ID_EXHAUSTED;
         }
         return format::refusal::DONE;
@@ -115,8 +119,8 @@ fn list_slots(s: &mut [u64], sh: Shape, b: u64, x: u64, l: u64, n: u64)
     let mut j: u64 = 0;
     while j < n {
         let k = words::dec(link);
-        link = storage::slot_word(s, sh, b, k, 2);
-        layout::put_item(s, sh, x, j, 0, k);
+        link = storage::slot_word(s, sh, b, k, field::SLOT_NEXT_FREE);
+        layout::put_item(s, sh, x, j, field::ITEM_SLOT, k);
         j += 1;
     }
 }
@@ -126,7 +130,7 @@ fn list_free(s: &mut [u64], sh: Shape, b: u64, n: u64)
     ensures words { λ _. ⌜ now (s .exit) ≡ listW (now (s .entry)) sh b n ⌝ }
 {
     let x = book::spare_place(s, sh);
-    let l = layout::head_word(s, sh, b, 6);
+    let l = layout::head_word(s, sh, b, field::HEAD_FIRST_FREE);
     list_slots(s, sh, b, x, l, n);
 }
 
@@ -146,20 +150,20 @@ fn open_batch(s: &mut [u64], sh: Shape, b: u64, n: u64)
     ensures words { λ _. ⌜ now (s .exit) ≡ batchW (now (s .entry)) sh b n ⌝ }
 {
     let x = book::spare_place(s, sh);
-    book::open_row(s, sh, book::RESERVATION, b, n);
+    book::open_row(s, sh, value::KIND_RESERVATION, b, n);
     take_slots(s, sh, b, x, n);
 }
 
 // The values of the slots that the first n items of the row in place x name, at most 64, from word 3 of the answer on.
 fn say_values(s: &[u64], sh: Shape, b: u64, x: u64, n: u64, out: &mut [u64], base: usize)
-    ensures { λ _. ⌜ now (out .exit) ≡ puts (now (out .entry)) base 3 (valuesAt (loadAt (now (s .entry)) sh) b x 0 (min n 64)) ⌝ }
+    ensures { λ _. ⌜ now (out .exit) ≡ puts (now (out .entry)) base 3 (valuesAt (loadAt (now (s .entry)) sh) b x 0 (min n batchMax)) ⌝ }
 {
-    let most = words::smaller(n, book::MAX_BATCH);
-    let mask = layout::head_word(s, sh, b, 1);
+    let most = words::smaller(n, size::BATCH_MAX);
+    let mask = layout::head_word(s, sh, b, field::HEAD_MASK);
     let mut j: u64 = 0;
     while j < most {
-        let k = layout::item_word(s, sh, x, j, 0);
-        let g = storage::slot_word(s, sh, b, k, 1);
+        let k = layout::item_word(s, sh, x, j, field::ITEM_SLOT);
+        let g = storage::slot_word(s, sh, b, k, field::SLOT_GENERATION);
         let codec = HandleCodec { mask: mask };
         let v = codec.encode(k, g);
         request::answer_put(out, base, (j + 3) as usize, v.0);
@@ -172,7 +176,7 @@ fn say_batch(s: &[u64], sh: Shape, b: u64, n: u64, out: &mut [u64], base: usize)
     ensures { λ _. ⌜ now (out .exit) ≡ answered (now (out .entry)) base (batchWords (loadAt (now (s .entry)) sh) b n) ⌝ }
 {
     let x = book::spare_place(s, sh);
-    let id = layout::root_word(s, sh, 5);
+    let id = layout::root_word(s, sh, field::ROOT_NEXT_ID);
     answer::say2(out, base, id, n);
     say_values(s, sh, b, x, n, out, base);
 }

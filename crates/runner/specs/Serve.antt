@@ -5,6 +5,8 @@ use Prim.Native.Nat.{ℕ}
 use lib.Dec.{eqb}
 use Rattle.words.specs.Pick.{pick}
 use Rattle.model.specs.Words.{must}
+use Rattle.format.specs.Fields.{tableField, objectField, countField, valueField, rightsField, flagsField, idField, destinationField, kindField, koidField, cursorField}
+use Rattle.format.specs.Ops.{opNewObject, opDuplicate, opReleaseParcel, opRetireObject, opReserve, opTrim, opAbort, opPublish, opGetInfo, opResolve, opReplace, opClose, opScanHandles, opPrepareTransfer, opPrepareConsumption, opRollback, opCommit, opDirectCommit, opDirectRollback, opRemoveStoppingOwner, opTeardownStart, opTeardownStep, opTeardownFinish, opTakeEmptyPage}
 use Rattle.layout.specs.declared.Shape.{Shape}
 use Rattle.request.specs.Place.{fieldsAt, opAt, endAt, countAt}
 use Rattle.answer.specs.Does.{Both, both}
@@ -27,30 +29,30 @@ fieldOf list at k = must (fieldsAt list at) k
 
 unfoldable pub serveR : ℕ → List ℕ → List ℕ → Shape → List ℕ → ℕ → ℕ → Both
 serveR op ws os sh list at base =
-    pick (eqb op 1) (newObjectR ws os sh base (fieldOf list at 2) (fieldOf list at 5) (fieldOf list at 6))
-    (pick (eqb op 2) (duplicateR ws os sh base (fieldOf list at 1) (fieldOf list at 4) (fieldOf list at 5))
-    (pick (eqb op 3) (releaseR ws os sh base (fieldOf list at 7))
-    (pick (eqb op 4) (retireR ws os sh base (fieldOf list at 2))
-    (pick (eqb op 5) (reserveR ws os sh base (fieldOf list at 1) (fieldOf list at 3))
-    (pick (eqb op 6) (trimR ws os sh base (fieldOf list at 7) (fieldOf list at 3))
-    (pick (eqb op 7) (abortR ws os sh base (fieldOf list at 7))
-    (pick (eqb op 8) (publishR ws os sh base (fieldOf list at 7) (idsAt list (endAt list at) (countAt list at)))
-    (pick (eqb op 9) (getInfoR ws os sh base (fieldOf list at 1) (fieldOf list at 4))
-    (pick (eqb op 10) (resolveR ws os sh base (fieldOf list at 1) (fieldOf list at 4) (fieldOf list at 5) (fieldOf list at 9))
-    (pick (eqb op 11) (replaceR ws os sh base (fieldOf list at 1) (fieldOf list at 4) (fieldOf list at 5))
-    (pick (eqb op 12) (closeR ws os sh base (fieldOf list at 1) (fieldOf list at 4))
-    (pick (eqb op 13) (scanR ws os sh base (fieldOf list at 1) (fieldOf list at 11))
-    (pick (eqb op 14) (transferAt ws os sh base list at)
-    (pick (eqb op 15) (consumptionR ws os sh base (fieldOf list at 1) (fieldOf list at 4) (fieldOf list at 5) (fieldOf list at 9) (fieldOf list at 10))
-    (pick (eqb op 16) (rollbackR ws os sh base (fieldOf list at 7))
-    (pick (eqb op 17) (commitR ws os sh base (fieldOf list at 7))
-    (pick (eqb op 18) (directCommitR ws os sh base (fieldOf list at 7) (fieldOf list at 8))
-    (pick (eqb op 19) (directRollbackR ws os sh base (fieldOf list at 7) (fieldOf list at 8))
-    (pick (eqb op 20) (stoppingR ws os sh base (fieldOf list at 1) (fieldOf list at 11))
-    (pick (eqb op 21) (teardownStartR ws os sh base (fieldOf list at 1))
-    (pick (eqb op 22) (teardownStepR ws os sh base (fieldOf list at 1))
-    (pick (eqb op 23) (teardownFinishR ws os sh base (fieldOf list at 1))
-    (pick (eqb op 24) (takePageR ws os sh base (fieldOf list at 1))
+    pick (eqb op opNewObject) (newObjectR ws os sh base (fieldOf list at objectField) (fieldOf list at rightsField) (fieldOf list at flagsField))
+    (pick (eqb op opDuplicate) (duplicateR ws os sh base (fieldOf list at tableField) (fieldOf list at valueField) (fieldOf list at rightsField))
+    (pick (eqb op opReleaseParcel) (releaseR ws os sh base (fieldOf list at idField))
+    (pick (eqb op opRetireObject) (retireR ws os sh base (fieldOf list at objectField))
+    (pick (eqb op opReserve) (reserveR ws os sh base (fieldOf list at tableField) (fieldOf list at countField))
+    (pick (eqb op opTrim) (trimR ws os sh base (fieldOf list at idField) (fieldOf list at countField))
+    (pick (eqb op opAbort) (abortR ws os sh base (fieldOf list at idField))
+    (pick (eqb op opPublish) (publishR ws os sh base (fieldOf list at idField) (idsAt list (endAt list at) (countAt list at)))
+    (pick (eqb op opGetInfo) (getInfoR ws os sh base (fieldOf list at tableField) (fieldOf list at valueField))
+    (pick (eqb op opResolve) (resolveR ws os sh base (fieldOf list at tableField) (fieldOf list at valueField) (fieldOf list at rightsField) (fieldOf list at kindField))
+    (pick (eqb op opReplace) (replaceR ws os sh base (fieldOf list at tableField) (fieldOf list at valueField) (fieldOf list at rightsField))
+    (pick (eqb op opClose) (closeR ws os sh base (fieldOf list at tableField) (fieldOf list at valueField))
+    (pick (eqb op opScanHandles) (scanR ws os sh base (fieldOf list at tableField) (fieldOf list at cursorField))
+    (pick (eqb op opPrepareTransfer) (transferAt ws os sh base list at)
+    (pick (eqb op opPrepareConsumption) (consumptionR ws os sh base (fieldOf list at tableField) (fieldOf list at valueField) (fieldOf list at rightsField) (fieldOf list at kindField) (fieldOf list at koidField))
+    (pick (eqb op opRollback) (rollbackR ws os sh base (fieldOf list at idField))
+    (pick (eqb op opCommit) (commitR ws os sh base (fieldOf list at idField))
+    (pick (eqb op opDirectCommit) (directCommitR ws os sh base (fieldOf list at idField) (fieldOf list at destinationField))
+    (pick (eqb op opDirectRollback) (directRollbackR ws os sh base (fieldOf list at idField) (fieldOf list at destinationField))
+    (pick (eqb op opRemoveStoppingOwner) (stoppingR ws os sh base (fieldOf list at tableField) (fieldOf list at cursorField))
+    (pick (eqb op opTeardownStart) (teardownStartR ws os sh base (fieldOf list at tableField))
+    (pick (eqb op opTeardownStep) (teardownStepR ws os sh base (fieldOf list at tableField))
+    (pick (eqb op opTeardownFinish) (teardownFinishR ws os sh base (fieldOf list at tableField))
+    (pick (eqb op opTakeEmptyPage) (takePageR ws os sh base (fieldOf list at tableField))
     (both ws os))))))))))))))))))))))))
 
 abbrev pub oneR : List ℕ → List ℕ → Shape → List ℕ → ℕ → ℕ → Both

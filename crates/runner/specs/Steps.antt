@@ -5,6 +5,8 @@ use Prim.Native.Nat.{ℕ, _≤_}
 use lib.ListN.{length}
 use Rattle.words.specs.Words.{Small}
 use Rattle.model.specs.State.{State}
+use Rattle.format.specs.Fields.{tableField, objectField, countField, valueField, rightsField, flagsField, idField, destinationField, kindField, koidField, cursorField}
+use Rattle.format.specs.Ops.{opLast}
 use Rattle.layout.specs.declared.Shape.{Shape}
 use Rattle.representation.specs.Represents.{Rep}
 use Rattle.request.specs.Place.{opAt, countAt, endAt, requestOf, requestAt}
@@ -41,33 +43,33 @@ module _ (ws os : List ℕ) (sh : Shape) (s : State) (list : List ℕ) (at base 
   abbrev Done : ℕ → Type 0
   Done op = Does ws os sh base s (requestOf op list at) (serveR op ws os sh list at base)
 
-  serves : (op : ℕ) → 1 ≤ op → op ≤ 24 → Done op
+  serves : (op : ℕ) → 1 ≤ op → op ≤ opLast → Done op
   unfolding serveR requestOf idsAt
   serves = known Done
-      (newObject-does ws sh s r os base (fieldOf list at 2) (fieldOf list at 5) (fieldOf list at 6))
-      (duplicate-does ws sh s r os base (fieldOf list at 1) (fieldOf list at 4) (fieldOf list at 5))
-      (releaseParcel-does ws sh s r os base (fieldOf list at 7))
-      (retireObject-does ws sh s r os base (fieldOf list at 2))
-      (reserve-does ws sh s r os base (fieldOf list at 1) (fieldOf list at 3))
-      (trim-does ws sh s r os base (fieldOf list at 7) (fieldOf list at 3))
-      (abort-does ws sh s r os base (fieldOf list at 7))
-      (publish-does ws sh s r os base (fieldOf list at 7) (idsAt list (endAt list at) (countAt list at)))
-      (getInfo-does ws sh s r (fieldOf list at 1) (fieldOf list at 4) os base)
-      (resolve-does ws sh s r (fieldOf list at 1) (fieldOf list at 4) os base (fieldOf list at 5) (fieldOf list at 9))
-      (replace-does ws sh s r (fieldOf list at 1) (fieldOf list at 4) os base (fieldOf list at 5))
-      (close-does ws sh s r (fieldOf list at 1) (fieldOf list at 4) os base)
-      (scan-does ws sh s r (fieldOf list at 1) (fieldOf list at 11) os base)
+      (newObject-does ws sh s r os base (fieldOf list at objectField) (fieldOf list at rightsField) (fieldOf list at flagsField))
+      (duplicate-does ws sh s r os base (fieldOf list at tableField) (fieldOf list at valueField) (fieldOf list at rightsField))
+      (releaseParcel-does ws sh s r os base (fieldOf list at idField))
+      (retireObject-does ws sh s r os base (fieldOf list at objectField))
+      (reserve-does ws sh s r os base (fieldOf list at tableField) (fieldOf list at countField))
+      (trim-does ws sh s r os base (fieldOf list at idField) (fieldOf list at countField))
+      (abort-does ws sh s r os base (fieldOf list at idField))
+      (publish-does ws sh s r os base (fieldOf list at idField) (idsAt list (endAt list at) (countAt list at)))
+      (getInfo-does ws sh s r (fieldOf list at tableField) (fieldOf list at valueField) os base)
+      (resolve-does ws sh s r (fieldOf list at tableField) (fieldOf list at valueField) os base (fieldOf list at rightsField) (fieldOf list at kindField))
+      (replace-does ws sh s r (fieldOf list at tableField) (fieldOf list at valueField) os base (fieldOf list at rightsField))
+      (close-does ws sh s r (fieldOf list at tableField) (fieldOf list at valueField) os base)
+      (scan-does ws sh s r (fieldOf list at tableField) (fieldOf list at cursorField) os base)
       (transferAt-does ws sh s r os base list at)
-      (prepareConsumption-does ws sh s r os base (fieldOf list at 1) (fieldOf list at 4) (fieldOf list at 5) (fieldOf list at 9) (fieldOf list at 10))
-      (rollback-does ws sh s r os base (fieldOf list at 7))
-      (commit-does ws sh s r os base (fieldOf list at 7))
-      (directCommit-does ws sh s r os base (fieldOf list at 7) (fieldOf list at 8))
-      (directRollback-does ws sh s r os base (fieldOf list at 7) (fieldOf list at 8))
-      (removeStoppingOwner-does ws sh s r os base (fieldOf list at 1) (fieldOf list at 11))
-      (teardownStart-does ws sh s r os base (fieldOf list at 1))
-      (teardownStep-does ws sh s r os base (fieldOf list at 1))
-      (teardownFinish-does ws sh s r os base (fieldOf list at 1))
-      (takePage-does ws os sh base s r (fieldOf list at 1))
+      (prepareConsumption-does ws sh s r os base (fieldOf list at tableField) (fieldOf list at valueField) (fieldOf list at rightsField) (fieldOf list at kindField) (fieldOf list at koidField))
+      (rollback-does ws sh s r os base (fieldOf list at idField))
+      (commit-does ws sh s r os base (fieldOf list at idField))
+      (directCommit-does ws sh s r os base (fieldOf list at idField) (fieldOf list at destinationField))
+      (directRollback-does ws sh s r os base (fieldOf list at idField) (fieldOf list at destinationField))
+      (removeStoppingOwner-does ws sh s r os base (fieldOf list at tableField) (fieldOf list at cursorField))
+      (teardownStart-does ws sh s r os base (fieldOf list at tableField))
+      (teardownStep-does ws sh s r os base (fieldOf list at tableField))
+      (teardownFinish-does ws sh s r os base (fieldOf list at tableField))
+      (takePage-does ws os sh base s r (fieldOf list at tableField))
 
 -- EACH REQUEST
 pub steps : Steps oneR

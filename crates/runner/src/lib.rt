@@ -23,6 +23,7 @@ ghost use Rattle.teardown.specs.Ops.{stoppingR, teardownStartR, teardownStepR, 
 ghost use Rattle.detach.specs.Ops.{takePageR};
 ghost use Rattle.layout.specs.Layout.{total};
 ghost use Rattle.model.specs.Words.{readList};
+ghost use Rattle.format.specs.Fields.{tableField, objectField, countField, valueField, rightsField, flagsField, idField, destinationField, kindField, koidField, cursorField};
 ghost use Rattle.contract.specs.Meets.{called, Meets};
 ghost use Rattle.contract.specs.Run.{listR};
 ghost use Rattle.contract.specs.Call.{done, requestsW, checkedW, withinW, runW};
@@ -38,7 +39,7 @@ use layout::ShapeRead;
 use request::Listed;
 
 fn serve_new_object(s: &mut [u64], sh: Shape, rq: &[u64], at: usize, out: &mut [u64], base: usize)
-    ensures { λ _. ⌜ both (now (s .exit)) (now (out .exit)) ≡ newObjectR (now (s .entry)) (now (out .entry)) sh base (fieldOf (now (rq .entry)) at 2) (fieldOf (now (rq .entry)) at 5) (fieldOf (now (rq .entry)) at 6) ⌝ }
+    ensures { λ _. ⌜ both (now (s .exit)) (now (out .exit)) ≡ newObjectR (now (s .entry)) (now (out .entry)) sh base (fieldOf (now (rq .entry)) at objectField) (fieldOf (now (rq .entry)) at rightsField) (fieldOf (now (rq .entry)) at flagsField) ⌝ }
 {
     let f = request::read_three(
         rq,
@@ -55,7 +56,7 @@ fn serve_new_object(s: &mut [u64], sh: Shape, rq: &[u64], at: usize, out: &mut [
 }
 
 fn serve_duplicate(s: &mut [u64], sh: Shape, rq: &[u64], at: usize, out: &mut [u64], base: usize)
-    ensures { λ _. ⌜ both (now (s .exit)) (now (out .exit)) ≡ duplicateR (now (s .entry)) (now (out .entry)) sh base (fieldOf (now (rq .entry)) at 1) (fieldOf (now (rq .entry)) at 4) (fieldOf (now (rq .entry)) at 5) ⌝ }
+    ensures { λ _. ⌜ both (now (s .exit)) (now (out .exit)) ≡ duplicateR (now (s .entry)) (now (out .entry)) sh base (fieldOf (now (rq .entry)) at tableField) (fieldOf (now (rq .entry)) at valueField) (fieldOf (now (rq .entry)) at rightsField) ⌝ }
 {
     let f = request::read_three(
         rq,
@@ -79,7 +80,7 @@ fn serve_release_parcel(
     out: &mut [u64],
     base: usize,
 )
-    ensures { λ _. ⌜ both (now (s .exit)) (now (out .exit)) ≡ releaseR (now (s .entry)) (now (out .entry)) sh base (fieldOf (now (rq .entry)) at 7) ⌝ }
+    ensures { λ _. ⌜ both (now (s .exit)) (now (out .exit)) ≡ releaseR (now (s .entry)) (now (out .entry)) sh base (fieldOf (now (rq .entry)) at idField) ⌝ }
 {
     let id = request::field(rq, at, field::FIELD_ID);
     parcel::release_parcel(s, sh, ReservationId(id), out, base);
@@ -93,14 +94,14 @@ fn serve_retire_object(
     out: &mut [u64],
     base: usize,
 )
-    ensures { λ _. ⌜ both (now (s .exit)) (now (out .exit)) ≡ retireR (now (s .entry)) (now (out .entry)) sh base (fieldOf (now (rq .entry)) at 2) ⌝ }
+    ensures { λ _. ⌜ both (now (s .exit)) (now (out .exit)) ≡ retireR (now (s .entry)) (now (out .entry)) sh base (fieldOf (now (rq .entry)) at objectField) ⌝ }
 {
     let object = request::field(rq, at, field::FIELD_OBJECT);
     parcel::retire_object(s, sh, object, out, base);
 }
 
 fn serve_reserve(s: &mut [u64], sh: Shape, rq: &[u64], at: usize, out: &mut [u64], base: usize)
-    ensures { λ _. ⌜ both (now (s .exit)) (now (out .exit)) ≡ reserveR (now (s .entry)) (now (out .entry)) sh base (fieldOf (now (rq .entry)) at 1) (fieldOf (now (rq .entry)) at 3) ⌝ }
+    ensures { λ _. ⌜ both (now (s .exit)) (now (out .exit)) ≡ reserveR (now (s .entry)) (now (out .entry)) sh base (fieldOf (now (rq .entry)) at tableField) (fieldOf (now (rq .entry)) at countField) ⌝ }
 {
     let f = request::read_three(
         rq,
@@ -116,7 +117,7 @@ fn serve_reserve(s: &mut [u64], sh: Shape, rq: &[u64], at: usize, out: &mut [u64
 }
 
 fn serve_trim(s: &mut [u64], sh: Shape, rq: &[u64], at: usize, out: &mut [u64], base: usize)
-    ensures { λ _. ⌜ both (now (s .exit)) (now (out .exit)) ≡ trimR (now (s .entry)) (now (out .entry)) sh base (fieldOf (now (rq .entry)) at 7) (fieldOf (now (rq .entry)) at 3) ⌝ }
+    ensures { λ _. ⌜ both (now (s .exit)) (now (out .exit)) ≡ trimR (now (s .entry)) (now (out .entry)) sh base (fieldOf (now (rq .entry)) at idField) (fieldOf (now (rq .entry)) at countField) ⌝ }
 {
     let f = request::read_three(
         rq,
@@ -132,14 +133,14 @@ fn serve_trim(s: &mut [u64], sh: Shape, rq: &[u64], at: usize, out: &mut [u64], 
 }
 
 fn serve_abort(s: &mut [u64], sh: Shape, rq: &[u64], at: usize, out: &mut [u64], base: usize)
-    ensures { λ _. ⌜ both (now (s .exit)) (now (out .exit)) ≡ abortR (now (s .entry)) (now (out .entry)) sh base (fieldOf (now (rq .entry)) at 7) ⌝ }
+    ensures { λ _. ⌜ both (now (s .exit)) (now (out .exit)) ≡ abortR (now (s .entry)) (now (out .entry)) sh base (fieldOf (now (rq .entry)) at idField) ⌝ }
 {
     let id = request::field(rq, at, field::FIELD_ID);
     reserve::abort(s, sh, ReservationId(id), out, base);
 }
 
 fn serve_publish(s: &mut [u64], sh: Shape, rq: &[u64], at: usize, out: &mut [u64], base: usize)
-    ensures { λ _. ⌜ both (now (s .exit)) (now (out .exit)) ≡ publishR (now (s .entry)) (now (out .entry)) sh base (fieldOf (now (rq .entry)) at 7) (idsAt (now (rq .entry)) (endAt (now (rq .entry)) at) (countAt (now (rq .entry)) at)) ⌝ }
+    ensures { λ _. ⌜ both (now (s .exit)) (now (out .exit)) ≡ publishR (now (s .entry)) (now (out .entry)) sh base (fieldOf (now (rq .entry)) at idField) (idsAt (now (rq .entry)) (endAt (now (rq .entry)) at) (countAt (now (rq .entry)) at)) ⌝ }
 {
     let f = request::read_three(
         rq,
@@ -156,7 +157,7 @@ fn serve_publish(s: &mut [u64], sh: Shape, rq: &[u64], at: usize, out: &mut [u64
 }
 
 fn serve_get_info(s: &mut [u64], sh: Shape, rq: &[u64], at: usize, out: &mut [u64], base: usize)
-    ensures { λ _. ⌜ both (now (s .exit)) (now (out .exit)) ≡ getInfoR (now (s .entry)) (now (out .entry)) sh base (fieldOf (now (rq .entry)) at 1) (fieldOf (now (rq .entry)) at 4) ⌝ }
+    ensures { λ _. ⌜ both (now (s .exit)) (now (out .exit)) ≡ getInfoR (now (s .entry)) (now (out .entry)) sh base (fieldOf (now (rq .entry)) at tableField) (fieldOf (now (rq .entry)) at valueField) ⌝ }
 {
     let f = request::read_three(
         rq,
@@ -172,7 +173,7 @@ fn serve_get_info(s: &mut [u64], sh: Shape, rq: &[u64], at: usize, out: &mut [u6
 }
 
 fn serve_resolve(s: &mut [u64], sh: Shape, rq: &[u64], at: usize, out: &mut [u64], base: usize)
-    ensures { λ _. ⌜ both (now (s .exit)) (now (out .exit)) ≡ resolveR (now (s .entry)) (now (out .entry)) sh base (fieldOf (now (rq .entry)) at 1) (fieldOf (now (rq .entry)) at 4) (fieldOf (now (rq .entry)) at 5) (fieldOf (now (rq .entry)) at 9) ⌝ }
+    ensures { λ _. ⌜ both (now (s .exit)) (now (out .exit)) ≡ resolveR (now (s .entry)) (now (out .entry)) sh base (fieldOf (now (rq .entry)) at tableField) (fieldOf (now (rq .entry)) at valueField) (fieldOf (now (rq .entry)) at rightsField) (fieldOf (now (rq .entry)) at kindField) ⌝ }
 {
     let f = request::read_three(
         rq,
@@ -207,7 +208,7 @@ fn serve_resolve(s: &mut [u64], sh: Shape, rq: &[u64], at: usize, out: &mut [u64
 }
 
 fn serve_replace(s: &mut [u64], sh: Shape, rq: &[u64], at: usize, out: &mut [u64], base: usize)
-    ensures { λ _. ⌜ both (now (s .exit)) (now (out .exit)) ≡ replaceR (now (s .entry)) (now (out .entry)) sh base (fieldOf (now (rq .entry)) at 1) (fieldOf (now (rq .entry)) at 4) (fieldOf (now (rq .entry)) at 5) ⌝ }
+    ensures { λ _. ⌜ both (now (s .exit)) (now (out .exit)) ≡ replaceR (now (s .entry)) (now (out .entry)) sh base (fieldOf (now (rq .entry)) at tableField) (fieldOf (now (rq .entry)) at valueField) (fieldOf (now (rq .entry)) at rightsField) ⌝ }
 {
     let f = request::read_three(
         rq,
@@ -224,7 +225,7 @@ fn serve_replace(s: &mut [u64], sh: Shape, rq: &[u64], at: usize, out: &mut [u64
 }
 
 fn serve_close(s: &mut [u64], sh: Shape, rq: &[u64], at: usize, out: &mut [u64], base: usize)
-    ensures { λ _. ⌜ both (now (s .exit)) (now (out .exit)) ≡ closeR (now (s .entry)) (now (out .entry)) sh base (fieldOf (now (rq .entry)) at 1) (fieldOf (now (rq .entry)) at 4) ⌝ }
+    ensures { λ _. ⌜ both (now (s .exit)) (now (out .exit)) ≡ closeR (now (s .entry)) (now (out .entry)) sh base (fieldOf (now (rq .entry)) at tableField) (fieldOf (now (rq .entry)) at valueField) ⌝ }
 {
     let f = request::read_three(
         rq,
@@ -240,7 +241,7 @@ fn serve_close(s: &mut [u64], sh: Shape, rq: &[u64], at: usize, out: &mut [u64],
 }
 
 fn serve_scan_handles(s: &mut [u64], sh: Shape, rq: &[u64], at: usize, out: &mut [u64], base: usize)
-    ensures { λ _. ⌜ both (now (s .exit)) (now (out .exit)) ≡ scanR (now (s .entry)) (now (out .entry)) sh base (fieldOf (now (rq .entry)) at 1) (fieldOf (now (rq .entry)) at 11) ⌝ }
+    ensures { λ _. ⌜ both (now (s .exit)) (now (out .exit)) ≡ scanR (now (s .entry)) (now (out .entry)) sh base (fieldOf (now (rq .entry)) at tableField) (fieldOf (now (rq .entry)) at cursorField) ⌝ }
 {
     let f = request::read_three(
         rq,
@@ -263,7 +264,7 @@ fn serve_prepare_consumption(
     out: &mut [u64],
     base: usize,
 )
-    ensures { λ _. ⌜ both (now (s .exit)) (now (out .exit)) ≡ consumptionR (now (s .entry)) (now (out .entry)) sh base (fieldOf (now (rq .entry)) at 1) (fieldOf (now (rq .entry)) at 4) (fieldOf (now (rq .entry)) at 5) (fieldOf (now (rq .entry)) at 9) (fieldOf (now (rq .entry)) at 10) ⌝ }
+    ensures { λ _. ⌜ both (now (s .exit)) (now (out .exit)) ≡ consumptionR (now (s .entry)) (now (out .entry)) sh base (fieldOf (now (rq .entry)) at tableField) (fieldOf (now (rq .entry)) at valueField) (fieldOf (now (rq .entry)) at rightsField) (fieldOf (now (rq .entry)) at kindField) (fieldOf (now (rq .entry)) at koidField) ⌝ }
 {
     let f = request::read_three(
         rq,
@@ -300,14 +301,14 @@ fn serve_prepare_consumption(
 }
 
 fn serve_rollback(s: &mut [u64], sh: Shape, rq: &[u64], at: usize, out: &mut [u64], base: usize)
-    ensures { λ _. ⌜ both (now (s .exit)) (now (out .exit)) ≡ rollbackR (now (s .entry)) (now (out .entry)) sh base (fieldOf (now (rq .entry)) at 7) ⌝ }
+    ensures { λ _. ⌜ both (now (s .exit)) (now (out .exit)) ≡ rollbackR (now (s .entry)) (now (out .entry)) sh base (fieldOf (now (rq .entry)) at idField) ⌝ }
 {
     let id = request::field(rq, at, field::FIELD_ID);
     claim::rollback(s, sh, ReservationId(id), out, base);
 }
 
 fn serve_commit(s: &mut [u64], sh: Shape, rq: &[u64], at: usize, out: &mut [u64], base: usize)
-    ensures { λ _. ⌜ both (now (s .exit)) (now (out .exit)) ≡ commitR (now (s .entry)) (now (out .entry)) sh base (fieldOf (now (rq .entry)) at 7) ⌝ }
+    ensures { λ _. ⌜ both (now (s .exit)) (now (out .exit)) ≡ commitR (now (s .entry)) (now (out .entry)) sh base (fieldOf (now (rq .entry)) at idField) ⌝ }
 {
     let id = request::field(rq, at, field::FIELD_ID);
     claim::commit(s, sh, ReservationId(id), out, base);
@@ -321,7 +322,7 @@ fn serve_direct_commit(
     out: &mut [u64],
     base: usize,
 )
-    ensures { λ _. ⌜ both (now (s .exit)) (now (out .exit)) ≡ directCommitR (now (s .entry)) (now (out .entry)) sh base (fieldOf (now (rq .entry)) at 7) (fieldOf (now (rq .entry)) at 8) ⌝ }
+    ensures { λ _. ⌜ both (now (s .exit)) (now (out .exit)) ≡ directCommitR (now (s .entry)) (now (out .entry)) sh base (fieldOf (now (rq .entry)) at idField) (fieldOf (now (rq .entry)) at destinationField) ⌝ }
 {
     let f = request::read_three(
         rq,
@@ -351,7 +352,7 @@ fn serve_direct_rollback(
     out: &mut [u64],
     base: usize,
 )
-    ensures { λ _. ⌜ both (now (s .exit)) (now (out .exit)) ≡ directRollbackR (now (s .entry)) (now (out .entry)) sh base (fieldOf (now (rq .entry)) at 7) (fieldOf (now (rq .entry)) at 8) ⌝ }
+    ensures { λ _. ⌜ both (now (s .exit)) (now (out .exit)) ≡ directRollbackR (now (s .entry)) (now (out .entry)) sh base (fieldOf (now (rq .entry)) at idField) (fieldOf (now (rq .entry)) at destinationField) ⌝ }
 {
     let f = request::read_three(
         rq,
@@ -381,7 +382,7 @@ fn serve_remove_stopping_owner(
     out: &mut [u64],
     base: usize,
 )
-    ensures { λ _. ⌜ both (now (s .exit)) (now (out .exit)) ≡ stoppingR (now (s .entry)) (now (out .entry)) sh base (fieldOf (now (rq .entry)) at 1) (fieldOf (now (rq .entry)) at 11) ⌝ }
+    ensures { λ _. ⌜ both (now (s .exit)) (now (out .exit)) ≡ stoppingR (now (s .entry)) (now (out .entry)) sh base (fieldOf (now (rq .entry)) at tableField) (fieldOf (now (rq .entry)) at cursorField) ⌝ }
 {
     let f = request::read_three(
         rq,
@@ -404,7 +405,7 @@ fn serve_teardown_start(
     out: &mut [u64],
     base: usize,
 )
-    ensures { λ _. ⌜ both (now (s .exit)) (now (out .exit)) ≡ teardownStartR (now (s .entry)) (now (out .entry)) sh base (fieldOf (now (rq .entry)) at 1) ⌝ }
+    ensures { λ _. ⌜ both (now (s .exit)) (now (out .exit)) ≡ teardownStartR (now (s .entry)) (now (out .entry)) sh base (fieldOf (now (rq .entry)) at tableField) ⌝ }
 {
     let table = request::field(rq, at, field::FIELD_TABLE);
     teardown::begin_teardown(s, sh, table, out, base);
@@ -418,7 +419,7 @@ fn serve_teardown_step(
     out: &mut [u64],
     base: usize,
 )
-    ensures { λ _. ⌜ both (now (s .exit)) (now (out .exit)) ≡ teardownStepR (now (s .entry)) (now (out .entry)) sh base (fieldOf (now (rq .entry)) at 1) ⌝ }
+    ensures { λ _. ⌜ both (now (s .exit)) (now (out .exit)) ≡ teardownStepR (now (s .entry)) (now (out .entry)) sh base (fieldOf (now (rq .entry)) at tableField) ⌝ }
 {
     let table = request::field(rq, at, field::FIELD_TABLE);
     teardown::remove_next(s, sh, table, out, base);
@@ -432,7 +433,7 @@ fn serve_teardown_finish(
     out: &mut [u64],
     base: usize,
 )
-    ensures { λ _. ⌜ both (now (s .exit)) (now (out .exit)) ≡ teardownFinishR (now (s .entry)) (now (out .entry)) sh base (fieldOf (now (rq .entry)) at 1) ⌝ }
+    ensures { λ _. ⌜ both (now (s .exit)) (now (out .exit)) ≡ teardownFinishR (now (s .entry)) (now (out .entry)) sh base (fieldOf (now (rq .entry)) at tableField) ⌝ }
 {
     let table = request::field(rq, at, field::FIELD_TABLE);
     teardown::finish_teardown(s, sh, table, out, base);
@@ -446,7 +447,7 @@ fn serve_take_empty_page(
     out: &mut [u64],
     base: usize,
 )
-    ensures { λ _. ⌜ both (now (s .exit)) (now (out .exit)) ≡ takePageR (now (s .entry)) (now (out .entry)) sh base (fieldOf (now (rq .entry)) at 1) ⌝ }
+    ensures { λ _. ⌜ both (now (s .exit)) (now (out .exit)) ≡ takePageR (now (s .entry)) (now (out .entry)) sh base (fieldOf (now (rq .entry)) at tableField) ⌝ }
 {
     let table = request::field(rq, at, field::FIELD_TABLE);
     detach::take_empty_page(s, sh, table, out, base);

@@ -5,15 +5,17 @@ use native.Mathlib.Omega.{arith}
 use Rattle.layout.specs.declared.CellWords.{CellWords}
 use Rattle.layout.specs.Layout.{Mem}
 use Rattle.layout.specs.Cells.{cellAt}
+use Rattle.layout.specs.Fields.{slotTag, slotGeneration, slotObject, slotRights, slotFlags, slotUnused}
+use Rattle.layout.specs.Sizes.{pageSize}
 use Rattle.representation.specs.Represents.{wordIn, frameOf}
 
 -- slot j of a frame, given as a link
 abbrev pub cellIn : Mem → ℕ → ℕ → CellWords
-cellIn m fr j = record { tag = wordIn m fr j 0; generation = wordIn m fr j 1; object = wordIn m fr j 2; rights = wordIn m fr j 3; flags = wordIn m fr j 4; unused = wordIn m fr j 5 }
+cellIn m fr j = record { tag = wordIn m fr j slotTag; generation = wordIn m fr j slotGeneration; object = wordIn m fr j slotObject; rights = wordIn m fr j slotRights; flags = wordIn m fr j slotFlags; unused = wordIn m fr j slotUnused }
 
 -- slot k of table b
 abbrev pub slotAt : Mem → ℕ → ℕ → CellWords
-slotAt m b k = cellIn m (frameOf m b k) (k % 64)
+slotAt m b k = cellIn m (frameOf m b k) (k % pageSize)
 
 abbrev noCell : CellWords
 noCell = record { tag = 0; generation = 0; object = 0; rights = 0; flags = 0; unused = 0 }

@@ -14,6 +14,9 @@ use Rattle.invariant.specs.Pointwise.{place-alike}
 use Rattle.invariant.specs.Pages.{till-sane, busy-there, busy-vacant, busy-other}
 use Rattle.invariant.specs.Orders.{Sound}
 use Rattle.layout.specs.Layout.{Mem, row}
+use Rattle.layout.specs.Fields.{headFirstFree, headFirstEmpty, headFirstDetached, entryNext, entryPrevious, slotTag, slotGeneration, slotNextFree, slotPreviousFree, slotPlace, slotPosition, rowId}
+use Rattle.layout.specs.Values.{tagTransferReserved}
+use Rattle.layout.specs.Sizes.{pageSize}
 use Rattle.representation.specs.Represents.{linkOf}
 use Rattle.storage.specs.Order.{chain-frame, linked-frame}
 use Rattle.storage.specs.Sight.{Spot, Spot.hd, Spot.pg, Spot.sl, puts}
@@ -27,7 +30,7 @@ abbrev pub occupyV : (Spot → ℕ) → ℕ → ℕ → ℕ → ℕ → Spot →
 occupyV v k o r f = puts v (occupyP k o r f)
 
 -- the mark
-pub moving-mark : (v : Spot → ℕ) (k r j : ℕ) → (moveV v k r j (sl k 0) ≡ 2) × (moveV v k r j (sl k 2) ≡ r) × (moveV v k r j (sl k 3) ≡ j)
+pub moving-mark : (v : Spot → ℕ) (k r j : ℕ) → (moveV v k r j (sl k slotTag) ≡ tagTransferReserved) × (moveV v k r j (sl k slotPlace) ≡ r) × (moveV v k r j (sl k slotPosition) ≡ j)
 unfolding moveP
 moving-mark v k r j = (rw (eq-eqb (suc k) (suc k) refl), rw (eq-eqb (suc k) (suc k) refl), rw (eq-eqb (suc k) (suc k) refl))
 
@@ -40,7 +43,7 @@ pub record Within (v w : Spot → ℕ) (k : ℕ) : Type 0 where
 module _ (m : Mem) (v w : Spot → ℕ) (t : Table) (z : Seen m v t) (o : Sound till t (t .free)) (k : ℕ) (x : Slot) (h : Within v w k)
     (was : isBusy (t .slots k) ≡ true) (now : isBusy x ≡ true) (gen : generation x ≡ generation (t .slots k)) (is : slotV m w k ≡ x) where
   other-slots : (i : ℕ) → (i ≡ k → ⊥) → slotV m w i ≡ slotV m v i
-  other-slots i n = rw (h .heads 5, h .pages (i / 64) 0, h .slots i 0 n, h .slots i 1 n, h .slots i 2 n, h .slots i 3 n, h .slots i 4 n)
+  other-slots i n = rw (h .heads 5, h .pages (i / pageSize) 0, h .slots i 0 n, h .slots i 1 n, h .slots i 2 n, h .slots i 3 n, h .slots i 4 n)
 
   busy-same : (p : ℕ) → busyOf till (put (t .slots) k x) p ≡ busyOf till (t .slots) p
   busy-same p = busy-other till till-sane (put (t .slots) k x) (t .slots) p (λ i e l. bool (eqb i k) (λ d. rw (d, eqb-true i k d, was) now) (λ d. rw d))
@@ -58,18 +61,18 @@ module _ (m : Mem) (v w : Spot → ℕ) (t : Table) (z : Seen m v t) (o : Sound 
     epoch = h .heads 4 ∙ z .epoch;
     size = h .heads 5 ∙ z .size;
     frame = λ p l. h .pages p 0 ∙ z .frame p l ∙ ap linkOf (sym (place-alike till t k x .frame p));
-    high = λ p l. h .pages p 1 ∙ z .high p l ∙ bool (eqb p (k / 64))
-        (λ e. rw (e, eqb-true p (k / 64) e) (omega (arith, gen, o .generations k (busy-there (t .slots k) was) .2)))
+    high = λ p l. h .pages p 1 ∙ z .high p l ∙ bool (eqb p (k / pageSize))
+        (λ e. rw (e, eqb-true p (k / pageSize) e) (omega (arith, gen, o .generations k (busy-there (t .slots k) was) .2)))
         (λ e. rw e);
     busy = λ p l a. h .pages p 2 ∙ z .busy p l (sym (ap isSome (place-alike till t k x .frame p)) ∙ a) ∙ sym (busy-same p);
     slots = λ i. bool (eqb i k)
         (λ e. rw (e, eqb-true i k e) is)
         (λ e. rw e (other-slots i (eqb-false i k e) ∙ z .slots i));
-    free = rw (h .heads 6) (chain-frame (λ i. v (sl i 2)) (λ i. v (sl i 3)) _ _ (v (hd 6)) 0 (t .free) (z .free)
+    free = rw (h .heads 6) (chain-frame (λ i. v (sl i slotNextFree)) (λ i. v (sl i slotPreviousFree)) _ _ (v (hd headFirstFree)) 0 (t .free) (z .free)
         (λ i q. (h .slots i 2 (free-other i q), h .slots i 3 (free-other i q))));
     freeCount = h .heads 7 ∙ z .freeCount;
-    empty = rw (was, now, h .heads 8) (chain-frame (λ p. v (pg p 3)) (λ p. v (pg p 4)) _ _ (v (hd 8)) 0 (t .empty) (z .empty) (λ p q. (h .pages p 3, h .pages p 4)));
-    detached = rw (h .heads 9) (linked-frame (λ p. v (pg p 3)) _ (v (hd 9)) (t .detached) (z .detached) (λ p q. h .pages p 3));
+    empty = rw (was, now, h .heads 8) (chain-frame (λ p. v (pg p entryNext)) (λ p. v (pg p entryPrevious)) _ _ (v (hd headFirstEmpty)) 0 (t .empty) (z .empty) (λ p q. (h .pages p 3, h .pages p 4)));
+    detached = rw (h .heads 9) (linked-frame (λ p. v (pg p entryNext)) _ (v (hd headFirstDetached)) (t .detached) (z .detached) (λ p q. h .pages p 3));
   }
 
 module _ (m : Mem) (v : Spot → ℕ) (t : Table) (z : Seen m v t) (o : Sound till t (t .free)) (k : ℕ) (was : isBusy (t .slots k) ≡ true) where
@@ -90,12 +93,12 @@ module _ (m : Mem) (v : Spot → ℕ) (t : Table) (z : Seen m v t) (o : Sound ti
   }
 
   -- TransferReserved by position j of the row in place r
-  pub move-seen : (r j : ℕ) → Seen m (moveV v k r j) (keep till (λ g. transferReserved g (m (row r 0))) t k)
+  pub move-seen : (r j : ℕ) → Seen m (moveV v k r j) (keep till (λ g. transferReserved g (m (row r rowId))) t k)
   unfolding moveP
   move-seen r j = let here : isAbsent (t .slots k) ≡ false = busy-there (t .slots k) was in
-      let e : slotV m (moveV v k r j) k ≡ transferReserved (generation (t .slots k)) (m (row r 0)) =
-      rw (eq-eqb (suc k) (suc k) refl, slot-gen m v t z k here) (framed-is (frameV v k) (transferReserved (v (sl k 1)) (m (row r 0))) (slot-there m v t z k here)) in
-      keep-seen m v (moveV v k r j) t z o k (transferReserved (generation (t .slots k)) (m (row r 0))) (move-within r j) was refl refl e
+      let e : slotV m (moveV v k r j) k ≡ transferReserved (generation (t .slots k)) (m (row r rowId)) =
+      rw (eq-eqb (suc k) (suc k) refl, slot-gen m v t z k here) (framed-is (frameV v k) (transferReserved (v (sl k slotGeneration)) (m (row r rowId))) (slot-there m v t z k here)) in
+      keep-seen m v (moveV v k r j) t z o k (transferReserved (generation (t .slots k)) (m (row r rowId))) (move-within r j) was refl refl e
 
   -- occupied by a handle
   pub occupy-seen : (a r f : ℕ) → Seen m (occupyV v k a r f) (keep till (λ g. occupied g (record { object = a; rights = r; flags = f })) t k)
@@ -103,5 +106,5 @@ module _ (m : Mem) (v : Spot → ℕ) (t : Table) (z : Seen m v t) (o : Sound ti
   occupy-seen a r f = let here : isAbsent (t .slots k) ≡ false = busy-there (t .slots k) was in
       let x : Handle = record { object = a; rights = r; flags = f } in
       let e : slotV m (occupyV v k a r f) k ≡ occupied (generation (t .slots k)) x =
-      rw (eq-eqb (suc k) (suc k) refl, slot-gen m v t z k here) (framed-is (frameV v k) (occupied (v (sl k 1)) x) (slot-there m v t z k here)) in
+      rw (eq-eqb (suc k) (suc k) refl, slot-gen m v t z k here) (framed-is (frameV v k) (occupied (v (sl k slotGeneration)) x) (slot-there m v t z k here)) in
       keep-seen m v (occupyV v k a r f) t z o k (occupied (generation (t .slots k)) x) (occupy-within a r f) was refl refl e

@@ -13,6 +13,9 @@ use Rattle.model.specs.Base.{occurs}
 use Rattle.model.specs.State.{till, Handle, Slot.reserved, Slot.transferReserved, Table, Object, Entry, Entry.moved, Entry.copied, Body, Body.reservation, Body.claim, Body.parcel, Row, State}
 use Rattle.invariant.specs.Orders.{Sound}
 use Rattle.layout.specs.Layout.{Addr.reg, Mem, root, head, entry, owner, group, cell, object, index, rank, row, item}
+use Rattle.layout.specs.Fields.{rootNextId, rootUsedRows, rootFreeFrames, headPages, headFirstFree, headFirstEmpty, headFirstDetached, headFirstEntry, entryFrame, entryNext, entryPrevious, slotTag, slotGeneration, slotNextFree, slotPreviousFree, slotPlace, slotPosition, slotObject, slotRights, slotFlags, rowId, rowTable, rowLength, itemSlot, itemOperation}
+use Rattle.layout.specs.Values.{tagTransferReserved, operationMove}
+use Rattle.layout.specs.Sizes.{pageSize}
 use Rattle.representation.specs.Represents.{entryAt, wordIn, frameOf, slotWord, tagged, slotFrom, slotIn, TableIs, FramesAre, ObjectIs, HandleIs, EntryIs, Items, BodyIs, RowsAre, isMarked, BookIs}
 use Rattle.storage.specs.Order.{chain-frame, linked-frame}
 use Rattle.storage.specs.Sight.{frame-is}
@@ -23,8 +26,8 @@ use Rattle.storage.specs.Slots.{empty-below, detached-below}
 -- the words of table c stay: its head, the entries of its pages and the slots in their frames
 pub record Stays (m n : Mem) (c : ℕ) : Type 0 where
   pub heads : (f : ℕ) → n (head c f) ≡ m (head c f)
-  pub pages : (p f : ℕ) → p < m (head c 5) → n (entry (entryAt m c p) f) ≡ m (entry (entryAt m c p) f)
-  pub cells : (p fr j f : ℕ) → p < m (head c 5) → m (entry (entryAt m c p) 0) ≡ suc fr → n (cell fr j f) ≡ m (cell fr j f)
+  pub pages : (p f : ℕ) → p < m (head c headPages) → n (entry (entryAt m c p) f) ≡ m (entry (entryAt m c p) f)
+  pub cells : (p fr j f : ℕ) → p < m (head c headPages) → m (entry (entryAt m c p) entryFrame) ≡ suc fr → n (cell fr j f) ≡ m (cell fr j f)
 
 -- every table's, where all heads, entries and slots do
 pub all-stay : (m n : Mem) → ((b f : ℕ) → n (head b f) ≡ m (head b f)) → ((e f : ℕ) → n (entry e f) ≡ m (entry e f)) → ((fr j f : ℕ) → n (cell fr j f) ≡ m (cell fr j f)) → (c : ℕ) → Stays m n c
@@ -32,9 +35,9 @@ all-stay m n hs es cs c = record { heads = hs c; pages = λ p f h. es (entryAt m
 
 -- the rows that the marks of table c name have the ids that they had
 abbrev pub SameIds : Mem → Mem → ℕ → Table → Type 0
-SameIds m n c t = (k : ℕ) → isMarked (t .slots k) ≡ true → n (row (slotWord m c k 2) 0) ≡ m (row (slotWord m c k 2) 0)
+SameIds m n c t = (k : ℕ) → isMarked (t .slots k) ≡ true → n (row (slotWord m c k slotPlace) rowId) ≡ m (row (slotWord m c k slotPlace) rowId)
 
-tagged-kept : (m n : Mem) (t g x y w : ℕ) → (isMarked (tagged m t g x y w) ≡ true → n (row x 0) ≡ m (row x 0)) → tagged n t g x y w ≡ tagged m t g x y w
+tagged-kept : (m n : Mem) (t g x y w : ℕ) → (isMarked (tagged m t g x y w) ≡ true → n (row x rowId) ≡ m (row x rowId)) → tagged n t g x y w ≡ tagged m t g x y w
 tagged-kept m n zero g x y w e = refl
 tagged-kept m n (suc zero) g x y w e = ap (reserved g) (e refl)
 tagged-kept m n (suc (suc zero)) g x y w e = ap (transferReserved g) (e refl)
@@ -45,38 +48,38 @@ module _ (m n : Mem) (c : ℕ) (o : Stays m n c) where
   entry-kept : (p f : ℕ) → n (entry (entryAt m c p) f) ≡ m (entry (entryAt m c p) f) → n (entry (entryAt n c p) f) ≡ m (entry (entryAt m c p) f)
   entry-kept p f e = ap (λ (x : ℕ). n (entry (x + p) f)) (o .heads 10) ∙ e
 
-  page-kept : (p f : ℕ) → p < m (head c 5) → n (entry (entryAt n c p) f) ≡ m (entry (entryAt m c p) f)
+  page-kept : (p f : ℕ) → p < m (head c headPages) → n (entry (entryAt n c p) f) ≡ m (entry (entryAt m c p) f)
   page-kept p f h = entry-kept p f (o .pages p f h)
 
   frame-kept : (k : ℕ) → frameOf n c k ≡ frameOf m c k
-  frame-kept k = bool (ltb (k / 64) (m (head c 5)))
-      (λ l. rw (o .heads 5, l, page-kept (k / 64) 0 (ltb-true (k / 64) (m (head c 5)) l)))
+  frame-kept k = bool (ltb (k / pageSize) (m (head c headPages)))
+      (λ l. rw (o .heads 5, l, page-kept (k / pageSize) 0 (ltb-true (k / pageSize) (m (head c headPages)) l)))
       (λ l. rw (o .heads 5, l))
 
   -- the words of its slots
   pub slot-kept : (k f : ℕ) → slotWord n c k f ≡ slotWord m c k f
-  slot-kept k f = ap (λ (fr : ℕ). wordIn n fr (k % 64) f) (frame-kept k) ∙ go (frameOf m c k) refl
+  slot-kept k f = ap (λ (fr : ℕ). wordIn n fr (k % pageSize) f) (frame-kept k) ∙ go (frameOf m c k) refl
     where
-      go : (fr : ℕ) → frameOf m c k ≡ fr → wordIn n fr (k % 64) f ≡ wordIn m fr (k % 64) f
+      go : (fr : ℕ) → frameOf m c k ≡ fr → wordIn n fr (k % pageSize) f ≡ wordIn m fr (k % pageSize) f
       go zero e = refl
-      go (suc fr) e = let i = frame-is m c k fr e in o .cells (k / 64) fr (k % 64) f (i .1) (i .2)
+      go (suc fr) e = let i = frame-is m c k fr e in o .cells (k / pageSize) fr (k % pageSize) f (i .1) (i .2)
 
   -- a slot, if the row that its mark names has the id that it had
-  slotIn-kept : (k : ℕ) → (isMarked (slotIn m c k) ≡ true → n (row (slotWord m c k 2) 0) ≡ m (row (slotWord m c k 2) 0)) → slotIn n c k ≡ slotIn m c k
-  slotIn-kept k e = ap (λ (fr : ℕ). slotFrom n fr (k % 64)) (frame-kept k) ∙ go (frameOf m c k) refl e
+  slotIn-kept : (k : ℕ) → (isMarked (slotIn m c k) ≡ true → n (row (slotWord m c k slotPlace) rowId) ≡ m (row (slotWord m c k slotPlace) rowId)) → slotIn n c k ≡ slotIn m c k
+  slotIn-kept k e = ap (λ (fr : ℕ). slotFrom n fr (k % pageSize)) (frame-kept k) ∙ go (frameOf m c k) refl e
     where
-      go : (fr : ℕ) → frameOf m c k ≡ fr → (isMarked (slotFrom m fr (k % 64)) ≡ true → n (row (wordIn m fr (k % 64) 2) 0) ≡ m (row (wordIn m fr (k % 64) 2) 0))
-          → slotFrom n fr (k % 64) ≡ slotFrom m fr (k % 64)
+      go : (fr : ℕ) → frameOf m c k ≡ fr → (isMarked (slotFrom m fr (k % pageSize)) ≡ true → n (row (wordIn m fr (k % pageSize) slotPlace) rowId) ≡ m (row (wordIn m fr (k % pageSize) slotPlace) rowId))
+          → slotFrom n fr (k % pageSize) ≡ slotFrom m fr (k % pageSize)
       go zero d e = refl
-      go (suc fr) d e = let i = frame-is m c k fr d in let j : ℕ = k % 64 in
-          let w : (f : ℕ) → n (cell fr (k % 64) f) ≡ m (cell fr (k % 64) f) = λ f. o .cells (k / 64) fr (k % 64) f (i .1) (i .2) in
-          rw (w 0, w 1, w 2, w 3, w 4) (tagged-kept m n (m (cell fr j 0)) (m (cell fr j 1)) (m (cell fr j 2)) (m (cell fr j 3)) (m (cell fr j 4)) e)
+      go (suc fr) d e = let i = frame-is m c k fr d in let j : ℕ = k % pageSize in
+          let w : (f : ℕ) → n (cell fr (k % pageSize) f) ≡ m (cell fr (k % pageSize) f) = λ f. o .cells (k / pageSize) fr (k % pageSize) f (i .1) (i .2) in
+          rw (w 0, w 1, w 2, w 3, w 4) (tagged-kept m n (m (cell fr j slotTag)) (m (cell fr j slotGeneration)) (m (cell fr j slotObject)) (m (cell fr j slotRights)) (m (cell fr j slotFlags)) e)
 
   -- THE TABLE, if the entries of the pages in its orders stay too
   pub table-kept : (t : Table) → TableIs m c t → SameIds m n c t → ((p f : ℕ) → 0 < occurs p (t .empty) → n (entry (entryAt m c p) f) ≡ m (entry (entryAt m c p) f))
       → ((p f : ℕ) → 0 < occurs p (t .detached) → n (entry (entryAt m c p) f) ≡ m (entry (entryAt m c p) f)) → TableIs n c t
   table-kept t i ids es ds =
-      let inside : (p : ℕ) → p < t .size → p < m (head c 5) = λ p h. omega (arith, i .size) in
+      let inside : (p : ℕ) → p < t .size → p < m (head c headPages) = λ p h. omega (arith, i .size) in
       record {
         limit = o .heads 0 ∙ i .limit;
         mask = o .heads 1 ∙ i .mask;
@@ -87,11 +90,11 @@ module _ (m n : Mem) (c : ℕ) (o : Stays m n c) where
         high = λ p h. page-kept p 1 (inside p h) ∙ i .high p h;
         busy = λ p h a. page-kept p 2 (inside p h) ∙ i .busy p h a;
         slots = λ k. slotIn-kept k (λ e. ids k (sym (ap isMarked (i .slots k)) ∙ e)) ∙ i .slots k;
-        free = rw (o .heads 6) (chain-frame (λ k. slotWord m c k 2) (λ k. slotWord m c k 3) _ _ (m (head c 6)) 0 (t .free) (i .free) (λ k h. (slot-kept k 2, slot-kept k 3)));
+        free = rw (o .heads 6) (chain-frame (λ k. slotWord m c k slotNextFree) (λ k. slotWord m c k slotPreviousFree) _ _ (m (head c headFirstFree)) 0 (t .free) (i .free) (λ k h. (slot-kept k 2, slot-kept k 3)));
         freeCount = o .heads 7 ∙ i .freeCount;
-        empty = rw (o .heads 8) (chain-frame (λ p. m (entry (entryAt m c p) 3)) (λ p. m (entry (entryAt m c p) 4)) _ _ (m (head c 8)) 0 (t .empty) (i .empty)
+        empty = rw (o .heads 8) (chain-frame (λ p. m (entry (entryAt m c p) entryNext)) (λ p. m (entry (entryAt m c p) entryPrevious)) _ _ (m (head c headFirstEmpty)) 0 (t .empty) (i .empty)
             (λ p h. (entry-kept p 3 (es p 3 h), entry-kept p 4 (es p 4 h))));
-        detached = rw (o .heads 9) (linked-frame (λ p. m (entry (entryAt m c p) 3)) _ (m (head c 9)) (t .detached) (i .detached) (λ p h. entry-kept p 3 (ds p 3 h)));
+        detached = rw (o .heads 9) (linked-frame (λ p. m (entry (entryAt m c p) entryNext)) _ (m (head c headFirstDetached)) (t .detached) (i .detached) (λ p h. entry-kept p 3 (ds p 3 h)));
       }
 
   -- one whose storage is sound: its orders are of pages that it has had
@@ -106,10 +109,10 @@ module _ (m n : Mem) (c : ℕ) (o : Stays m n c) where
 pub record PoolSame (m n : Mem) : Type 0 where
   pub owners : (g : ℕ) → n (owner g) ≡ m (owner g)
   pub groups : (i : ℕ) → i < 3 → (g : ℕ) → n (group i g) ≡ m (group i g)
-  pub count : n (root 7) ≡ m (root 7)
+  pub count : n (root rootFreeFrames) ≡ m (root rootFreeFrames)
 
 -- THE FRAMES of a state with the same free ones, where each page with a frame had it
-pub frames-kept : (m n : Mem) (s u : State) → PoolSame m n → ((c : ℕ) → n (head c 10) ≡ m (head c 10)) → u .frames ≡ s .frames → u .frameCount ≡ s .frameCount
+pub frames-kept : (m n : Mem) (s u : State) → PoolSame m n → ((c : ℕ) → n (head c headFirstEntry) ≡ m (head c headFirstEntry)) → u .frames ≡ s .frames → u .frameCount ≡ s .frameCount
     → ((c p f : ℕ) → c < u .tableCount → p < u .tables c .size → u .tables c .pages p .frame ≡ some f → (c < s .tableCount) × (p < s .tables c .size) × (s .tables c .pages p .frame ≡ some f))
     → FramesAre m s → FramesAre n u
 frames-kept m n s u o firsts fs count had q = record {
@@ -150,8 +153,8 @@ module _ (m n : Mem) (x : ℕ) (its : (j f : ℕ) → n (item x j f) ≡ m (item
   entry-stays j (copied h) p = (its j 0 ∙ p .0, handle-kept j h (p .1))
 
   -- the slots of a reservation, the entries of a claim, the handles of a parcel
-  pub slots-kept : (j : ℕ) (ks : List ℕ) → Items (λ j k. m (item x j 0) ≡ k) j ks → Items (λ j k. n (item x j 0) ≡ k) j ks
-  slots-kept = items-kept (λ j k. m (item x j 0) ≡ k) (λ j k. n (item x j 0) ≡ k) (λ j k q. its j 0 ∙ q)
+  pub slots-kept : (j : ℕ) (ks : List ℕ) → Items (λ j k. m (item x j itemSlot) ≡ k) j ks → Items (λ j k. n (item x j itemSlot) ≡ k) j ks
+  slots-kept = items-kept (λ j k. m (item x j itemSlot) ≡ k) (λ j k. n (item x j itemSlot) ≡ k) (λ j k q. its j 0 ∙ q)
 
   pub entries-kept : (j : ℕ) (es : List Entry) → Items (EntryIs m x) j es → Items (EntryIs n x) j es
   entries-kept = items-kept (EntryIs m x) (EntryIs n x) entry-stays
@@ -185,21 +188,21 @@ rows-stay m n o = record {
 -- what the book says of a marked slot: BookIs.marks, of one slot
 abbrev pub MarkIs : Mem → State → ℕ → ℕ → Type 0
 MarkIs m s b k =
-    (slotWord m b k 2 < s .book .capacity) × (m (rank (slotWord m b k 2)) < length (s .book .rows)) × (slotWord m b k 3 < m (row (slotWord m b k 2) 3))
-    × (m (row (slotWord m b k 2) 2) ≡ b) × (m (item (slotWord m b k 2) (slotWord m b k 3) (slotWord m b k 0 - 1)) ≡ k)
-    × (slotWord m b k 0 ≡ 2 → m (item (slotWord m b k 2) (slotWord m b k 3) 0) ≡ 0)
+    (slotWord m b k slotPlace < s .book .capacity) × (m (rank (slotWord m b k slotPlace)) < length (s .book .rows)) × (slotWord m b k slotPosition < m (row (slotWord m b k slotPlace) rowLength))
+    × (m (row (slotWord m b k slotPlace) rowTable) ≡ b) × (m (item (slotWord m b k slotPlace) (slotWord m b k slotPosition) (slotWord m b k slotTag - 1)) ≡ k)
+    × (slotWord m b k slotTag ≡ tagTransferReserved → m (item (slotWord m b k slotPlace) (slotWord m b k slotPosition) itemOperation) ≡ operationMove)
 
 module _ (m n : Mem) (o : RowsStay m n) where
-  -- it stays, if the slot's words 0, 2 and 3 do
-  pub mark-kept : (s : State) (b k : ℕ) → slotWord n b k 0 ≡ slotWord m b k 0 → slotWord n b k 2 ≡ slotWord m b k 2 → slotWord n b k 3 ≡ slotWord m b k 3 → MarkIs m s b k → MarkIs n s b k
+  -- it stays, if the slot's tag, place and position do
+  pub mark-kept : (s : State) (b k : ℕ) → slotWord n b k slotTag ≡ slotWord m b k slotTag → slotWord n b k slotPlace ≡ slotWord m b k slotPlace → slotWord n b k slotPosition ≡ slotWord m b k slotPosition → MarkIs m s b k → MarkIs n s b k
   mark-kept s b k e₀ e₂ e₃ p =
-      go (slotWord m b k 0) (slotWord m b k 2) (slotWord m b k 3) (slotWord n b k 0) (slotWord n b k 2) (slotWord n b k 3) e₀ e₂ e₃ p
+      go (slotWord m b k slotTag) (slotWord m b k slotPlace) (slotWord m b k slotPosition) (slotWord n b k slotTag) (slotWord n b k slotPlace) (slotWord n b k slotPosition) e₀ e₂ e₃ p
     where
       go : (a₀ a₂ a₃ c₀ c₂ c₃ : ℕ) → c₀ ≡ a₀ → c₂ ≡ a₂ → c₃ ≡ a₃
-          → (a₂ < s .book .capacity) × (m (rank a₂) < length (s .book .rows)) × (a₃ < m (row a₂ 3)) × (m (row a₂ 2) ≡ b) × (m (item a₂ a₃ (a₀ - 1)) ≡ k)
-          × (a₀ ≡ 2 → m (item a₂ a₃ 0) ≡ 0)
-          → (c₂ < s .book .capacity) × (n (rank c₂) < length (s .book .rows)) × (c₃ < n (row c₂ 3)) × (n (row c₂ 2) ≡ b) × (n (item c₂ c₃ (c₀ - 1)) ≡ k)
-          × (c₀ ≡ 2 → n (item c₂ c₃ 0) ≡ 0)
+          → (a₂ < s .book .capacity) × (m (rank a₂) < length (s .book .rows)) × (a₃ < m (row a₂ rowLength)) × (m (row a₂ rowTable) ≡ b) × (m (item a₂ a₃ (a₀ - 1)) ≡ k)
+          × (a₀ ≡ 2 → m (item a₂ a₃ itemOperation) ≡ operationMove)
+          → (c₂ < s .book .capacity) × (n (rank c₂) < length (s .book .rows)) × (c₃ < n (row c₂ rowLength)) × (n (row c₂ rowTable) ≡ b) × (n (item c₂ c₃ (c₀ - 1)) ≡ k)
+          × (c₀ ≡ 2 → n (item c₂ c₃ itemOperation) ≡ operationMove)
       go a₀ a₂ a₃ c₀ c₂ c₃ q₀ q₂ q₃ p =
           rw (q₀, q₂, q₃) (p .0, rw (o .ranks a₂) (p .1), rw (o .rows a₂ 3) (p .2), o .rows a₂ 2 ∙ p .3, o .items a₂ a₃ (a₀ - 1) ∙ p .4, λ e. o .items a₂ a₃ 0 ∙ p .5 e)
 
@@ -209,7 +212,7 @@ module _ (m n : Mem) (o : RowsStay m n) where
       rw (o .places i) (o .rows (m (index i)) 0 ∙ p .0, body-kept m n (m (index i)) (o .items x) (o .rows x) (r .body) (p .1), rows-kept (suc i) rs (p .2))
 
   -- THE BOOK of a state with the same rows: the marks are the operation's to show
-  pub book-kept : (s u : State) → u .book ≡ s .book → n (root 5) ≡ m (root 5) → n (root 6) ≡ m (root 6)
+  pub book-kept : (s u : State) → u .book ≡ s .book → n (root rootNextId) ≡ m (root rootNextId) → n (root rootUsedRows) ≡ m (root rootUsedRows)
       → ((b k : ℕ) → b < u .tableCount → isMarked (u .tables b .slots k) ≡ true → MarkIs n s b k) → BookIs m s → BookIs n u
   book-kept s u e next used marks q = record {
     next = rw e (next ∙ q .next);

@@ -6,6 +6,9 @@ use Rattle.words.specs.Pick.{pick}
 use Rattle.codec.specs.Codec.{nextGeneration}
 use Rattle.layout.specs.declared.Shape.{Shape}
 use Rattle.layout.specs.Layout.{load}
+use Rattle.layout.specs.Fields.{headFirstFree, headFreeSlots, headFirstEmpty, entryHigh, entryBusy, entryNext, entryPrevious, slotTag, slotGeneration, slotNextFree, slotPreviousFree, slotPlace, slotPosition, slotObject, slotRights, slotFlags}
+use Rattle.layout.specs.Values.{tagVacant, tagReserved, tagTransferReserved, tagOccupied}
+use Rattle.layout.specs.Sizes.{pageSize}
 use Rattle.storage.specs.Sight.{Spot, Spot.hd, Spot.pg, Spot.sl, look, Put, Put.toHead, Put.toPage, Put.toSlot, reals, writesAll}
 
 -- one more; the largest word stays
@@ -17,45 +20,45 @@ up x = min (x + 1) 0xffff_ffff_ffff_ffff
 -- mod.rs `publish_vacant_slot`: slot k is vacant, with the generation g, at the head of the free order
 unfoldable pub publishP : (Spot → ℕ) → ℕ → ℕ → List Put
 publishP v k g =
-    toSlot (v (hd 6)) 3 (up k)
-    ∷ toSlot (suc k) 0 0
-    ∷ toSlot (suc k) 1 g
-    ∷ toSlot (suc k) 2 (v (hd 6))
-    ∷ toSlot (suc k) 3 0
-    ∷ toHead 6 (up k)
-    ∷ toHead 7 (up (v (hd 7)))
+    toSlot (v (hd headFirstFree)) slotPreviousFree (up k)
+    ∷ toSlot (suc k) slotTag tagVacant
+    ∷ toSlot (suc k) slotGeneration g
+    ∷ toSlot (suc k) slotNextFree (v (hd headFirstFree))
+    ∷ toSlot (suc k) slotPreviousFree 0
+    ∷ toHead headFirstFree (up k)
+    ∷ toHead headFreeSlots (up (v (hd headFreeSlots)))
     ∷ []
 
 -- page p has n busy slots and has had the generation g
 unfoldable pub markP : (Spot → ℕ) → ℕ → ℕ → ℕ → List Put
-markP v p g n = toPage (suc p) 1 (max (v (pg p 1)) g) ∷ toPage (suc p) 2 n ∷ []
+markP v p g n = toPage (suc p) entryHigh (max (v (pg p entryHigh)) g) ∷ toPage (suc p) entryBusy n ∷ []
 
 -- page p comes to the head of the empty pages' order
 unfoldable pub joinP : (Spot → ℕ) → ℕ → List Put
-joinP v p = toPage (v (hd 8)) 4 (up p) ∷ toPage (suc p) 3 (v (hd 8)) ∷ toPage (suc p) 4 0 ∷ toHead 8 (up p) ∷ []
+joinP v p = toPage (v (hd headFirstEmpty)) entryPrevious (up p) ∷ toPage (suc p) entryNext (v (hd headFirstEmpty)) ∷ toPage (suc p) entryPrevious 0 ∷ toHead headFirstEmpty (up p) ∷ []
 
 -- page p leaves it
 unfoldable pub leaveP : (Spot → ℕ) → ℕ → List Put
-leaveP v p = toPage (v (pg p 4)) 3 (v (pg p 3)) ∷ toPage (v (pg p 3)) 4 (v (pg p 4)) ∷ toHead 8 (pick (eqb (v (pg p 4)) 0) (v (pg p 3)) (v (hd 8))) ∷ []
+leaveP v p = toPage (v (pg p entryPrevious)) entryNext (v (pg p entryNext)) ∷ toPage (v (pg p entryNext)) entryPrevious (v (pg p entryPrevious)) ∷ toHead headFirstEmpty (pick (eqb (v (pg p entryPrevious)) 0) (v (pg p entryNext)) (v (hd headFirstEmpty))) ∷ []
 
 -- mod.rs `reserve_free_slot`: slot k, the head of the free order, leaves it and is Reserved by position j of the row in place r
 unfoldable pub reserveP : (Spot → ℕ) → ℕ → ℕ → ℕ → List Put
 reserveP v k r j =
-    toSlot (v (sl k 2)) 3 0
-    ∷ toHead 6 (v (sl k 2))
-    ∷ toHead 7 (v (hd 7) - 1)
-    ∷ toSlot (suc k) 0 1
-    ∷ toSlot (suc k) 2 r
-    ∷ toSlot (suc k) 3 j
+    toSlot (v (sl k slotNextFree)) slotPreviousFree 0
+    ∷ toHead headFirstFree (v (sl k slotNextFree))
+    ∷ toHead headFreeSlots (v (hd headFreeSlots) - 1)
+    ∷ toSlot (suc k) slotTag tagReserved
+    ∷ toSlot (suc k) slotPlace r
+    ∷ toSlot (suc k) slotPosition j
     ∷ []
 
 -- a busy slot is TransferReserved by position j of the row in place r
 unfoldable pub moveP : ℕ → ℕ → ℕ → List Put
-moveP k r j = toSlot (suc k) 0 2 ∷ toSlot (suc k) 2 r ∷ toSlot (suc k) 3 j ∷ []
+moveP k r j = toSlot (suc k) slotTag tagTransferReserved ∷ toSlot (suc k) slotPlace r ∷ toSlot (suc k) slotPosition j ∷ []
 
 -- a busy slot is occupied by a handle
 unfoldable pub occupyP : ℕ → ℕ → ℕ → ℕ → List Put
-occupyP k o r f = toSlot (suc k) 0 3 ∷ toSlot (suc k) 2 o ∷ toSlot (suc k) 3 r ∷ toSlot (suc k) 4 f ∷ []
+occupyP k o r f = toSlot (suc k) slotTag tagOccupied ∷ toSlot (suc k) slotObject o ∷ toSlot (suc k) slotRights r ∷ toSlot (suc k) slotFlags f ∷ []
 
 -- ---- words
 
@@ -90,22 +93,22 @@ occupyW ws sh b k o r f = done ws sh b (occupyP k o r f)
 -- a busy slot of page p fell vacant with the generation g: the count goes down, and a page with none is empty
 unfoldable pub lowerW : List ℕ → Shape → ℕ → ℕ → ℕ → List ℕ
 lowerW ws sh b p g =
-    pick (eqb (seen ws sh b (pg p 2) - 1) 0)
-    (joinW (markW ws sh b p g (seen ws sh b (pg p 2) - 1)) sh b p)
-    (markW ws sh b p g (seen ws sh b (pg p 2) - 1))
+    pick (eqb (seen ws sh b (pg p entryBusy) - 1) 0)
+    (joinW (markW ws sh b p g (seen ws sh b (pg p entryBusy) - 1)) sh b p)
+    (markW ws sh b p g (seen ws sh b (pg p entryBusy) - 1))
 
 -- a slot of page p with the generation g got busy: the count goes up, and a page that had none is not empty any more
 unfoldable pub raiseW : List ℕ → Shape → ℕ → ℕ → ℕ → List ℕ
 raiseW ws sh b p g =
-    pick (eqb (seen ws sh b (pg p 2)) 0)
-    (leaveW (markW ws sh b p g (up (seen ws sh b (pg p 2)))) sh b p)
-    (markW ws sh b p g (up (seen ws sh b (pg p 2))))
+    pick (eqb (seen ws sh b (pg p entryBusy)) 0)
+    (leaveW (markW ws sh b p g (up (seen ws sh b (pg p entryBusy)))) sh b p)
+    (markW ws sh b p g (up (seen ws sh b (pg p entryBusy))))
 
 -- slot k falls vacant
 unfoldable pub vacateW : List ℕ → Shape → ℕ → ℕ → List ℕ
 vacateW ws sh b k =
-    lowerW (publishW ws sh b k (nextGeneration (seen ws sh b (sl k 1)))) sh b (k / 64) (nextGeneration (seen ws sh b (sl k 1)))
+    lowerW (publishW ws sh b k (nextGeneration (seen ws sh b (sl k slotGeneration)))) sh b (k / pageSize) (nextGeneration (seen ws sh b (sl k slotGeneration)))
 
 -- the head of the free order, slot k, is taken
 unfoldable pub takeW : List ℕ → Shape → ℕ → ℕ → ℕ → ℕ → List ℕ
-takeW ws sh b k r j = raiseW (reserveW ws sh b k r j) sh b (k / 64) (seen ws sh b (sl k 1))
+takeW ws sh b k r j = raiseW (reserveW ws sh b k r j) sh b (k / pageSize) (seen ws sh b (sl k slotGeneration))

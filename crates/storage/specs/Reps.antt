@@ -18,6 +18,8 @@ use Rattle.invariant.specs.Orders.{Sound, order-is, good-of, with-order, place-
 use Rattle.layout.specs.declared.Shape.{Shape}
 use Rattle.layout.specs.Layout.{Mem, rank, row, item, load}
 use Rattle.layout.specs.ShapeOf.{roots-kept}
+use Rattle.layout.specs.Fields.{slotTag, slotPlace, slotPosition, rowId, rowTable, rowLength, itemOperation, itemMoved}
+use Rattle.layout.specs.Values.{operationMove}
 use Rattle.representation.specs.Represents.{slotWord, isMarked, Reps, Rep}
 use Rattle.representation.specs.Told.{marked-full}
 use Rattle.storage.specs.Order.{same?, occurs-head}
@@ -50,10 +52,10 @@ ready-of ws sh s h b l = record {
 pub record Names (m : Mem) (s : State) (b k x j f : ℕ) : Type 0 where
   pub place : x < s .book .capacity
   pub used : m (rank x) < length (s .book .rows)
-  pub within : j < m (row x 3)
-  pub table : m (row x 2) ≡ b
+  pub within : j < m (row x rowLength)
+  pub table : m (row x rowTable) ≡ b
   pub slot : m (item x j f) ≡ k
-  pub moved : f ≡ 1 → m (item x j 0) ≡ 0
+  pub moved : f ≡ itemMoved → m (item x j itemOperation) ≡ operationMove
 
 module _ (ws ws′ : List ℕ) (sh : Shape) (s : State) (h : Held ws sh s) (b : ℕ) (l : b < s .tableCount) (k : ℕ) (c : ℕ → ℕ) (u : Table)
     (turn : Turns ws ws′ sh b (s .tables b) k c u) where
@@ -63,11 +65,11 @@ module _ (ws ws′ : List ℕ) (sh : Shape) (s : State) (h : Held ws sh s) (b : 
   -- a mark that the slot's words name
   pub mark-is : (x j f tag : ℕ) → c 0 ≡ tag → c 2 ≡ x → c 3 ≡ j → f ≡ tag - 1 → Names (load ws sh) s b k x j f → MarkIs (load ws′ sh) s b k
   mark-is x j f tag e₀ e₂ e₃ d p =
-      go (slotWord (load ws′ sh) b k 0) (slotWord (load ws′ sh) b k 2) (slotWord (load ws′ sh) b k 3) (turn .slot 0 ∙ e₀) (turn .slot 2 ∙ e₂) (turn .slot 3 ∙ e₃)
+      go (slotWord (load ws′ sh) b k slotTag) (slotWord (load ws′ sh) b k slotPlace) (slotWord (load ws′ sh) b k slotPosition) (turn .slot 0 ∙ e₀) (turn .slot 2 ∙ e₂) (turn .slot 3 ∙ e₃)
     where
       go : (a₀ a₂ a₃ : ℕ) → a₀ ≡ tag → a₂ ≡ x → a₃ ≡ j
-          → (a₂ < s .book .capacity) × (load ws′ sh (rank a₂) < length (s .book .rows)) × (a₃ < load ws′ sh (row a₂ 3)) × (load ws′ sh (row a₂ 2) ≡ b) × (load ws′ sh (item a₂ a₃ (a₀ - 1)) ≡ k)
-          × (a₀ ≡ 2 → load ws′ sh (item a₂ a₃ 0) ≡ 0)
+          → (a₂ < s .book .capacity) × (load ws′ sh (rank a₂) < length (s .book .rows)) × (a₃ < load ws′ sh (row a₂ rowLength)) × (load ws′ sh (row a₂ rowTable) ≡ b) × (load ws′ sh (item a₂ a₃ (a₀ - 1)) ≡ k)
+          × (a₀ ≡ 2 → load ws′ sh (item a₂ a₃ itemOperation) ≡ operationMove)
       go a₀ a₂ a₃ q₀ q₂ q₃ = rw (q₀, q₂, q₃) (
         p .place,
         rw (stay .ranks x) (p .used),
@@ -121,11 +123,11 @@ module _ (ws : List ℕ) (sh : Shape) (s : State) (h : Held ws sh s) (b : ℕ) (
 
   -- TAKE: the row in place x names the slot
   pub take-held : (k : ℕ) (ks : List ℕ) (x j : ℕ) → s .tables b .free ≡ k ∷ ks → Names (load ws sh) s b k x j 0
-      → Held (takeW ws sh b k x j) sh (withTable s b (taken (s .tables b) k ks (load ws sh (row x 0))))
+      → Held (takeW ws sh b k x j) sh (withTable s b (taken (s .tables b) k ks (load ws sh (row x rowId))))
   take-held k ks x j first p = let t : Table = s .tables b in
       let o : Sound till t (t .free) = h .placed .sound b l in
-      let y : Slot = reserved (generation (t .slots k)) (load ws sh (row x 0)) in
-      let u : Table = taken t k ks (load ws sh (row x 0)) in
+      let y : Slot = reserved (generation (t .slots k)) (load ws sh (row x rowId)) in
+      let u : Table = taken t k ks (load ws sh (row x rowId)) in
       let here : isAbsent (t .slots k) ≡ false = vacant-there (t .slots k) (free-vacant t o k (rw first (occurs-head k ks))) in
       let turn = take-turns ws sh b t (ready-of ws sh s h b l) k ks first x j in
       let mk = reserved-mark (look (load ws sh) b) k x j in
@@ -138,13 +140,13 @@ module _ (ws : List ℕ) (sh : Shape) (s : State) (h : Held ws sh s) (b : ℕ) (
 
   -- MOVE: the row in place x names the slot
   pub move-held : (k x j : ℕ) → isBusy (s .tables b .slots k) ≡ true → Names (load ws sh) s b k x j 1
-      → Held (moveW ws sh b k x j) sh (withTable s b (keep till (λ g. transferReserved g (load ws sh (row x 0))) (s .tables b) k))
+      → Held (moveW ws sh b k x j) sh (withTable s b (keep till (λ g. transferReserved g (load ws sh (row x rowId))) (s .tables b) k))
   move-held k x j was p = let t : Table = s .tables b in
-      let y : Slot = transferReserved (generation (t .slots k)) (load ws sh (row x 0)) in
+      let y : Slot = transferReserved (generation (t .slots k)) (load ws sh (row x rowId)) in
       let turn = move-turns ws sh b t (ready-of ws sh s h b l) k was x j in
       let mk = moving-mark (look (load ws sh) b) k x j in
       turned ws (moveW ws sh b k x j) sh s h b l k _ (place till t k y) turn (place-alike till t k y)
-      (keep-good (λ g. transferReserved g (load ws sh (row x 0))) (λ g. refl) (λ g. refl) t k (h .placed .sound b l) was)
+      (keep-good (λ g. transferReserved g (load ws sh (row x rowId))) (λ g. refl) (λ g. refl) t k (h .placed .sound b l) was)
       (λ i n. ap (λ (f : ℕ → Slot). f i) (place-slots till t k y) ∙ put-other (t .slots) k y i n)
       (λ e. mark-is ws (moveW ws sh b k x j) sh s h b l k _ (place till t k y) turn x j 1 2 (mk .0) (mk .1) (mk .2) (omega arith) p)
 

@@ -13,6 +13,8 @@ use Rattle.words.specs.Pick.{pick, bool, clash, both}
 use Rattle.model.specs.State.{maxSlots}
 use Rattle.layout.specs.declared.Shape.{Shape}
 use Rattle.layout.specs.Layout.{Addr, Addr.reg, Mem, total, head, entry, cell, load, same, same-is, in-head, in-entry, in-cell, Write, Write.at, writes, upd, upds, InAll, load-writes, length-writes}
+use Rattle.layout.specs.Fields.{headPages, headFirstEntry, entryFrame}
+use Rattle.layout.specs.Sizes.{pageSize}
 use Rattle.representation.specs.Represents.{entryAt, wordIn, frameOf, slotWord}
 
 -- a word of a table: field f of its head, of its page p, of its slot k
@@ -59,7 +61,7 @@ cellP (suc fr) j f x = at (cell fr j f) x ∷ []
 -- into the slot of a link, which stands in the frame of the link fr
 abbrev pub slotP : ℕ → ℕ → ℕ → ℕ → List Write
 slotP fr zero f x = []
-slotP fr (suc k) f x = cellP fr (k % 64) f x
+slotP fr (suc k) f x = cellP fr (k % pageSize) f x
 
 -- into the page of a link, by the number of the table's first entry
 abbrev pub pageP : ℕ → ℕ → ℕ → ℕ → List Write
@@ -73,7 +75,7 @@ linkFrame m b (suc k) = frameOf m b k
 
 abbrev pub real : Mem → ℕ → Put → List Write
 real m b (toHead f x) = at (head b f) x ∷ []
-real m b (toPage l f x) = pageP (m (head b 10)) l f x
+real m b (toPage l f x) = pageP (m (head b headFirstEntry)) l f x
 real m b (toSlot l f x) = slotP (linkFrame m b l) l f x
 
 abbrev pub reals : Mem → ℕ → List Put → List (List Write)
@@ -108,22 +110,22 @@ load-all ws sh h (p ∷ ps) c =
 -- what says where the slots and pages of table b stand: each page has a frame of its own, and all is in range
 pub record Fit (sh : Shape) (m : Mem) (b : ℕ) : Type 0 where
   pub table : b < sh .tables
-  pub pages : m (head b 10) + m (head b 5) ≤ sh .pages
-  pub frames : (p fr : ℕ) → p < m (head b 5) → m (entry (entryAt m b p) 0) ≡ suc fr → fr < sh .frames
-  pub own : (p q fr : ℕ) → p < m (head b 5) → q < m (head b 5) → m (entry (entryAt m b p) 0) ≡ suc fr → m (entry (entryAt m b q) 0) ≡ suc fr → p ≡ q
+  pub pages : m (head b headFirstEntry) + m (head b headPages) ≤ sh .pages
+  pub frames : (p fr : ℕ) → p < m (head b headPages) → m (entry (entryAt m b p) entryFrame) ≡ suc fr → fr < sh .frames
+  pub own : (p q fr : ℕ) → p < m (head b headPages) → q < m (head b headPages) → m (entry (entryAt m b p) entryFrame) ≡ suc fr → m (entry (entryAt m b q) entryFrame) ≡ suc fr → p ≡ q
 
 -- memories that put the table in the same place
 pub record Still (m n : Mem) (b : ℕ) : Type 0 where
-  pub size : n (head b 5) ≡ m (head b 5)
-  pub first : n (head b 10) ≡ m (head b 10)
-  pub frame : (e : ℕ) → n (entry e 0) ≡ m (entry e 0)
+  pub size : n (head b headPages) ≡ m (head b headPages)
+  pub first : n (head b headFirstEntry) ≡ m (head b headFirstEntry)
+  pub frame : (e : ℕ) → n (entry e entryFrame) ≡ m (entry e entryFrame)
 
 -- the addresses of table b that these stores may change: the orders' heads and the free count, marks, counts and links of its pages, and slots in its frames
 abbrev pub Foot : Mem → ℕ → Addr → Type 0
 Foot m b (reg k x y f) =
     ((k ≡ 1) × (x ≡ b) × (6 ≤ f) × (f ≤ 8))
-    ⊎ ((k ≡ 2) × (m (head b 10) ≤ x) × (x < m (head b 10) + m (head b 5)) × (1 ≤ f))
-    ⊎ ((k ≡ 7) × ((p : ℕ) × (p < m (head b 5)) × (m (entry (entryAt m b p) 0) ≡ suc x)))
+    ⊎ ((k ≡ 2) × (m (head b headFirstEntry) ≤ x) × (x < m (head b headFirstEntry) + m (head b headPages)) × (1 ≤ f))
+    ⊎ ((k ≡ 7) × ((p : ℕ) × (p < m (head b headPages)) × (m (entry (entryAt m b p) entryFrame) ≡ suc x)))
 
 -- ONLY TABLE b: every other address keeps its word
 abbrev pub OnlyTable : ℕ → Mem → Mem → Type 0
@@ -132,7 +134,7 @@ OnlyTable b m n = (a : Addr) → (Foot m b a → ⊥) → n a ≡ m a
 -- a store that may be made
 abbrev pub Can : Mem → ℕ → Put → Type 0
 Can m b (toHead f x) = (6 ≤ f) × (f ≤ 8)
-Can m b (toPage l f x) = (1 ≤ f) × (f < 5) × ((p : ℕ) → l ≡ suc p → p < m (head b 5))
+Can m b (toPage l f x) = (1 ≤ f) × (f < 5) × ((p : ℕ) → l ≡ suc p → p < m (head b headPages))
 Can m b (toSlot l f x) = (f < 6) × ((k : ℕ) → l ≡ suc k → 0 < frameOf m b k)
 
 abbrev pub CanAll : Mem → ℕ → List Put → Type 0
@@ -150,29 +152,29 @@ pick-suc true x n e = (refl, e)
 pick-suc false x n e = absurd (omega arith)
 
 -- a slot with a frame
-pub frame-is : (m : Mem) (b k fr : ℕ) → frameOf m b k ≡ suc fr → (k < maxSlots) × (k / 64 < m (head b 5)) × (m (entry (entryAt m b (k / 64)) 0) ≡ suc fr)
+pub frame-is : (m : Mem) (b k fr : ℕ) → frameOf m b k ≡ suc fr → (k < maxSlots) × (k / pageSize < m (head b headPages)) × (m (entry (entryAt m b (k / pageSize)) entryFrame) ≡ suc fr)
 frame-is m b k fr e =
-    let u = pick-suc (ltb k maxSlots) (pick (ltb (k / 64) (m (head b 5))) (m (entry (entryAt m b (k / 64)) 0)) 0) fr e in
-    let w = pick-suc (ltb (k / 64) (m (head b 5))) (m (entry (entryAt m b (k / 64)) 0)) fr (u .1) in
-    (ltb-true k maxSlots (u .0), ltb-true (k / 64) (m (head b 5)) (w .0), w .1)
+    let u = pick-suc (ltb k maxSlots) (pick (ltb (k / pageSize) (m (head b headPages))) (m (entry (entryAt m b (k / pageSize)) entryFrame)) 0) fr e in
+    let w = pick-suc (ltb (k / pageSize) (m (head b headPages))) (m (entry (entryAt m b (k / pageSize)) entryFrame)) fr (u .1) in
+    (ltb-true k maxSlots (u .0), ltb-true (k / pageSize) (m (head b headPages)) (w .0), w .1)
 
 -- the outside of a table's foot has its place
 pub still-only : (b : ℕ) (m n : Mem) → OnlyTable b m n → Still m n b
 still-only b m n o = record {
-  size = o (head b 5) (⊎-elim (λ i. omega arith) (⊎-elim (λ i. omega arith) (λ i. omega arith)));
-  first = o (head b 10) (⊎-elim (λ i. omega arith) (⊎-elim (λ i. omega arith) (λ i. omega arith)));
-  frame = λ e. o (entry e 0) (⊎-elim (λ i. omega arith) (⊎-elim (λ i. omega arith) (λ i. omega arith)));
+  size = o (head b headPages) (⊎-elim (λ i. omega arith) (⊎-elim (λ i. omega arith) (λ i. omega arith)));
+  first = o (head b headFirstEntry) (⊎-elim (λ i. omega arith) (⊎-elim (λ i. omega arith) (λ i. omega arith)));
+  frame = λ e. o (entry e entryFrame) (⊎-elim (λ i. omega arith) (⊎-elim (λ i. omega arith) (λ i. omega arith)));
 }
 
 pub still-frame : (b : ℕ) (m n : Mem) → Still m n b → (k : ℕ) → frameOf n b k ≡ frameOf m b k
-still-frame b m n s k = rw (s .size, s .first, s .frame (m (head b 10) + k / 64))
+still-frame b m n s k = rw (s .size, s .first, s .frame (m (head b headFirstEntry) + k / pageSize))
 
 pub still-fit : (sh : Shape) (b : ℕ) (m n : Mem) → Still m n b → Fit sh m b → Fit sh n b
 still-fit sh b m n s f = record {
   table = f .table;
   pages = rw (s .size, s .first) (f .pages);
-  frames = λ p fr h e. f .frames p fr (rw (s .size) at h) (rw (s .first, s .frame (m (head b 10) + p)) at e);
-  own = λ p q fr h i d e. f .own p q fr (rw (s .size) at h) (rw (s .size) at i) (rw (s .first, s .frame (m (head b 10) + p)) at d) (rw (s .first, s .frame (m (head b 10) + q)) at e);
+  frames = λ p fr h e. f .frames p fr (rw (s .size) at h) (rw (s .first, s .frame (m (head b headFirstEntry) + p)) at e);
+  own = λ p q fr h i d e. f .own p q fr (rw (s .size) at h) (rw (s .size) at i) (rw (s .first, s .frame (m (head b headFirstEntry) + p)) at d) (rw (s .first, s .frame (m (head b headFirstEntry) + q)) at e);
 }
 
 -- a store at one address does not show at another
@@ -195,25 +197,25 @@ word-entry : (n : Mem) (e f v fr j g : ℕ) → wordIn (upd n (at (entry e f) v)
 word-entry n e f v zero j g = refl
 word-entry n e f v (suc fr) j g = refl
 
-page-shows : (n : Mem) (b e p g : ℕ) → n (head b 10) ≡ e → look n b (pg p g) ≡ n (entry (e + p) g)
+page-shows : (n : Mem) (b e p g : ℕ) → n (head b headFirstEntry) ≡ e → look n b (pg p g) ≡ n (entry (e + p) g)
 unfolding look
 page-shows n b e p g q = ap (λ (i : ℕ). n (entry (i + p) g)) q
 
-slot-shows : (n : Mem) (b k g fr : ℕ) → frameOf n b k ≡ fr → look n b (sl k g) ≡ wordIn n fr (k % 64) g
+slot-shows : (n : Mem) (b k g fr : ℕ) → frameOf n b k ≡ fr → look n b (sl k g) ≡ wordIn n fr (k % pageSize) g
 unfolding look
-slot-shows n b k g fr q = ap (λ (i : ℕ). wordIn n i (k % 64) g) q
+slot-shows n b k g fr q = ap (λ (i : ℕ). wordIn n i (k % pageSize) g) q
 
 module _ (sh : Shape) (m : Mem) (b : ℕ) (fit : Fit sh m b) where
   -- two slots of the table in one place of one frame are one
-  same-cell : (q k fr fr′ : ℕ) → frameOf m b q ≡ suc fr → frameOf m b k ≡ suc fr′ → (eqb (k % 64) (q % 64) && eqb fr′ fr) ≡ eqb (suc q) (suc k)
-  same-cell q k fr fr′ e d = iff (eqb (k % 64) (q % 64) && eqb fr′ fr) (eqb (suc q) (suc k))
-      (λ t. let u = both (eqb (k % 64) (q % 64)) (eqb fr′ fr) t in
+  same-cell : (q k fr fr′ : ℕ) → frameOf m b q ≡ suc fr → frameOf m b k ≡ suc fr′ → (eqb (k % pageSize) (q % pageSize) && eqb fr′ fr) ≡ eqb (suc q) (suc k)
+  same-cell q k fr fr′ e d = iff (eqb (k % pageSize) (q % pageSize) && eqb fr′ fr) (eqb (suc q) (suc k))
+      (λ t. let u = both (eqb (k % pageSize) (q % pageSize)) (eqb fr′ fr) t in
       let i = frame-is m b q fr e in let j = frame-is m b k fr′ d in
-      let o : k / 64 ≡ q / 64 = fit .own (k / 64) (q / 64) fr (j .1) (i .1) (j .2 ∙ ap suc (eqb-true fr′ fr (u .1))) (i .2) in
-      eq-eqb (suc q) (suc k) (omega (arith, eqb-true (k % 64) (q % 64) (u .0))))
+      let o : k / pageSize ≡ q / pageSize = fit .own (k / pageSize) (q / pageSize) fr (j .1) (i .1) (j .2 ∙ ap suc (eqb-true fr′ fr (u .1))) (i .2) in
+      eq-eqb (suc q) (suc k) (omega (arith, eqb-true (k % pageSize) (q % pageSize) (u .0))))
       (λ t. let z : q ≡ k = omega (arith, eqb-true (suc q) (suc k) t) in
       let y : fr′ ≡ fr = omega (arith, e, d, ap (frameOf m b) z) in
-      rw (eq-eqb (k % 64) (q % 64) (ap (λ (x : ℕ). x % 64) (sym z)), eq-eqb fr′ fr y))
+      rw (eq-eqb (k % pageSize) (q % pageSize) (ap (λ (x : ℕ). x % pageSize) (sym z)), eq-eqb fr′ fr y))
 
   module _ (n : Mem) (only : OnlyTable b m n) where
     -- a store that may be made keeps to the table
@@ -222,25 +224,25 @@ module _ (sh : Shape) (m : Mem) (b : ℕ) (fit : Fit sh m b) where
     put-only (toPage zero f v) c a h = only a h
     put-only (toPage (suc p) f v) c a h =
         let i = c .2 p refl in
-        upd-off (Foot m b) n (entry (m (head b 10) + p) f) a v (inr (inl (refl, omega arith, omega arith, c .0))) h ∙ only a h
+        upd-off (Foot m b) n (entry (m (head b headFirstEntry) + p) f) a v (inr (inl (refl, omega arith, omega arith, c .0))) h ∙ only a h
     put-only (toSlot zero f v) c a h = only a h
     put-only (toSlot (suc k) f v) c a h = go (frameOf m b k) refl
       where
-        go : (fr : ℕ) → frameOf m b k ≡ fr → upds n (cellP fr (k % 64) f v) a ≡ m a
+        go : (fr : ℕ) → frameOf m b k ≡ fr → upds n (cellP fr (k % pageSize) f v) a ≡ m a
         go zero e = only a h
         go (suc fr) e = let i = frame-is m b k fr e in
-            upd-off (Foot m b) n (cell fr (k % 64) f) a v (inr (inr (refl, (k / 64, i .1, i .2)))) h ∙ only a h
+            upd-off (Foot m b) n (cell fr (k % pageSize) f) a v (inr (inr (refl, (k / pageSize, i .1, i .2)))) h ∙ only a h
 
     pub put-in : (x : Put) → Can m b x → InAll sh (real m b x)
     put-in (toHead f v) c = (in-head sh b f (fit .table) (omega arith), tt)
     put-in (toPage zero f v) c = tt
-    put-in (toPage (suc p) f v) c = let i = c .2 p refl in (in-entry sh (m (head b 10) + p) f (omega (arith, fit .pages)) (c .1), tt)
+    put-in (toPage (suc p) f v) c = let i = c .2 p refl in (in-entry sh (m (head b headFirstEntry) + p) f (omega (arith, fit .pages)) (c .1), tt)
     put-in (toSlot zero f v) c = tt
     put-in (toSlot (suc k) f v) c = go (frameOf m b k) refl
       where
-        go : (fr : ℕ) → frameOf m b k ≡ fr → InAll sh (cellP fr (k % 64) f v)
+        go : (fr : ℕ) → frameOf m b k ≡ fr → InAll sh (cellP fr (k % pageSize) f v)
         go zero e = tt
-        go (suc fr) e = let i = frame-is m b k fr e in (in-cell sh fr (k % 64) f (fit .frames (k / 64) fr (i .1) (i .2)) (mod-lt k {m = 64} (omega arith)) (c .0), tt)
+        go (suc fr) e = let i = frame-is m b k fr e in (in-cell sh fr (k % pageSize) f (fit .frames (k / pageSize) fr (i .1) (i .2)) (mod-lt k {m = pageSize} (omega arith)) (c .0), tt)
 
     -- and shows in it as it should
     pub put-shows : (x : Put) → Can m b x → (c : Spot) → look (upds n (real m b x)) b c ≡ put₁ (look n b) x c
@@ -249,55 +251,55 @@ module _ (sh : Shape) (m : Mem) (b : ℕ) (fit : Fit sh m b) where
     put-shows (toHead f v) can (pg p g) =
         let n′ : Mem = upd n (at (head b f) v) in
         let s′ : Still m n′ b = still-only b m n′ (put-only (toHead f v) can) in
-        page-shows n′ b (m (head b 10)) p g (s′ .first) ∙ sym (page-shows n b (m (head b 10)) p g (still-only b m n only .first))
+        page-shows n′ b (m (head b headFirstEntry)) p g (s′ .first) ∙ sym (page-shows n b (m (head b headFirstEntry)) p g (still-only b m n only .first))
     put-shows (toHead f v) can (sl k g) =
         let n′ : Mem = upd n (at (head b f) v) in
         let s′ : Still m n′ b = still-only b m n′ (put-only (toHead f v) can) in
-        slot-shows n′ b k g (frameOf m b k) (still-frame b m n′ s′ k) ∙ word-head n b f v (frameOf m b k) (k % 64) g
+        slot-shows n′ b k g (frameOf m b k) (still-frame b m n′ s′ k) ∙ word-head n b f v (frameOf m b k) (k % pageSize) g
         ∙ sym (slot-shows n b k g (frameOf m b k) (still-frame b m n (still-only b m n only) k))
     put-shows (toPage zero f v) can (hd g) = refl
     put-shows (toPage zero f v) can (pg p g) = rw (zero-not g f p)
     put-shows (toPage zero f v) can (sl k g) = refl
     put-shows (toPage (suc q) f v) can (hd g) = refl
     put-shows (toPage (suc q) f v) can (pg p g) =
-        let e : ℕ = m (head b 10) in
+        let e : ℕ = m (head b headFirstEntry) in
         let n′ : Mem = upd n (at (entry (e + q) f) v) in
         let s′ : Still m n′ b = still-only b m n′ (put-only (toPage (suc q) f v) can) in
         let r : look n b (pg p g) ≡ n (entry (e + p) g) = page-shows n b e p g (still-only b m n only .first) in
         page-shows n′ b e p g (s′ .first) ∙ ap (λ (t : Bool). pick (eqb g f && t) v (n (entry (e + p) g))) (eqb-add e p q)
         ∙ ap (λ (w : ℕ). pick (eqb g f && eqb (suc q) (suc p)) v w) (sym r)
     put-shows (toPage (suc q) f v) can (sl k g) =
-        let n′ : Mem = upd n (at (entry (m (head b 10) + q) f) v) in
+        let n′ : Mem = upd n (at (entry (m (head b headFirstEntry) + q) f) v) in
         let s′ : Still m n′ b = still-only b m n′ (put-only (toPage (suc q) f v) can) in
-        slot-shows n′ b k g (frameOf m b k) (still-frame b m n′ s′ k) ∙ word-entry n (m (head b 10) + q) f v (frameOf m b k) (k % 64) g
+        slot-shows n′ b k g (frameOf m b k) (still-frame b m n′ s′ k) ∙ word-entry n (m (head b headFirstEntry) + q) f v (frameOf m b k) (k % pageSize) g
         ∙ sym (slot-shows n b k g (frameOf m b k) (still-frame b m n (still-only b m n only) k))
     put-shows (toSlot zero f v) can (hd g) = refl
     put-shows (toSlot zero f v) can (pg p g) = refl
     put-shows (toSlot zero f v) can (sl k g) = rw (zero-not g f k)
     put-shows (toSlot (suc q) f v) can (hd g) = go (frameOf m b q)
       where
-        go : (fr : ℕ) → upds n (cellP fr (q % 64) f v) (head b g) ≡ n (head b g)
+        go : (fr : ℕ) → upds n (cellP fr (q % pageSize) f v) (head b g) ≡ n (head b g)
         go zero = refl
         go (suc fr) = refl
     put-shows (toSlot (suc q) f v) can (pg p g) = go (frameOf m b q)
       where
-        go : (fr : ℕ) → upds n (cellP fr (q % 64) f v) (entry (entryAt (upds n (cellP fr (q % 64) f v)) b p) g) ≡ n (entry (entryAt n b p) g)
+        go : (fr : ℕ) → upds n (cellP fr (q % pageSize) f v) (entry (entryAt (upds n (cellP fr (q % pageSize) f v)) b p) g) ≡ n (entry (entryAt n b p) g)
         go zero = refl
         go (suc fr) = refl
     put-shows (toSlot (suc q) f v) can (sl k g) =
-        let n′ : Mem = upds n (cellP (frameOf m b q) (q % 64) f v) in
+        let n′ : Mem = upds n (cellP (frameOf m b q) (q % pageSize) f v) in
         let s′ : Still m n′ b = still-only b m n′ (put-only (toSlot (suc q) f v) can) in
-        let r : look n b (sl k g) ≡ wordIn n (frameOf m b k) (k % 64) g = slot-shows n b k g (frameOf m b k) (still-frame b m n (still-only b m n only) k) in
+        let r : look n b (sl k g) ≡ wordIn n (frameOf m b k) (k % pageSize) g = slot-shows n b k g (frameOf m b k) (still-frame b m n (still-only b m n only) k) in
         slot-shows n′ b k g (frameOf m b k) (still-frame b m n′ s′ k) ∙ go (frameOf m b q) (frameOf m b k) refl refl (can .1 q refl)
         ∙ ap (λ (w : ℕ). pick (eqb g f && eqb (suc q) (suc k)) v w) (sym r)
       where
         go : (fr fr′ : ℕ) → frameOf m b q ≡ fr → frameOf m b k ≡ fr′ → 0 < fr
-            → wordIn (upds n (cellP fr (q % 64) f v)) fr′ (k % 64) g ≡ pick (eqb g f && eqb (suc q) (suc k)) v (wordIn n fr′ (k % 64) g)
+            → wordIn (upds n (cellP fr (q % pageSize) f v)) fr′ (k % pageSize) g ≡ pick (eqb g f && eqb (suc q) (suc k)) v (wordIn n fr′ (k % pageSize) g)
         go zero fr′ e d h = absurd (omega arith)
         go (suc fr) zero e d h =
             let ne : suc q ≡ suc k → ⊥ = λ z. let y : q ≡ k = omega arith in omega (arith, e, d, ap (frameOf m b) y) in
             rw (ne-eqb (suc q) (suc k) ne, and-false (eqb g f))
-        go (suc fr) (suc fr′) e d h = ap (λ (t : Bool). pick (eqb g f && t) v (n (cell fr′ (k % 64) g))) (same-cell q k fr fr′ e d)
+        go (suc fr) (suc fr′) e d h = ap (λ (t : Bool). pick (eqb g f && t) v (n (cell fr′ (k % pageSize) g))) (same-cell q k fr fr′ e d)
 
   -- a plan
   pub puts-only : (xs : List Put) (n : Mem) → OnlyTable b m n → CanAll m b xs → OnlyTable b m (updsAll n (reals m b xs))
@@ -321,7 +323,7 @@ foot-still b m n s (reg k x y f) =
     (λ i. inl i)
     (⊎-elim
     (λ i. inr (inl (i .0, omega (arith, i .1, s .first), omega (arith, i .2, s .first, s .size), i .3)))
-    (λ i. inr (inr (i .0, (i .1 .0, rw (s .size) at (i .1 .1), rw (s .first, s .frame (m (head b 10) + i .1 .0)) at (i .1 .2))))))
+    (λ i. inr (inr (i .0, (i .1 .0, rw (s .size) at (i .1 .1), rw (s .first, s .frame (m (head b headFirstEntry) + i .1 .0)) at (i .1 .2))))))
 
 pub only-then : (b : ℕ) (m n l : Mem) → OnlyTable b m n → OnlyTable b n l → OnlyTable b m l
 only-then b m n l o p a h = p a (λ i. h (foot-still b m n (still-only b m n o) a i)) ∙ o a h
@@ -355,5 +357,5 @@ moves-then ws ws₁ ws₂ sh b v₁ v₂ p q = record {
 pub moves-fit : (ws ws₁ : List ℕ) (sh : Shape) (b : ℕ) (v : Spot → ℕ) → Moves ws ws₁ sh b v → Fit sh (load ws sh) b → Fit sh (load ws₁ sh) b
 moves-fit ws ws₁ sh b v p f = still-fit sh b (load ws sh) (load ws₁ sh) (still-only b (load ws sh) (load ws₁ sh) (p .only)) f
 
-pub moves-size : (ws ws₁ : List ℕ) (sh : Shape) (b : ℕ) (v : Spot → ℕ) → Moves ws ws₁ sh b v → load ws₁ sh (head b 5) ≡ load ws sh (head b 5)
+pub moves-size : (ws ws₁ : List ℕ) (sh : Shape) (b : ℕ) (v : Spot → ℕ) → Moves ws ws₁ sh b v → load ws₁ sh (head b headPages) ≡ load ws sh (head b headPages)
 moves-size ws ws₁ sh b v p = still-only b (load ws sh) (load ws₁ sh) (p .only) .size

@@ -14,12 +14,15 @@ use Rattle.model.specs.WellFormed.{isAttached}
 use Rattle.model.specs.Tests.{and-left, bit-true}
 use Rattle.invariant.specs.Orders.{Sound, attached-below}
 use Rattle.layout.specs.Layout.{Mem, row}
+use Rattle.layout.specs.Fields.{headPageLimit, headMask, headLifecycle, headCursor, headEpoch, headPages, headFirstFree, headFreeSlots, headFirstEmpty, headFirstDetached, entryFrame, entryHigh, entryBusy, entryNext, entryPrevious, slotTag, slotGeneration, slotNextFree, slotPreviousFree, slotObject, slotRights, slotFlags, rowId}
+use Rattle.layout.specs.Values.{tagVacant}
+use Rattle.layout.specs.Sizes.{pageSize}
 use Rattle.representation.specs.Represents.{linkOf, wordIn, frameOf, slotWord, tagged, slotFrom, Chain, Linked, LifeIs, TableIs}
 use Rattle.storage.specs.Sight.{Spot, Spot.hd, Spot.pg, Spot.sl, look}
 
 -- the frame of slot k, as a link
 abbrev pub frameV : (Spot → ℕ) → ℕ → ℕ
-frameV v k = pick (ltb k maxSlots) (pick (ltb (k / 64) (v (hd 5))) (v (pg (k / 64) 0)) 0) 0
+frameV v k = pick (ltb k maxSlots) (pick (ltb (k / pageSize) (v (hd headPages))) (v (pg (k / pageSize) entryFrame)) 0) 0
 
 -- nothing without a frame
 abbrev pub framed : ℕ → Slot → Slot
@@ -28,31 +31,31 @@ framed (suc fr) x = x
 
 -- slot k; a mark's id stands in the memory m
 abbrev pub slotV : Mem → (Spot → ℕ) → ℕ → Slot
-slotV m v k = framed (frameV v k) (tagged m (v (sl k 0)) (v (sl k 1)) (v (sl k 2)) (v (sl k 3)) (v (sl k 4)))
+slotV m v k = framed (frameV v k) (tagged m (v (sl k slotTag)) (v (sl k slotGeneration)) (v (sl k slotObject)) (v (sl k slotRights)) (v (sl k slotFlags)))
 
 -- TableIs over the table's own words
 pub record Seen (m : Mem) (v : Spot → ℕ) (t : Table) : Type 0 where
-  pub limit : v (hd 0) ≡ t .limit
-  pub mask : v (hd 1) ≡ t .mask
-  pub life : LifeIs (v (hd 2)) (v (hd 3)) (t .life)
-  pub epoch : v (hd 4) ≡ t .epoch
-  pub size : v (hd 5) ≡ t .size
-  pub frame : (p : ℕ) → p < t .size → v (pg p 0) ≡ linkOf (t .pages p .frame)
-  pub high : (p : ℕ) → p < t .size → v (pg p 1) ≡ t .pages p .high
-  pub busy : (p : ℕ) → p < t .size → isAttached t p ≡ true → v (pg p 2) ≡ busyOf till (t .slots) p
+  pub limit : v (hd headPageLimit) ≡ t .limit
+  pub mask : v (hd headMask) ≡ t .mask
+  pub life : LifeIs (v (hd headLifecycle)) (v (hd headCursor)) (t .life)
+  pub epoch : v (hd headEpoch) ≡ t .epoch
+  pub size : v (hd headPages) ≡ t .size
+  pub frame : (p : ℕ) → p < t .size → v (pg p entryFrame) ≡ linkOf (t .pages p .frame)
+  pub high : (p : ℕ) → p < t .size → v (pg p entryHigh) ≡ t .pages p .high
+  pub busy : (p : ℕ) → p < t .size → isAttached t p ≡ true → v (pg p entryBusy) ≡ busyOf till (t .slots) p
   pub slots : (k : ℕ) → slotV m v k ≡ t .slots k
-  pub free : Chain (λ k. v (sl k 2)) (λ k. v (sl k 3)) (v (hd 6)) 0 (t .free)
-  pub freeCount : v (hd 7) ≡ length (t .free)
-  pub empty : Chain (λ p. v (pg p 3)) (λ p. v (pg p 4)) (v (hd 8)) 0 (t .empty)
-  pub detached : Linked (λ p. v (pg p 3)) (v (hd 9)) (t .detached)
+  pub free : Chain (λ k. v (sl k slotNextFree)) (λ k. v (sl k slotPreviousFree)) (v (hd headFirstFree)) 0 (t .free)
+  pub freeCount : v (hd headFreeSlots) ≡ length (t .free)
+  pub empty : Chain (λ p. v (pg p entryNext)) (λ p. v (pg p entryPrevious)) (v (hd headFirstEmpty)) 0 (t .empty)
+  pub detached : Linked (λ p. v (pg p entryNext)) (v (hd headFirstDetached)) (t .detached)
 
 -- the two say the same
 
-framed-slot : (m : Mem) (fr j : ℕ) → framed fr (tagged m (wordIn m fr j 0) (wordIn m fr j 1) (wordIn m fr j 2) (wordIn m fr j 3) (wordIn m fr j 4)) ≡ slotFrom m fr j
+framed-slot : (m : Mem) (fr j : ℕ) → framed fr (tagged m (wordIn m fr j slotTag) (wordIn m fr j slotGeneration) (wordIn m fr j slotObject) (wordIn m fr j slotRights) (wordIn m fr j slotFlags)) ≡ slotFrom m fr j
 framed-slot m zero j = refl
 framed-slot m (suc fr) j = refl
 
-pub tagged-rows : (m n : Mem) → ((r : ℕ) → n (row r 0) ≡ m (row r 0)) → (t g x y w : ℕ) → tagged n t g x y w ≡ tagged m t g x y w
+pub tagged-rows : (m n : Mem) → ((r : ℕ) → n (row r rowId) ≡ m (row r rowId)) → (t g x y w : ℕ) → tagged n t g x y w ≡ tagged m t g x y w
 tagged-rows m n e zero g x y w = refl
 tagged-rows m n e (suc zero) g x y w = ap (reserved g) (e x)
 tagged-rows m n e (suc (suc zero)) g x y w = ap (transferReserved g) (e x)
@@ -70,14 +73,14 @@ see m b t i = record {
   frame = i .frame;
   high = i .high;
   busy = i .busy;
-  slots = λ k. framed-slot m (frameOf m b k) (k % 64) ∙ i .slots k;
+  slots = λ k. framed-slot m (frameOf m b k) (k % pageSize) ∙ i .slots k;
   free = i .free;
   freeCount = i .freeCount;
   empty = i .empty;
   detached = i .detached;
 }
 
-pub unsee : (m n : Mem) (b : ℕ) (t : Table) → ((r : ℕ) → n (row r 0) ≡ m (row r 0)) → Seen m (look n b) t → TableIs n b t
+pub unsee : (m n : Mem) (b : ℕ) (t : Table) → ((r : ℕ) → n (row r rowId) ≡ m (row r rowId)) → Seen m (look n b) t → TableIs n b t
 unfolding look
 unsee m n b t e i = record {
   limit = i .limit;
@@ -88,7 +91,7 @@ unsee m n b t e i = record {
   frame = i .frame;
   high = i .high;
   busy = i .busy;
-  slots = λ k. sym (framed-slot n (frameOf n b k) (k % 64)) ∙ ap (framed (frameOf n b k)) (tagged-rows m n e (slotWord n b k 0) (slotWord n b k 1) (slotWord n b k 2) (slotWord n b k 3) (slotWord n b k 4)) ∙ i .slots k;
+  slots = λ k. sym (framed-slot n (frameOf n b k) (k % pageSize)) ∙ ap (framed (frameOf n b k)) (tagged-rows m n e (slotWord n b k slotTag) (slotWord n b k slotGeneration) (slotWord n b k slotObject) (slotWord n b k slotRights) (slotWord n b k slotFlags)) ∙ i .slots k;
   free = i .free;
   freeCount = i .freeCount;
   empty = i .empty;
@@ -124,15 +127,15 @@ framed-vacant m (suc fr) (suc (suc (suc (suc t)))) g x y w e = clash e refl
 module _ (m : Mem) (v : Spot → ℕ) (t : Table) (z : Seen m v t) where
   -- a present slot has a frame
   pub slot-there : (k : ℕ) → isAbsent (t .slots k) ≡ false → 0 < frameV v k
-  slot-there k e = framed-there (frameV v k) (tagged m (v (sl k 0)) (v (sl k 1)) (v (sl k 2)) (v (sl k 3)) (v (sl k 4))) (ap isAbsent (z .slots k) ∙ e)
+  slot-there k e = framed-there (frameV v k) (tagged m (v (sl k slotTag)) (v (sl k slotGeneration)) (v (sl k slotObject)) (v (sl k slotRights)) (v (sl k slotFlags))) (ap isAbsent (z .slots k) ∙ e)
 
   -- its generation is its word 1
-  pub slot-gen : (k : ℕ) → isAbsent (t .slots k) ≡ false → generation (t .slots k) ≡ v (sl k 1)
-  slot-gen k e = sym (ap generation (z .slots k)) ∙ framed-gen m (frameV v k) (v (sl k 0)) (v (sl k 1)) (v (sl k 2)) (v (sl k 3)) (v (sl k 4)) (ap isAbsent (z .slots k) ∙ e)
+  pub slot-gen : (k : ℕ) → isAbsent (t .slots k) ≡ false → generation (t .slots k) ≡ v (sl k slotGeneration)
+  slot-gen k e = sym (ap generation (z .slots k)) ∙ framed-gen m (frameV v k) (v (sl k slotTag)) (v (sl k slotGeneration)) (v (sl k slotObject)) (v (sl k slotRights)) (v (sl k slotFlags)) (ap isAbsent (z .slots k) ∙ e)
 
-  -- a vacant slot has the tag 0
-  pub vacant-tag : (k : ℕ) → isVacant (t .slots k) ≡ true → v (sl k 0) ≡ 0
-  vacant-tag k e = framed-vacant m (frameV v k) (v (sl k 0)) (v (sl k 1)) (v (sl k 2)) (v (sl k 3)) (v (sl k 4)) (ap isVacant (z .slots k) ∙ e)
+  -- a vacant slot has tagVacant
+  pub vacant-tag : (k : ℕ) → isVacant (t .slots k) ≡ true → v (sl k slotTag) ≡ tagVacant
+  vacant-tag k e = framed-vacant m (frameV v k) (v (sl k slotTag)) (v (sl k slotGeneration)) (v (sl k slotObject)) (v (sl k slotRights)) (v (sl k slotFlags)) (ap isVacant (z .slots k) ∙ e)
 
 module _ (t : Table) (o : Sound till t (t .free)) where
   pub free-vacant : (k : ℕ) → 0 < occurs k (t .free) → isVacant (t .slots k) ≡ true

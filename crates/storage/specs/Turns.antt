@@ -16,6 +16,8 @@ use Rattle.invariant.specs.Pages.{busy-there, vacant-there}
 use Rattle.invariant.specs.Orders.{Sound, attached-below, attached-of}
 use Rattle.layout.specs.declared.Shape.{Shape}
 use Rattle.layout.specs.Layout.{Mem, total, head, row, load}
+use Rattle.layout.specs.Fields.{headPages, headFirstFree, headFirstEmpty, entryBusy, entryNext, entryPrevious, slotGeneration, slotNextFree, slotPreviousFree, rowId}
+use Rattle.layout.specs.Sizes.{pageSize}
 use Rattle.representation.specs.Represents.{frameOf, slotWord, TableIs}
 use Rattle.storage.specs.Order.{occurs-head, head-in}
 use Rattle.storage.specs.Sight.{Spot, Spot.hd, Spot.pg, Spot.sl, look, Fit, OnlyTable, Moves, moves, moves-then, moves-fit, moves-size}
@@ -59,20 +61,20 @@ module _ (ws : List ℕ) (sh : Shape) (b : ℕ) (t : Table) (r : Ready ws sh b t
   seen₀ : Seen (load ws sh) (look (load ws sh) b) t
   seen₀ = see (load ws sh) b t (r .table)
 
-  size₀ : load ws sh (head b 5) ≡ t .size
+  size₀ : load ws sh (head b headPages) ≡ t .size
   size₀ = r .table .size
 
   there₀ : (k : ℕ) → isAbsent (t .slots k) ≡ false → 0 < frameOf (load ws sh) b k
   unfolding look
   there₀ k e = slot-there (load ws sh) (look (load ws sh) b) t seen₀ k e
 
-  free₀ : (k : ℕ) → look (load ws sh) b (hd 6) ≡ suc k → 0 < frameOf (load ws sh) b k
+  free₀ : (k : ℕ) → look (load ws sh) b (hd headFirstFree) ≡ suc k → 0 < frameOf (load ws sh) b k
   free₀ k e = there₀ k (vacant-there (t .slots k) (free-vacant t (r .sound) k
-      (head-in (λ i. look (load ws sh) b (sl i 2)) (λ i. look (load ws sh) b (sl i 3)) (look (load ws sh) b (hd 6)) 0 (t .free) k (seen₀ .free) e)))
+      (head-in (λ i. look (load ws sh) b (sl i slotNextFree)) (λ i. look (load ws sh) b (sl i slotPreviousFree)) (look (load ws sh) b (hd headFirstFree)) 0 (t .free) k (seen₀ .free) e)))
 
-  empty₀ : (p : ℕ) → look (load ws sh) b (hd 8) ≡ suc p → p < t .size
+  empty₀ : (p : ℕ) → look (load ws sh) b (hd headFirstEmpty) ≡ suc p → p < t .size
   empty₀ p e = empty-below t (r .sound) p
-      (head-in (λ i. look (load ws sh) b (pg i 3)) (λ i. look (load ws sh) b (pg i 4)) (look (load ws sh) b (hd 8)) 0 (t .empty) p (seen₀ .empty) e)
+      (head-in (λ i. look (load ws sh) b (pg i entryNext)) (λ i. look (load ws sh) b (pg i entryPrevious)) (look (load ws sh) b (hd headFirstEmpty)) 0 (t .empty) p (seen₀ .empty) e)
 
   -- PUBLISH
   pub publish-moves : (k g : ℕ) → isAbsent (t .slots k) ≡ false → Moves ws (publishW ws sh b k g) sh b (publishV (look (load ws sh) b) k g)
@@ -84,17 +86,17 @@ module _ (ws : List ℕ) (sh : Shape) (b : ℕ) (t : Table) (r : Ready ws sh b t
 
 -- a page below the size may be marked, and may join the empty order
 mark-moves : (ws : List ℕ) (sh : Shape) (b : ℕ) (v : Spot → ℕ) (p g : ℕ) (count : (Spot → ℕ) → ℕ) → total sh ≤ length ws → Fit sh (load ws sh) b → look (load ws sh) b ≡ v
-    → p < load ws sh (head b 5) → Moves ws (markW ws sh b p g (count (look (load ws sh) b))) sh b (markV v p g (count v))
+    → p < load ws sh (head b headPages) → Moves ws (markW ws sh b p g (count (look (load ws sh) b))) sh b (markV v p g (count v))
 unfolding markW markP
 mark-moves ws sh b v p g count h fit e l =
-    let own : (q : ℕ) → suc p ≡ suc q → q < load ws sh (head b 5) = λ q d. omega arith in
+    let own : (q : ℕ) → suc p ≡ suc q → q < load ws sh (head b headPages) = λ q d. omega arith in
     moves ws sh b v (λ w. markP w p g (count w)) h fit e ((omega arith, omega arith, own), ((omega arith, omega arith, own), tt))
 
 join-moves : (ws : List ℕ) (sh : Shape) (b : ℕ) (v : Spot → ℕ) (p : ℕ) → total sh ≤ length ws → Fit sh (load ws sh) b → look (load ws sh) b ≡ v
-    → p < load ws sh (head b 5) → ((q : ℕ) → v (hd 8) ≡ suc q → q < load ws sh (head b 5)) → Moves ws (joinW ws sh b p) sh b (joinV v p)
+    → p < load ws sh (head b headPages) → ((q : ℕ) → v (hd headFirstEmpty) ≡ suc q → q < load ws sh (head b headPages)) → Moves ws (joinW ws sh b p) sh b (joinV v p)
 unfolding joinW joinP
 join-moves ws sh b v p h fit e l first =
-    let own : (q : ℕ) → suc p ≡ suc q → q < load ws sh (head b 5) = λ q d. omega arith in
+    let own : (q : ℕ) → suc p ≡ suc q → q < load ws sh (head b headPages) = λ q d. omega arith in
     moves ws sh b v (λ w. joinP w p) h fit e ((omega arith, omega arith, first), ((omega arith, omega arith, own), ((omega arith, omega arith, own), ((omega arith, omega arith), tt))))
 
 module _ (ws : List ℕ) (sh : Shape) (b : ℕ) (t : Table) (r : Ready ws sh b t) where
@@ -103,23 +105,23 @@ module _ (ws : List ℕ) (sh : Shape) (b : ℕ) (t : Table) (r : Ready ws sh b t
   unfolding vacateW lowerW
   vacate-turns k was =
       let v : Spot → ℕ = look (load ws sh) b in
-      let g : ℕ = nextGeneration (v (sl k 1)) in
-      let p : ℕ = k / 64 in
+      let g : ℕ = nextGeneration (v (sl k slotGeneration)) in
+      let p : ℕ = k / pageSize in
       let here : isAbsent (t .slots k) ≡ false = busy-there (t .slots k) was in
-      let under : p < load ws sh (head b 5) = rw (size₀ ws sh b t r) (attached-below till t (t .free) (r .sound) p (attached-of till t (t .free) (r .sound) k here)) in
+      let under : p < load ws sh (head b headPages) = rw (size₀ ws sh b t r) (attached-below till t (t .free) (r .sound) p (attached-of till t (t .free) (r .sound) k here)) in
       let ws₁ : List ℕ = publishW ws sh b k g in
       let v₁ : Spot → ℕ = publishV v k g in
       let a : Moves ws ws₁ sh b v₁ = publish-moves ws sh b t r k g here in
       let room₁ : total sh ≤ length ws₁ = omega (arith, a .long, r .room) in
-      let ws₂ : List ℕ = markW ws₁ sh b p g (look (load ws₁ sh) b (pg p 2) - 1) in
-      let v₂ : Spot → ℕ = markV v₁ p g (v₁ (pg p 2) - 1) in
-      let c : Moves ws₁ ws₂ sh b v₂ = mark-moves ws₁ sh b v₁ p g (λ w. w (pg p 2) - 1) room₁ (moves-fit ws ws₁ sh b v₁ a (r .fit)) (a .shows) (rw (moves-size ws ws₁ sh b v₁ a) under) in
+      let ws₂ : List ℕ = markW ws₁ sh b p g (look (load ws₁ sh) b (pg p entryBusy) - 1) in
+      let v₂ : Spot → ℕ = markV v₁ p g (v₁ (pg p entryBusy) - 1) in
+      let c : Moves ws₁ ws₂ sh b v₂ = mark-moves ws₁ sh b v₁ p g (λ w. w (pg p entryBusy) - 1) room₁ (moves-fit ws ws₁ sh b v₁ a (r .fit)) (a .shows) (rw (moves-size ws ws₁ sh b v₁ a) under) in
       let ac : Moves ws ws₂ sh b v₂ = moves-then ws ws₁ ws₂ sh b v₁ v₂ a c in
-      let size₂ : load ws₂ sh (head b 5) ≡ load ws sh (head b 5) = moves-size ws ws₂ sh b v₂ ac in
+      let size₂ : load ws₂ sh (head b headPages) ≡ load ws sh (head b headPages) = moves-size ws ws₂ sh b v₂ ac in
       let room₂ : total sh ≤ length ws₂ = omega (arith, ac .long, r .room) in
       let d : Moves ws₂ (joinW ws₂ sh b p) sh b (joinV v₂ p) = join-moves ws₂ sh b v₂ p room₂ (moves-fit ws ws₂ sh b v₂ ac (r .fit)) (ac .shows) (rw size₂ under)
-      (λ q e. rw (size₂, size₀ ws sh b t r) (empty₀ ws sh b t r q (sym (first-empty v k g p g (v₁ (pg p 2) - 1)) ∙ e))) in
-      pick-has (λ (w : List ℕ). Turns ws w sh b t k (vacatedWords v k) (vacate till t k)) (eqb (look (load ws₁ sh) b (pg p 2) - 1) 0) (joinW ws₂ sh b p) ws₂
+      (λ q e. rw (size₂, size₀ ws sh b t r) (empty₀ ws sh b t r q (sym (first-empty v k g p g (v₁ (pg p entryBusy) - 1)) ∙ e))) in
+      pick-has (λ (w : List ℕ). Turns ws w sh b t k (vacatedWords v k) (vacate till t k)) (eqb (look (load ws₁ sh) b (pg p entryBusy) - 1) 0) (joinW ws₂ sh b p) ws₂
       (λ e. turns ws (joinW ws₂ sh b p) sh b (joinV v₂ p) t k (vacatedWords v k) (vacate till t k) (moves-then ws ws₂ (joinW ws₂ sh b p) sh b v₂ (joinV v₂ p) ac d)
       (vacate-none (load ws sh) v t (seen₀ ws sh b t r) (r .sound) k was (rw (a .shows) at e))
       (λ f. vacate-own v k f .1)
@@ -132,7 +134,7 @@ module _ (ws : List ℕ) (sh : Shape) (b : ℕ) (t : Table) (r : Ready ws sh b t
 -- ---- take
 
 pub leave-moves : (ws : List ℕ) (sh : Shape) (b : ℕ) (v : Spot → ℕ) (p : ℕ) → total sh ≤ length ws → Fit sh (load ws sh) b → look (load ws sh) b ≡ v
-    → ((q : ℕ) → v (pg p 4) ≡ suc q → q < load ws sh (head b 5)) → ((q : ℕ) → v (pg p 3) ≡ suc q → q < load ws sh (head b 5)) → Moves ws (leaveW ws sh b p) sh b (leaveV v p)
+    → ((q : ℕ) → v (pg p entryPrevious) ≡ suc q → q < load ws sh (head b headPages)) → ((q : ℕ) → v (pg p entryNext) ≡ suc q → q < load ws sh (head b headPages)) → Moves ws (leaveW ws sh b p) sh b (leaveV v p)
 unfolding leaveW leaveP
 leave-moves ws sh b v p h fit e before after =
     moves ws sh b v (λ w. leaveP w p) h fit e ((omega arith, omega arith, before), ((omega arith, omega arith, after), ((omega arith, omega arith), tt)))
@@ -145,39 +147,39 @@ module _ (ws : List ℕ) (sh : Shape) (b : ℕ) (t : Table) (r : Ready ws sh b t
       let z : Seen (load ws sh) v t = seen₀ ws sh b t r in
       let own : (i : ℕ) → suc k ≡ suc i → 0 < frameOf (load ws sh) b i = λ i e. let q : k ≡ i = omega arith in
       rw q at (there₀ ws sh b t r k (vacant-there (t .slots k) (free-vacant t (r .sound) k (rw first (occurs-head k l))))) in
-      let next : (i : ℕ) → v (sl k 2) ≡ suc i → 0 < frameOf (load ws sh) b i = λ i e.
+      let next : (i : ℕ) → v (sl k slotNextFree) ≡ suc i → 0 < frameOf (load ws sh) b i = λ i e.
       there₀ ws sh b t r i (vacant-there (t .slots i) (next-vacant (load ws sh) v t z (r .sound) k l first x j i e)) in
       moves ws sh b v (λ w. reserveP w k x j) (r .room) (r .fit) refl
       ((omega arith, next), ((omega arith, omega arith), ((omega arith, omega arith), ((omega arith, own), ((omega arith, own), ((omega arith, own), tt))))))
 
   -- TAKE: the head of the free order, slot k, is Reserved by position j of the row in place x
-  pub take-turns : Turns ws (takeW ws sh b k x j) sh b t k (reservedWords (look (load ws sh) b) k x j) (taken t k l (load ws sh (row x 0)))
+  pub take-turns : Turns ws (takeW ws sh b k x j) sh b t k (reservedWords (look (load ws sh) b) k x j) (taken t k l (load ws sh (row x rowId)))
   unfolding takeW raiseW
   take-turns =
       let v : Spot → ℕ = look (load ws sh) b in
       let z : Seen (load ws sh) v t = seen₀ ws sh b t r in
       let o = r .sound in
-      let u : Table = taken t k l (load ws sh (row x 0)) in
-      let g : ℕ = v (sl k 1) in
-      let p : ℕ = k / 64 in
+      let u : Table = taken t k l (load ws sh (row x rowId)) in
+      let g : ℕ = v (sl k slotGeneration) in
+      let p : ℕ = k / pageSize in
       let here : isAbsent (t .slots k) ≡ false = vacant-there (t .slots k) (free-vacant t (r .sound) k (rw first (occurs-head k l))) in
-      let under : p < load ws sh (head b 5) = rw (size₀ ws sh b t r) (attached-below till t (t .free) (r .sound) p (attached-of till t (t .free) (r .sound) k here)) in
+      let under : p < load ws sh (head b headPages) = rw (size₀ ws sh b t r) (attached-below till t (t .free) (r .sound) p (attached-of till t (t .free) (r .sound) k here)) in
       let ws₁ : List ℕ = reserveW ws sh b k x j in
       let v₁ : Spot → ℕ = reserveV v k x j in
       let a : Moves ws ws₁ sh b v₁ = reserve-moves in
       let room₁ : total sh ≤ length ws₁ = omega (arith, a .long, r .room) in
-      let ws₂ : List ℕ = markW ws₁ sh b p g (up (look (load ws₁ sh) b (pg p 2))) in
-      let v₂ : Spot → ℕ = markV v₁ p g (up (v₁ (pg p 2))) in
-      let c : Moves ws₁ ws₂ sh b v₂ = mark-moves ws₁ sh b v₁ p g (λ w. up (w (pg p 2))) room₁ (moves-fit ws ws₁ sh b v₁ a (r .fit)) (a .shows) (rw (moves-size ws ws₁ sh b v₁ a) under) in
+      let ws₂ : List ℕ = markW ws₁ sh b p g (up (look (load ws₁ sh) b (pg p entryBusy))) in
+      let v₂ : Spot → ℕ = markV v₁ p g (up (v₁ (pg p entryBusy))) in
+      let c : Moves ws₁ ws₂ sh b v₂ = mark-moves ws₁ sh b v₁ p g (λ w. up (w (pg p entryBusy))) room₁ (moves-fit ws ws₁ sh b v₁ a (r .fit)) (a .shows) (rw (moves-size ws ws₁ sh b v₁ a) under) in
       let ac : Moves ws ws₂ sh b v₂ = moves-then ws ws₁ ws₂ sh b v₁ v₂ a c in
-      let size₂ : load ws₂ sh (head b 5) ≡ load ws sh (head b 5) = moves-size ws ws₂ sh b v₂ ac in
+      let size₂ : load ws₂ sh (head b headPages) ≡ load ws sh (head b headPages) = moves-size ws ws₂ sh b v₂ ac in
       let room₂ : total sh ≤ length ws₂ = omega (arith, ac .long, r .room) in
-      pick-has (λ (w : List ℕ). Turns ws w sh b t k (reservedWords v k x j) u) (eqb (look (load ws₁ sh) b (pg p 2)) 0) (leaveW ws₂ sh b p) ws₂
-      (λ e. let n : eqb (v₁ (pg p 2)) 0 ≡ true = rw (a .shows) at e in
-      let inside : (q : ℕ) → 0 < occurs q (t .empty) → q < load ws₂ sh (head b 5) = λ q h. rw (size₂, size₀ ws sh b t r) (empty-below t o q h) in
+      pick-has (λ (w : List ℕ). Turns ws w sh b t k (reservedWords v k x j) u) (eqb (look (load ws₁ sh) b (pg p entryBusy)) 0) (leaveW ws₂ sh b p) ws₂
+      (λ e. let n : eqb (v₁ (pg p entryBusy)) 0 ≡ true = rw (a .shows) at e in
+      let inside : (q : ℕ) → 0 < occurs q (t .empty) → q < load ws₂ sh (head b headPages) = λ q h. rw (size₂, size₀ ws sh b t r) (empty-below t o q h) in
       let d : Moves ws₂ (leaveW ws₂ sh b p) sh b (leaveV v₂ p) = leave-moves ws₂ sh b v₂ p room₂ (moves-fit ws ws₂ sh b v₂ ac (r .fit)) (ac .shows)
-      (λ q i. inside q (before-in (load ws sh) v t z o k l first x j n q (sym (page-links v k x j p p g (up (v₁ (pg p 2))) 4 (omega arith)) ∙ i)))
-      (λ q i. inside q (after-in (load ws sh) v t z o k l first x j n q (sym (page-links v k x j p p g (up (v₁ (pg p 2))) 3 (omega arith)) ∙ i))) in
+      (λ q i. inside q (before-in (load ws sh) v t z o k l first x j n q (sym (page-links v k x j p p g (up (v₁ (pg p entryBusy))) 4 (omega arith)) ∙ i)))
+      (λ q i. inside q (after-in (load ws sh) v t z o k l first x j n q (sym (page-links v k x j p p g (up (v₁ (pg p entryBusy))) 3 (omega arith)) ∙ i))) in
       turns ws (leaveW ws₂ sh b p) sh b (leaveV v₂ p) t k (reservedWords v k x j) u (moves-then ws ws₂ (leaveW ws₂ sh b p) sh b v₂ (leaveV v₂ p) ac d)
       (take-none (load ws sh) v t z o k l first x j n)
       (λ f. take-own v k x j f .1)
@@ -194,7 +196,7 @@ module _ (ws : List ℕ) (sh : Shape) (b : ℕ) (t : Table) (r : Ready ws sh b t
   own-slot i e = let q : k ≡ i = omega arith in rw q at (there₀ ws sh b t r k (busy-there (t .slots k) was))
 
   -- MOVE: TransferReserved by position j of the row in place x
-  pub move-turns : (x j : ℕ) → Turns ws (moveW ws sh b k x j) sh b t k (λ f. moveV (look (load ws sh) b) k x j (sl k f)) (keep till (λ g. transferReserved g (load ws sh (row x 0))) t k)
+  pub move-turns : (x j : ℕ) → Turns ws (moveW ws sh b k x j) sh b t k (λ f. moveV (look (load ws sh) b) k x j (sl k f)) (keep till (λ g. transferReserved g (load ws sh (row x rowId))) t k)
   unfolding moveW moveP
   move-turns x j = turns ws (moveW ws sh b k x j) sh b (moveV (look (load ws sh) b) k x j) t k _ _
       (moves ws sh b (look (load ws sh) b) (λ w. moveP k x j) (r .room) (r .fit) refl ((omega arith, own-slot), ((omega arith, own-slot), ((omega arith, own-slot), tt))))

@@ -19,6 +19,9 @@ use Rattle.invariant.specs.Pointwise.{place-alike, vacate-slots}
 use Rattle.invariant.specs.Pages.{till-sane, busy-there, busy-vacant, vacant-there, busy-own, busy-other}
 use Rattle.invariant.specs.Orders.{Sound, attached-below, attached-of, below-of}
 use Rattle.layout.specs.Layout.{Mem}
+use Rattle.layout.specs.Fields.{headFirstFree, headFreeSlots, headFirstEmpty, headFirstDetached, entryHigh, entryBusy, entryNext, entryPrevious, slotTag, slotGeneration, slotNextFree, slotPreviousFree, slotFlags}
+use Rattle.layout.specs.Values.{tagVacant}
+use Rattle.layout.specs.Sizes.{pageSize}
 use Rattle.representation.specs.Represents.{linkOf, tagged, Chain}
 use Rattle.storage.specs.Order.{chain-push, head-in, linked-frame, length-below}
 use Rattle.storage.specs.Sight.{Spot, Spot.hd, Spot.pg, Spot.sl, puts}
@@ -36,17 +39,17 @@ abbrev pub joinV : (Spot → ℕ) → ℕ → Spot → ℕ
 joinV v p = puts v (joinP v p)
 
 -- the empty order is not touched by the first two
-pub first-empty : (v : Spot → ℕ) (k g p h n : ℕ) → markV (publishV v k g) p h n (hd 8) ≡ v (hd 8)
+pub first-empty : (v : Spot → ℕ) (k g p h n : ℕ) → markV (publishV v k g) p h n (hd headFirstEmpty) ≡ v (hd headFirstEmpty)
 unfolding publishP markP
 first-empty v k g p h n = refl
 
 -- the words of slot k then
 abbrev pub vacatedWords : (Spot → ℕ) → ℕ → ℕ → ℕ
-vacatedWords v k f = publishV v k (nextGeneration (v (sl k 1))) (sl k f)
+vacatedWords v k f = publishV v k (nextGeneration (v (sl k slotGeneration))) (sl k f)
 
 pub vacate-own : (v : Spot → ℕ) (k f : ℕ)
-    → (markV (publishV v k (nextGeneration (v (sl k 1)))) (k / 64) (nextGeneration (v (sl k 1))) (publishV v k (nextGeneration (v (sl k 1))) (pg (k / 64) 2) - 1) (sl k f) ≡ vacatedWords v k f)
-    × (joinV (markV (publishV v k (nextGeneration (v (sl k 1)))) (k / 64) (nextGeneration (v (sl k 1))) (publishV v k (nextGeneration (v (sl k 1))) (pg (k / 64) 2) - 1)) (k / 64) (sl k f) ≡ vacatedWords v k f)
+    → (markV (publishV v k (nextGeneration (v (sl k slotGeneration)))) (k / pageSize) (nextGeneration (v (sl k slotGeneration))) (publishV v k (nextGeneration (v (sl k slotGeneration))) (pg (k / pageSize) entryBusy) - 1) (sl k f) ≡ vacatedWords v k f)
+    × (joinV (markV (publishV v k (nextGeneration (v (sl k slotGeneration)))) (k / pageSize) (nextGeneration (v (sl k slotGeneration))) (publishV v k (nextGeneration (v (sl k slotGeneration))) (pg (k / pageSize) entryBusy) - 1)) (k / pageSize) (sl k f) ≡ vacatedWords v k f)
 unfolding publishP markP joinP
 vacate-own v k f = (refl, refl)
 
@@ -63,27 +66,27 @@ module _ (m : Mem) (v : Spot → ℕ) (t : Table) (z : Seen m v t) (o : Sound ti
     unfolding publishP
     publish-slots j = bool (eqb j k)
         (λ e. rw (e, eqb-true j k e, eq-eqb (suc k) (suc k) refl) (framed-is (frameV v k) (vacant g) (slot-there m v t z k here)))
-        (λ e. rw (e, ne-eqb (suc k) (suc j) (λ y. eqb-false j k e (omega arith))) (bool (eqb (v (hd 6)) (suc j))
-        (λ d. let i = free-vacant t o j (head-in (λ i. v (sl i 2)) (λ i. v (sl i 3)) (v (hd 6)) 0 (t .free) j (z .free) (eqb-true (v (hd 6)) (suc j) d)) in
-        let q : v (sl j 0) ≡ 0 = vacant-tag m v t z j i in
-        let y : framed (frameV v j) (tagged m 0 (v (sl j 1)) (v (sl j 2)) (v (sl j 3)) (v (sl j 4))) ≡ t .slots j = rw q at (z .slots j) in
+        (λ e. rw (e, ne-eqb (suc k) (suc j) (λ y. eqb-false j k e (omega arith))) (bool (eqb (v (hd headFirstFree)) (suc j))
+        (λ d. let i = free-vacant t o j (head-in (λ i. v (sl i slotNextFree)) (λ i. v (sl i slotPreviousFree)) (v (hd headFirstFree)) 0 (t .free) j (z .free) (eqb-true (v (hd headFirstFree)) (suc j) d)) in
+        let q : v (sl j slotTag) ≡ tagVacant = vacant-tag m v t z j i in
+        let y : framed (frameV v j) (tagged m 0 (v (sl j slotGeneration)) (v (sl j slotNextFree)) (v (sl j slotPreviousFree)) (v (sl j slotFlags))) ≡ t .slots j = rw q at (z .slots j) in
         rw (d, q) y)
         (λ d. rw d (z .slots j))))
 
-    publish-free : Chain (λ j. publishV v k g (sl j 2)) (λ j. publishV v k g (sl j 3)) (publishV v k g (hd 6)) 0 (k ∷ t .free)
+    publish-free : Chain (λ j. publishV v k g (sl j slotNextFree)) (λ j. publishV v k g (sl j slotPreviousFree)) (publishV v k g (hd headFirstFree)) 0 (k ∷ t .free)
     unfolding publishP
     publish-free =
         let link : min (k + 1) 0xffff_ffff_ffff_ffff ≡ suc k = omega (arith, below-of till t (t .free) o k here, slots-max) in
         let out : occurs k (t .free) ≡ 0 = o .free k ∙ ap bit full in
-        rw link (chain-push (λ j. v (sl j 2)) (λ j. v (sl j 3)) _ _ (v (hd 6)) k (t .free) (record {
+        rw link (chain-push (λ j. v (sl j slotNextFree)) (λ j. v (sl j slotPreviousFree)) _ _ (v (hd headFirstFree)) k (t .free) (record {
           next-at = rw (eq-eqb (suc k) (suc k) refl);
           next-off = λ j n. rw (ne-eqb (suc k) (suc j) (λ y. n (omega arith)));
           prev-at = rw (eq-eqb (suc k) (suc k) refl);
-          prev-head = λ j n q. rw (ne-eqb (suc k) (suc j) (λ y. n (omega arith)), eq-eqb (v (hd 6)) (suc j) q);
-          prev-off = λ j n q. rw (ne-eqb (suc k) (suc j) (λ y. n (omega arith)), ne-eqb (v (hd 6)) (suc j) q);
+          prev-head = λ j n q. rw (ne-eqb (suc k) (suc j) (λ y. n (omega arith)), eq-eqb (v (hd headFirstFree)) (suc j) q);
+          prev-off = λ j n q. rw (ne-eqb (suc k) (suc j) (λ y. n (omega arith)), ne-eqb (v (hd headFirstFree)) (suc j) q);
         }) (z .free) out)
 
-    publish-count : publishV v k g (hd 7) ≡ suc (length (t .free))
+    publish-count : publishV v k g (hd headFreeSlots) ≡ suc (length (t .free))
     unfolding publishP
     publish-count = omega (arith, z .freeCount, free-short t o, slots-max)
 
@@ -91,81 +94,81 @@ module _ (m : Mem) (v : Spot → ℕ) (t : Table) (z : Seen m v t) (o : Sound ti
   publish-others : (j f : ℕ) → (j ≡ k → ⊥) → isVacant (t .slots j) ≡ false → publishV v k g (sl j f) ≡ v (sl j f)
   unfolding publishP
   publish-others j f n full =
-      let far : v (hd 6) ≡ suc j → ⊥ = λ e. clash (free-vacant t o j (head-in (λ i. v (sl i 2)) (λ i. v (sl i 3)) (v (hd 6)) 0 (t .free) j (z .free) e)) full in
-      rw (ne-eqb (suc k) (suc j) (λ y. n (omega arith)), ne-eqb (v (hd 6)) (suc j) far, and-false (eqb f 0), and-false (eqb f 1), and-false (eqb f 2), and-false (eqb f 3))
+      let far : v (hd headFirstFree) ≡ suc j → ⊥ = λ e. clash (free-vacant t o j (head-in (λ i. v (sl i slotNextFree)) (λ i. v (sl i slotPreviousFree)) (v (hd headFirstFree)) 0 (t .free) j (z .free) e)) full in
+      rw (ne-eqb (suc k) (suc j) (λ y. n (omega arith)), ne-eqb (v (hd headFirstFree)) (suc j) far, and-false (eqb f 0), and-false (eqb f 1), and-false (eqb f 2), and-false (eqb f 3))
 
 -- VACATE: the high mark rises to the new generation, the busy count goes down
 module _ (m : Mem) (v : Spot → ℕ) (t : Table) (z : Seen m v t) (o : Sound till t (t .free)) (k : ℕ) (was : isBusy (t .slots k) ≡ true) where
   here : isAbsent (t .slots k) ≡ false
   here = busy-there (t .slots k) was
 
-  gen : nextGeneration (generation (t .slots k)) ≡ nextGeneration (v (sl k 1))
+  gen : nextGeneration (generation (t .slots k)) ≡ nextGeneration (v (sl k slotGeneration))
   gen = ap nextGeneration (slot-gen m v t z k here)
 
-  att : isAttached t (k / 64) ≡ true
+  att : isAttached t (k / pageSize) ≡ true
   att = attached-of till t (t .free) o k here
 
-  under : k / 64 < t .size
-  under = attached-below till t (t .free) o (k / 64) att
+  under : k / pageSize < t .size
+  under = attached-below till t (t .free) o (k / pageSize) att
 
   -- the page's busy slots then
-  left : v (pg (k / 64) 2) - 1 ≡ busyOf till (put (t .slots) k (vacant (nextGeneration (generation (t .slots k))))) (k / 64)
-  left = let h : busyOf till (put (t .slots) k (vacant (nextGeneration (generation (t .slots k))))) (k / 64) + bit (isBusy (t .slots k)) ≡ busyOf till (t .slots) (k / 64) + 0
+  left : v (pg (k / pageSize) entryBusy) - 1 ≡ busyOf till (put (t .slots) k (vacant (nextGeneration (generation (t .slots k))))) (k / pageSize)
+  left = let h : busyOf till (put (t .slots) k (vacant (nextGeneration (generation (t .slots k))))) (k / pageSize) + bit (isBusy (t .slots k)) ≡ busyOf till (t .slots) (k / pageSize) + 0
       = busy-own till till-sane (t .slots) k (vacant (nextGeneration (generation (t .slots k)))) (below-of till t (t .free) o k here) in
       let i : bit (isBusy (t .slots k)) ≡ 1 = ap bit was in
-      omega (arith, h, i, z .busy (k / 64) under att)
+      omega (arith, h, i, z .busy (k / pageSize) under att)
 
-  kept : (p : ℕ) → (p ≡ k / 64 → ⊥) → busyOf till (put (t .slots) k (vacant (nextGeneration (generation (t .slots k))))) p ≡ busyOf till (t .slots) p
+  kept : (p : ℕ) → (p ≡ k / pageSize → ⊥) → busyOf till (put (t .slots) k (vacant (nextGeneration (generation (t .slots k))))) p ≡ busyOf till (t .slots) p
   kept p n = busy-other till till-sane (put (t .slots) k (vacant (nextGeneration (generation (t .slots k))))) (t .slots) p
-      (λ j e l. rw (ne-eqb j k (λ y. n (sym e ∙ ap (λ (x : ℕ). x / 64) y))))
+      (λ j e l. rw (ne-eqb j k (λ y. n (sym e ∙ ap (λ (x : ℕ). x / pageSize) y))))
 
   abbrev w₁ : Spot → ℕ
-  w₁ = publishV v k (nextGeneration (v (sl k 1)))
+  w₁ = publishV v k (nextGeneration (v (sl k slotGeneration)))
 
   abbrev w₂ : Spot → ℕ
-  w₂ = markV w₁ (k / 64) (nextGeneration (v (sl k 1))) (w₁ (pg (k / 64) 2) - 1)
+  w₂ = markV w₁ (k / pageSize) (nextGeneration (v (sl k slotGeneration))) (w₁ (pg (k / pageSize) entryBusy) - 1)
 
   attached-same : (p : ℕ) → isAttached (vacate till t k) p ≡ isAttached t p
   unfolding vacate
   attached-same p = ap isSome (place-alike till t k (vacant (nextGeneration (generation (t .slots k)))) .frame p)
 
-  marked-high : (p : ℕ) → p < t .size → w₂ (pg p 1) ≡ vacate till t k .pages p .high
+  marked-high : (p : ℕ) → p < t .size → w₂ (pg p entryHigh) ≡ vacate till t k .pages p .high
   unfolding vacate place publishP markP
-  marked-high p h = bool (eqb p (k / 64))
-      (λ e. rw (e, eqb-true p (k / 64) e, eq-eqb (suc (k / 64)) (suc (k / 64)) refl, gen, z .high (k / 64) under))
-      (λ e. rw (e, ne-eqb (suc (k / 64)) (suc p) (λ y. eqb-false p (k / 64) e (omega arith))) (z .high p h))
+  marked-high p h = bool (eqb p (k / pageSize))
+      (λ e. rw (e, eqb-true p (k / pageSize) e, eq-eqb (suc (k / pageSize)) (suc (k / pageSize)) refl, gen, z .high (k / pageSize) under))
+      (λ e. rw (e, ne-eqb (suc (k / pageSize)) (suc p) (λ y. eqb-false p (k / pageSize) e (omega arith))) (z .high p h))
 
-  marked-busy : (p : ℕ) → p < t .size → isAttached (vacate till t k) p ≡ true → w₂ (pg p 2) ≡ busyOf till (vacate till t k .slots) p
+  marked-busy : (p : ℕ) → p < t .size → isAttached (vacate till t k) p ≡ true → w₂ (pg p entryBusy) ≡ busyOf till (vacate till t k .slots) p
   unfolding publishP markP
-  marked-busy p h a = bool (eqb p (k / 64))
-      (λ e. rw (eqb-true p (k / 64) e, eq-eqb (suc (k / 64)) (suc (k / 64)) refl) left)
-      (λ e. rw (ne-eqb (suc (k / 64)) (suc p) (λ y. eqb-false p (k / 64) e (omega arith)))
-      (z .busy p h (sym (attached-same p) ∙ a) ∙ sym (kept p (eqb-false p (k / 64) e))))
+  marked-busy p h a = bool (eqb p (k / pageSize))
+      (λ e. rw (eqb-true p (k / pageSize) e, eq-eqb (suc (k / pageSize)) (suc (k / pageSize)) refl) left)
+      (λ e. rw (ne-eqb (suc (k / pageSize)) (suc p) (λ y. eqb-false p (k / pageSize) e (omega arith)))
+      (z .busy p h (sym (attached-same p) ∙ a) ∙ sym (kept p (eqb-false p (k / pageSize) e))))
       ∙ sym (ap (λ (f : ℕ → Slot). busyOf till f p) (vacate-slots till t k))
 
   -- the slots, the free order and its count
   vacated-slots : (j : ℕ) → slotV m w₁ j ≡ vacate till t k .slots j
-  vacated-slots j = publish-slots m v t z o k (nextGeneration (v (sl k 1))) here (busy-vacant (t .slots k) was) j
+  vacated-slots j = publish-slots m v t z o k (nextGeneration (v (sl k slotGeneration))) here (busy-vacant (t .slots k) was) j
       ∙ ap (λ (g : ℕ). put (t .slots) k (vacant g) j) (sym gen) ∙ sym (ap (λ (f : ℕ → Slot). f j) (vacate-slots till t k))
 
-  old-busy : 1 ≤ busyOf till (t .slots) (k / 64)
-  old-busy = let h : busyOf till (put (t .slots) k (vacant 0)) (k / 64) + bit (isBusy (t .slots k)) ≡ busyOf till (t .slots) (k / 64) + 0
+  old-busy : 1 ≤ busyOf till (t .slots) (k / pageSize)
+  old-busy = let h : busyOf till (put (t .slots) k (vacant 0)) (k / pageSize) + bit (isBusy (t .slots k)) ≡ busyOf till (t .slots) (k / pageSize) + 0
       = busy-own till till-sane (t .slots) k (vacant 0) (below-of till t (t .free) o k here) in
       omega (arith, ap bit was)
 
-  not-empty : occurs (k / 64) (t .empty) ≡ 0
-  not-empty = o .empty (k / 64) ∙ rw (att, ne-eqb (busyOf till (t .slots) (k / 64)) 0 (λ y. omega (arith, old-busy)))
+  not-empty : occurs (k / pageSize) (t .empty) ≡ 0
+  not-empty = o .empty (k / pageSize) ∙ rw (att, ne-eqb (busyOf till (t .slots) (k / pageSize)) 0 (λ y. omega (arith, old-busy)))
 
-  not-detached : (q : ℕ) → 0 < occurs q (t .detached) → q ≡ k / 64 → ⊥
-  not-detached q h e = let i : occurs (k / 64) (t .detached) ≡ 0 = o .detached (k / 64) ∙ rw (att, and-false (ltb (k / 64) (t .size))) in
+  not-detached : (q : ℕ) → 0 < occurs q (t .detached) → q ≡ k / pageSize → ⊥
+  not-detached q h e = let i : occurs (k / pageSize) (t .detached) ≡ 0 = o .detached (k / pageSize) ∙ rw (att, and-false (ltb (k / pageSize) (t .size))) in
       omega (arith, ap (λ (x : ℕ). occurs x (t .detached)) e)
 
-  pub vacate-others : (j f : ℕ) → (j ≡ k → ⊥) → isVacant (t .slots j) ≡ false → (w₂ (sl j f) ≡ v (sl j f)) × (joinV w₂ (k / 64) (sl j f) ≡ v (sl j f))
+  pub vacate-others : (j f : ℕ) → (j ≡ k → ⊥) → isVacant (t .slots j) ≡ false → (w₂ (sl j f) ≡ v (sl j f)) × (joinV w₂ (k / pageSize) (sl j f) ≡ v (sl j f))
   unfolding markP joinP
-  vacate-others j f n full = let e = publish-others m v t z o k (nextGeneration (v (sl k 1))) j f n full in (e, e)
+  vacate-others j f n full = let e = publish-others m v t z o k (nextGeneration (v (sl k slotGeneration))) j f n full in (e, e)
 
   -- other slots of the page are busy
-  pub vacate-some : eqb (w₁ (pg (k / 64) 2) - 1) 0 ≡ false → Seen m w₂ (vacate till t k)
+  pub vacate-some : eqb (w₁ (pg (k / pageSize) entryBusy) - 1) 0 ≡ false → Seen m w₂ (vacate till t k)
   unfolding vacate place publishP markP
   vacate-some n = record {
     limit = z .limit;
@@ -177,14 +180,14 @@ module _ (m : Mem) (v : Spot → ℕ) (t : Table) (z : Seen m v t) (o : Sound ti
     high = marked-high;
     busy = marked-busy;
     slots = vacated-slots;
-    free = publish-free m v t z o k (nextGeneration (v (sl k 1))) here (busy-vacant (t .slots k) was);
-    freeCount = publish-count m v t z o k (nextGeneration (v (sl k 1))) here (busy-vacant (t .slots k) was);
+    free = publish-free m v t z o k (nextGeneration (v (sl k slotGeneration))) here (busy-vacant (t .slots k) was);
+    freeCount = publish-count m v t z o k (nextGeneration (v (sl k slotGeneration))) here (busy-vacant (t .slots k) was);
     empty = rw (was, ← left, n) (z .empty);
     detached = z .detached;
   }
 
   -- none is: the page is empty
-  pub vacate-none : eqb (w₁ (pg (k / 64) 2) - 1) 0 ≡ true → Seen m (joinV w₂ (k / 64)) (vacate till t k)
+  pub vacate-none : eqb (w₁ (pg (k / pageSize) entryBusy) - 1) 0 ≡ true → Seen m (joinV w₂ (k / pageSize)) (vacate till t k)
   unfolding vacate place publishP markP joinP
   vacate-none n = record {
     limit = z .limit;
@@ -196,16 +199,16 @@ module _ (m : Mem) (v : Spot → ℕ) (t : Table) (z : Seen m v t) (o : Sound ti
     high = marked-high;
     busy = marked-busy;
     slots = vacated-slots;
-    free = publish-free m v t z o k (nextGeneration (v (sl k 1))) here (busy-vacant (t .slots k) was);
-    freeCount = publish-count m v t z o k (nextGeneration (v (sl k 1))) here (busy-vacant (t .slots k) was);
-    empty = let link : min (k / 64 + 1) 0xffff_ffff_ffff_ffff ≡ suc (k / 64) = omega (arith, below-of till t (t .free) o k here, slots-max) in
-        rw (was, ← left, n, link) (chain-push (λ p. v (pg p 3)) (λ p. v (pg p 4)) _ _ (v (hd 8)) (k / 64) (t .empty) (record {
-          next-at = rw (eq-eqb (suc (k / 64)) (suc (k / 64)) refl);
-          next-off = λ j h. rw (ne-eqb (suc (k / 64)) (suc j) (λ y. h (omega arith)));
-          prev-at = rw (eq-eqb (suc (k / 64)) (suc (k / 64)) refl);
-          prev-head = λ j h q. rw (ne-eqb (suc (k / 64)) (suc j) (λ y. h (omega arith)), eq-eqb (v (hd 8)) (suc j) q);
-          prev-off = λ j h q. rw (ne-eqb (suc (k / 64)) (suc j) (λ y. h (omega arith)), ne-eqb (v (hd 8)) (suc j) q);
+    free = publish-free m v t z o k (nextGeneration (v (sl k slotGeneration))) here (busy-vacant (t .slots k) was);
+    freeCount = publish-count m v t z o k (nextGeneration (v (sl k slotGeneration))) here (busy-vacant (t .slots k) was);
+    empty = let link : min (k / pageSize + 1) 0xffff_ffff_ffff_ffff ≡ suc (k / pageSize) = omega (arith, below-of till t (t .free) o k here, slots-max) in
+        rw (was, ← left, n, link) (chain-push (λ p. v (pg p entryNext)) (λ p. v (pg p entryPrevious)) _ _ (v (hd headFirstEmpty)) (k / pageSize) (t .empty) (record {
+          next-at = rw (eq-eqb (suc (k / pageSize)) (suc (k / pageSize)) refl);
+          next-off = λ j h. rw (ne-eqb (suc (k / pageSize)) (suc j) (λ y. h (omega arith)));
+          prev-at = rw (eq-eqb (suc (k / pageSize)) (suc (k / pageSize)) refl);
+          prev-head = λ j h q. rw (ne-eqb (suc (k / pageSize)) (suc j) (λ y. h (omega arith)), eq-eqb (v (hd headFirstEmpty)) (suc j) q);
+          prev-off = λ j h q. rw (ne-eqb (suc (k / pageSize)) (suc j) (λ y. h (omega arith)), ne-eqb (v (hd headFirstEmpty)) (suc j) q);
         }) (z .empty) not-empty);
-    detached = linked-frame (λ p. v (pg p 3)) _ (v (hd 9)) (t .detached) (z .detached)
-        (λ q h. rw (ne-eqb (suc (k / 64)) (suc q) (λ y. not-detached q h (omega arith))));
+    detached = linked-frame (λ p. v (pg p entryNext)) _ (v (hd headFirstDetached)) (t .detached) (z .detached)
+        (λ q h. rw (ne-eqb (suc (k / pageSize)) (suc q) (λ y. not-detached q h (omega arith))));
   }

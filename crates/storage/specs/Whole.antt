@@ -20,6 +20,7 @@ use Rattle.invariant.specs.Orders.{Sound}
 use Rattle.invariant.specs.StorageState.{storage-of, sound-of}
 use Rattle.layout.specs.declared.Shape.{Shape}
 use Rattle.layout.specs.Layout.{Addr.reg, Mem, root, head, entry, owner, cell}
+use Rattle.layout.specs.Fields.{headPages, headFirstEntry, entryFrame, slotPlace}
 use Rattle.representation.specs.Represents.{entryAt, slotWord, TableIs, isMarked, Represents}
 use Rattle.representation.specs.Told.{link-some}
 use Rattle.storage.specs.Sight.{Fit, OnlyTable}
@@ -53,14 +54,14 @@ placed-with s b u p o a = record {
 
 module _ (sh : Shape) (m : Mem) (s : State) (r : Represents sh m s) (pl : Placed s) where
   -- pages below a table's size are its own
-  frame-at : (b p f : ℕ) → b < s .tableCount → p < m (head b 5) → m (entry (entryAt m b p) 0) ≡ suc f → s .tables b .pages p .frame ≡ some f
+  frame-at : (b p f : ℕ) → b < s .tableCount → p < m (head b headPages) → m (entry (entryAt m b p) entryFrame) ≡ suc f → s .tables b .pages p .frame ≡ some f
   frame-at b p f l h e = let t = r .tables b l in let i : p < s .tables b .size = omega (arith, t .size) in
       link-some (s .tables b .pages p .frame) f (sym (t .frame p i) ∙ e)
 
-  owned-by : (b p f : ℕ) → b < s .tableCount → p < m (head b 5) → m (entry (entryAt m b p) 0) ≡ suc f → m (owner f) ≡ suc (entryAt m b p)
+  owned-by : (b p f : ℕ) → b < s .tableCount → p < m (head b headPages) → m (entry (entryAt m b p) entryFrame) ≡ suc f → m (owner f) ≡ suc (entryAt m b p)
   owned-by b p f l h e = r .frames .held b p f l (omega (arith, r .tables b l .size)) (frame-at b p f l h e)
 
-  entries-apart : (b c p q : ℕ) → b < s .tableCount → c < s .tableCount → p < m (head b 5) → q < m (head c 5) → entryAt m b p ≡ entryAt m c q → b ≡ c
+  entries-apart : (b c p q : ℕ) → b < s .tableCount → c < s .tableCount → p < m (head b headPages) → q < m (head c headPages) → entryAt m b p ≡ entryAt m c q → b ≡ c
   entries-apart b c p q l k h i e = runs-apart (λ x. s .tables x .limit) b c p q
       (omega (arith, r .tables b l .size, pl .sound b l .size)) (omega (arith, r .tables c k .size, pl .sound c k .size))
       (omega (arith, r .first b l, r .first c k))
@@ -101,7 +102,7 @@ module _ (sh : Shape) (m : Mem) (s : State) (r : Represents sh m s) (pl : Placed
     other-stays = record {
       heads = λ f. o (head c f) (⊎-elim (λ q. ne (q .1)) (⊎-elim (λ q. omega arith) (λ q. omega arith)));
       pages = λ p f h. o (entry (entryAt m c p) f) (⊎-elim (λ q. omega arith) (⊎-elim
-          (λ q. ne (entries-apart sh m s r pl c b p (m (head c 10) + p - m (head b 10)) lc lb h (omega (arith, q .1, q .2)) (omega (arith, q .1, q .2))))
+          (λ q. ne (entries-apart sh m s r pl c b p (m (head c headFirstEntry) + p - m (head b headFirstEntry)) lc lb h (omega (arith, q .1, q .2)) (omega (arith, q .1, q .2))))
           (λ q. omega arith)));
       cells = λ p fr j f h e. o (cell fr j f) (⊎-elim (λ q. omega arith) (⊎-elim (λ q. omega arith)
           (λ q. ne (entries-apart sh m s r pl c b p (q .1 .0) lc lb h (q .1 .1) (omega (arith, owned-by sh m s r pl c p fr lc h e, owned-by sh m s r pl b (q .1 .0) fr lb (q .1 .1) (q .1 .2)))))));
@@ -112,7 +113,7 @@ module _ (sh : Shape) (m : Mem) (s : State) (r : Represents sh m s) (pl : Placed
 
     -- THE OTHER TABLES are as they were
     pub other-table : TableIs n c (s .tables c)
-    other-table = sound-kept m n c other-stays (s .tables c) (r .tables c lc) (pl .sound c lc) (λ k e. table-rows b m n o .rows (slotWord m c k 2) 0)
+    other-table = sound-kept m n c other-stays (s .tables c) (r .tables c lc) (pl .sound c lc) (λ k e. table-rows b m n o .rows (slotWord m c k slotPlace) 0)
 
 -- ---- the state
 
@@ -125,8 +126,8 @@ module _ (sh : Shape) (m : Mem) (s : State) (r : Represents sh m s) (pl : Placed
   off-root : (f : ℕ) → n (root f) ≡ m (root f)
   off-root f = off-table b m n o 0 0 0 f (λ e. omega arith) (λ e. omega arith) (λ e. omega arith)
 
-  off-first : (c : ℕ) → n (head c 10) ≡ m (head c 10)
-  off-first c = o (head c 10) (⊎-elim (λ q. omega arith) (⊎-elim (λ q. omega arith) (λ q. omega arith)))
+  off-first : (c : ℕ) → n (head c headFirstEntry) ≡ m (head c headFirstEntry)
+  off-first c = o (head c headFirstEntry) (⊎-elim (λ q. omega arith) (⊎-elim (λ q. omega arith) (λ q. omega arith)))
 
   -- THE STATE WITH THE TABLE: the marks of table b are the operation's to show
   pub with-table : ((k : ℕ) → isMarked (u .slots k) ≡ true → MarkIs n s b k) → Represents sh n (withTable s b u)

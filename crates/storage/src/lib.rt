@@ -4,6 +4,8 @@ ghost use Prim.Native.Nat.{_+_, _-_, _/_, _%_};
 ghost use lib.Dec.{eqb};
 ghost use Rattle.words.specs.Pick.{pick};
 ghost use Rattle.layout.specs.Layout.{load as loadAt, save as saveAt, writes, head, entry};
+ghost use Rattle.layout.specs.Fields.{headFirstFree};
+ghost use Rattle.layout.specs.Sizes.{pageSize};
 ghost use Rattle.representation.specs.Represents.{wordIn, frameOf, slotWord};
 ghost use Rattle.storage.specs.Sight.{Spot.hd, cellP, slotP, pageP};
 ghost use Rattle.storage.specs.Cells.{cellIn, slotAt};
@@ -12,6 +14,9 @@ ghost use Rattle.storage.specs.Late.{frameFrom, linkFrom, vacantW, heldW
 use head::TableHead;
 use layout::CellWords;
 use layout::Shape;
+use layout::field;
+use layout::size;
+use layout::value;
 
 // Word f of page p, of the table whose first entry is e.
 pub fn page_word(s: &[u64], sh: Shape, e: u64, p: u64, f: u64) -> u64
@@ -52,14 +57,14 @@ fn put_page_link(s: &mut [u64], sh: Shape, e: u64, l: u64, f: u64, v: u64)
 fn frame_of(s: &[u64], sh: Shape, h: TableHead, k: u64) -> u64
     ensures { λ r. ⌜ r ≡ frameFrom (loadAt (now (s .entry)) sh) h k ⌝ }
 {
-    if k >= 16777215 {
+    if k >= size::SLOTS_MAX {
         return 0;
     }
     let n = h.pages;
-    if k / 64 >= n {
+    if k / size::PAGE_SIZE >= n {
         return 0;
     }
-    page_word(s, sh, h.entry, k / 64, 0)
+    page_word(s, sh, h.entry, k / size::PAGE_SIZE, field::ENTRY_FRAME)
 }
 
 // Of table b.
@@ -106,7 +111,7 @@ pub fn put_slot_link(s: &mut [u64], sh: Shape, fr: u64, l: u64, f: u64, v: u64)
     if l == 0 {
         return;
     }
-    put_frame(s, sh, fr, (l - 1) % 64, f, v);
+    put_frame(s, sh, fr, (l - 1) % size::PAGE_SIZE, f, v);
 }
 
 // Word f of slot k of table b.
@@ -114,14 +119,14 @@ pub fn slot_word(s: &[u64], sh: Shape, b: u64, k: u64, f: u64) -> u64
     ensures { λ r. ⌜ r ≡ slotWord (loadAt (now (s .entry)) sh) b k f ⌝ }
 {
     let fr = frame_link(s, sh, b, k);
-    frame_word(s, sh, fr, k % 64, f)
+    frame_word(s, sh, fr, k % size::PAGE_SIZE, f)
 }
 
 pub fn put_slot_word(s: &mut [u64], sh: Shape, b: u64, k: u64, f: u64, v: u64)
-    ensures { λ _. ⌜ now (s .exit) ≡ writes (now (s .entry)) sh (cellP (frameOf (loadAt (now (s .entry)) sh) b k) (k % 64) f v) ⌝ }
+    ensures { λ _. ⌜ now (s .exit) ≡ writes (now (s .entry)) sh (cellP (frameOf (loadAt (now (s .entry)) sh) b k) (k % pageSize) f v) ⌝ }
 {
     let fr = frame_link(s, sh, b, k);
-    put_frame(s, sh, fr, k % 64, f, v);
+    put_frame(s, sh, fr, k % size::PAGE_SIZE, f, v);
 }
 
 // Slot k, in the frame fr, is vacant with the generation g, before the slot of the link x, which stands in the frame xf.
@@ -129,21 +134,28 @@ fn publish_vacant_slot(s: &mut [u64], sh: Shape, fr: u64, k: u64, g: u64, xf: u6
     ensures { λ _. ⌜ now (s .exit) ≡ vacantW (now (s .entry)) sh fr k g xf x ⌝ }
 {
     let y = words::inc(k);
-    put_slot_link(s, sh, xf, x, 3, y);
-    put_frame(s, sh, fr, k % 64, 0, 0);
-    put_frame(s, sh, fr, k % 64, 1, g);
-    put_frame(s, sh, fr, k % 64, 2, x);
-    put_frame(s, sh, fr, k % 64, 3, 0);
+    put_slot_link(s, sh, xf, x, field::SLOT_PREVIOUS_FREE, y);
+    put_frame(
+        s,
+        sh,
+        fr,
+        k % size::PAGE_SIZE,
+        field::SLOT_TAG,
+        value::TAG_VACANT,
+    );
+    put_frame(s, sh, fr, k % size::PAGE_SIZE, field::SLOT_GENERATION, g);
+    put_frame(s, sh, fr, k % size::PAGE_SIZE, field::SLOT_NEXT_FREE, x);
+    put_frame(s, sh, fr, k % size::PAGE_SIZE, field::SLOT_PREVIOUS_FREE, 0);
 }
 
 // Page p, of the table whose first entry is e, has n busy slots and has had the generation g.
 fn mark_page(s: &mut [u64], sh: Shape, e: u64, p: u64, g: u64, n: u64)
     ensures { λ _. ⌜ now (s .exit) ≡ markedW (now (s .entry)) sh e p g n ⌝ }
 {
-    let high = page_word(s, sh, e, p, 1);
+    let high = page_word(s, sh, e, p, field::ENTRY_HIGH);
     let g2 = words::larger(high, g);
-    put_page(s, sh, e, p, 1, g2);
-    put_page(s, sh, e, p, 2, n);
+    put_page(s, sh, e, p, field::ENTRY_HIGH, g2);
+    put_page(s, sh, e, p, field::ENTRY_BUSY, n);
 }
 
 // Page p stands before the page of the link x.
@@ -151,9 +163,9 @@ pub fn link_page(s: &mut [u64], sh: Shape, e: u64, p: u64, x: u64)
     ensures { λ _. ⌜ now (s .exit) ≡ linkedW (now (s .entry)) sh e p x ⌝ }
 {
     let y = words::inc(p);
-    put_page_link(s, sh, e, x, 4, y);
-    put_page(s, sh, e, p, 3, x);
-    put_page(s, sh, e, p, 4, 0);
+    put_page_link(s, sh, e, x, field::ENTRY_PREVIOUS, y);
+    put_page(s, sh, e, p, field::ENTRY_NEXT, x);
+    put_page(s, sh, e, p, field::ENTRY_PREVIOUS, 0);
 }
 
 // A busy slot of page p fell vacant with the generation g: the head then, where a page with none is the first of the empty pages' order.
@@ -162,7 +174,7 @@ fn lower_busy(s: &mut [u64], sh: Shape, h: TableHead, p: u64, g: u64) -> TableHe
     ensures head { λ r. ⌜ r ≡ fewerBy (loadAt (now (s .entry)) sh) h p ⌝ }
 {
     let e = h.entry;
-    let w = page_word(s, sh, e, p, 2);
+    let w = page_word(s, sh, e, p, field::ENTRY_BUSY);
     let n = words::dec(w);
     mark_page(s, sh, e, p, g, n);
     if words::eq(n, 0) {
@@ -180,10 +192,16 @@ pub fn vacate(s: &mut [u64], sh: Shape, b: u64, k: u64)
     let x = h.first_free;
     let fr = frame_of(s, sh, h, k);
     let xf = link_frame(s, sh, h, x);
-    let g = codec::next_generation(frame_word(s, sh, fr, k % 64, 1));
+    let g = codec::next_generation(frame_word(
+        s,
+        sh,
+        fr,
+        k % size::PAGE_SIZE,
+        field::SLOT_GENERATION,
+    ));
     publish_vacant_slot(s, sh, fr, k, g, xf, x);
     let t = head::free_local(h, words::inc(k));
-    let u = lower_busy(s, sh, t, k / 64, g);
+    let u = lower_busy(s, sh, t, k / size::PAGE_SIZE, g);
     head::store_orders(s, sh, b, u);
 }
 
@@ -199,10 +217,10 @@ pub fn leave_order(s: &mut [u64], sh: Shape, e: u64, p: u64, x: u64) -> u64
     ensures words { λ _. ⌜ now (s .exit) ≡ unlinkedW (now (s .entry)) sh e p ⌝ }
     ensures first { λ r. ⌜ r ≡ firstWithout (loadAt (now (s .entry)) sh) e p x ⌝ }
 {
-    let n = page_word(s, sh, e, p, 3);
-    let q = page_word(s, sh, e, p, 4);
-    put_page_link(s, sh, e, q, 3, n);
-    put_page_link(s, sh, e, n, 4, q);
+    let n = page_word(s, sh, e, p, field::ENTRY_NEXT);
+    let q = page_word(s, sh, e, p, field::ENTRY_PREVIOUS);
+    put_page_link(s, sh, e, q, field::ENTRY_NEXT, n);
+    put_page_link(s, sh, e, n, field::ENTRY_PREVIOUS, q);
     head_after(q, n, x)
 }
 
@@ -212,7 +230,7 @@ fn raise_busy(s: &mut [u64], sh: Shape, h: TableHead, p: u64, g: u64) -> TableHe
     ensures head { λ r. ⌜ r ≡ moreBy (now (s .entry)) sh h p g ⌝ }
 {
     let e = h.entry;
-    let n = page_word(s, sh, e, p, 2);
+    let n = page_word(s, sh, e, p, field::ENTRY_BUSY);
     let c = words::inc(n);
     mark_page(s, sh, e, p, g, c);
     if words::eq(n, 0) {
@@ -226,26 +244,33 @@ fn raise_busy(s: &mut [u64], sh: Shape, h: TableHead, p: u64, g: u64) -> TableHe
 fn reserve_free_slot(s: &mut [u64], sh: Shape, fr: u64, k: u64, nf: u64, n: u64, r: u64, j: u64)
     ensures { λ _. ⌜ now (s .exit) ≡ heldW (now (s .entry)) sh fr k nf n r j ⌝ }
 {
-    put_slot_link(s, sh, nf, n, 3, 0);
-    put_frame(s, sh, fr, k % 64, 0, 1);
-    put_frame(s, sh, fr, k % 64, 2, r);
-    put_frame(s, sh, fr, k % 64, 3, j);
+    put_slot_link(s, sh, nf, n, field::SLOT_PREVIOUS_FREE, 0);
+    put_frame(
+        s,
+        sh,
+        fr,
+        k % size::PAGE_SIZE,
+        field::SLOT_TAG,
+        value::TAG_RESERVED,
+    );
+    put_frame(s, sh, fr, k % size::PAGE_SIZE, field::SLOT_PLACE, r);
+    put_frame(s, sh, fr, k % size::PAGE_SIZE, field::SLOT_POSITION, j);
 }
 
 // Takes the head of the free order for position j of the row in place r, and gives its number.
 pub fn take_free(s: &mut [u64], sh: Shape, b: u64, r: u64, j: u64) -> u64
-    ensures slot { λ k. ⌜ k ≡ seen (now (s .entry)) sh b (hd 6) - 1 ⌝ }
+    ensures slot { λ k. ⌜ k ≡ seen (now (s .entry)) sh b (hd headFirstFree) - 1 ⌝ }
     ensures words { λ k. ⌜ now (s .exit) ≡ takeW (now (s .entry)) sh b k r j ⌝ }
 {
     let h = head::load(s, sh, b);
     let k = words::dec(h.first_free);
     let fr = frame_of(s, sh, h, k);
-    let g = frame_word(s, sh, fr, k % 64, 1);
-    let n = frame_word(s, sh, fr, k % 64, 2);
+    let g = frame_word(s, sh, fr, k % size::PAGE_SIZE, field::SLOT_GENERATION);
+    let n = frame_word(s, sh, fr, k % size::PAGE_SIZE, field::SLOT_NEXT_FREE);
     let nf = link_frame(s, sh, h, n);
     reserve_free_slot(s, sh, fr, k, nf, n, r, j);
     let t = head::take_local(h, n);
-    let u = raise_busy(s, sh, t, k / 64, g);
+    let u = raise_busy(s, sh, t, k / size::PAGE_SIZE, g);
     head::store_orders(s, sh, b, u);
     k
 }
@@ -255,9 +280,16 @@ pub fn mark_moving(s: &mut [u64], sh: Shape, b: u64, k: u64, r: u64, j: u64)
     ensures words { λ _. ⌜ now (s .exit) ≡ moveW (now (s .entry)) sh b k r j ⌝ }
 {
     let fr = frame_link(s, sh, b, k);
-    put_frame(s, sh, fr, k % 64, 0, 2);
-    put_frame(s, sh, fr, k % 64, 2, r);
-    put_frame(s, sh, fr, k % 64, 3, j);
+    put_frame(
+        s,
+        sh,
+        fr,
+        k % size::PAGE_SIZE,
+        field::SLOT_TAG,
+        value::TAG_TRANSFER_RESERVED,
+    );
+    put_frame(s, sh, fr, k % size::PAGE_SIZE, field::SLOT_PLACE, r);
+    put_frame(s, sh, fr, k % size::PAGE_SIZE, field::SLOT_POSITION, j);
 }
 
 // Slot k, which is busy, is occupied: what was Reserved is published, what was TransferReserved restored.
@@ -265,10 +297,17 @@ pub fn occupy(s: &mut [u64], sh: Shape, b: u64, k: u64, object: u64, rights: u64
     ensures words { λ _. ⌜ now (s .exit) ≡ occupyW (now (s .entry)) sh b k object rights flags ⌝ }
 {
     let fr = frame_link(s, sh, b, k);
-    put_frame(s, sh, fr, k % 64, 0, 3);
-    put_frame(s, sh, fr, k % 64, 2, object);
-    put_frame(s, sh, fr, k % 64, 3, rights);
-    put_frame(s, sh, fr, k % 64, 4, flags);
+    put_frame(
+        s,
+        sh,
+        fr,
+        k % size::PAGE_SIZE,
+        field::SLOT_TAG,
+        value::TAG_OCCUPIED,
+    );
+    put_frame(s, sh, fr, k % size::PAGE_SIZE, field::SLOT_OBJECT, object);
+    put_frame(s, sh, fr, k % size::PAGE_SIZE, field::SLOT_RIGHTS, rights);
+    put_frame(s, sh, fr, k % size::PAGE_SIZE, field::SLOT_FLAGS, flags);
 }
 
 // All words of slot j of a frame, given plus 1; zeros where there is none.
@@ -293,5 +332,5 @@ pub fn slot_at(s: &[u64], sh: Shape, b: u64, k: u64) -> CellWords
     ensures { λ r. ⌜ r ≡ slotAt (loadAt (now (s .entry)) sh) b k ⌝ }
 {
     let fr = frame_link(s, sh, b, k);
-    cell_in(s, sh, fr, k % 64)
+    cell_in(s, sh, fr, k % size::PAGE_SIZE)
 }

@@ -17,6 +17,8 @@ use Rattle.model.specs.Counting.{sum-append}
 use Rattle.layout.specs.declared.Shape.{Shape}
 use Rattle.layout.specs.declared.CellWords.{CellWords}
 use Rattle.layout.specs.Layout.{Mem, Addr.reg, root, head, entry, owner, group, in-no, load, load-out}
+use Rattle.layout.specs.Fields.{rootFreeFrames, headPageLimit, headPages, headFirstEntry, entryFrame, entryHigh}
+use Rattle.layout.specs.Sizes.{pagesMax, slotsMax}
 use Rattle.structure.specs.Facts.{limitsTo, isFree, freeFrom, attachedIn, attachedTo}
 use Rattle.structure.specs.Checks.{lifeB, headB, boundOf, handleC, slotC, linkB, entryB, entriesB, spanB, spansB, groupsB, levelsB, framesB, outlineB, head-is}
 
@@ -52,7 +54,7 @@ present-none x e = rw (eq-eqb x 0 e)
 pub present-one : (x : ℕ) → (x ≡ 0 → ⊥) → 1 ≡ bit (not (eqb x 0))
 present-one x e = rw (ne-eqb x 0 e)
 
-pub life-one : (w c : ℕ) → w ≡ 1 → leb c 16777215 ≡ lifeB w c
+pub life-one : (w c : ℕ) → w ≡ 1 → leb c slotsMax ≡ lifeB w c
 unfolding lifeB
 life-one w c e = rw (eq-eqb w 1 e)
 
@@ -116,7 +118,7 @@ module _ (m : Mem) (sh : Shape) (e l : ℕ) where
   unfolding linkB
   link-owned f o z h q y = rw (z, lt-ltb f (sh .frames) h, ← q, eq-eqb o (suc e) y)
 
-module _ (m : Mem) (sh : Shape) (e high : ℕ) (eh : high ≡ m (entry e 1)) where
+module _ (m : Mem) (sh : Shape) (e high : ℕ) (eh : high ≡ m (entry e entryHigh)) where
   pub entry-low : high < 1 → false ≡ entryB m sh e
   unfolding entryB
   entry-low h = rw (← eh, lt-leb 1 high h)
@@ -125,7 +127,7 @@ module _ (m : Mem) (sh : Shape) (e high : ℕ) (eh : high ≡ m (entry e 1)) whe
   unfolding entryB
   entry-far h = rw (← eh, lt-leb high 4294967295 h) (sym (and-false (leb 1 high)))
 
-  pub entry-link : (l : ℕ) (r : Bool) → 1 ≤ high → high ≤ 4294967295 → l ≡ m (entry e 0) → r ≡ linkB m sh e l → r ≡ entryB m sh e
+  pub entry-link : (l : ℕ) (r : Bool) → 1 ≤ high → high ≤ 4294967295 → l ≡ m (entry e entryFrame) → r ≡ linkB m sh e l → r ≡ entryB m sh e
   unfolding entryB
   entry-link l r h g el er = rw (← eh, le-leb 1 high h, le-leb high 4294967295 g, ← el) er
 
@@ -149,37 +151,37 @@ pub table-bad : (m : Mem) (sh : Shape) (b e x : ℕ) (r : Bool) → r ≡ headB 
 unfolding spanB
 table-bad m sh b e x r q f = rw (sym q ∙ f)
 
-pub table-good : (m : Mem) (sh : Shape) (b e n c : ℕ) (r : Bool) → r ≡ headB m b e → r ≡ true → n ≡ m (head b 5)
-    → c ≡ counted (entriesB m sh e n) (attachedIn m e n) → c ≡ counted (spanB m sh b e) (attachedIn m e (m (head b 5)))
+pub table-good : (m : Mem) (sh : Shape) (b e n c : ℕ) (r : Bool) → r ≡ headB m b e → r ≡ true → n ≡ m (head b headPages)
+    → c ≡ counted (entriesB m sh e n) (attachedIn m e n) → c ≡ counted (spanB m sh b e) (attachedIn m e (m (head b headPages)))
 unfolding spanB
 table-good m sh b e n c r q f en ec = rw (sym q ∙ f, ← en) ec
 
-pub size-small : (m : Mem) (b e n : ℕ) (r : Bool) → r ≡ headB m b e → r ≡ true → n ≡ m (head b 5) → n ≤ 262144
+pub size-small : (m : Mem) (b e n : ℕ) (r : Bool) → r ≡ headB m b e → r ≡ true → n ≡ m (head b headPages) → n ≤ pagesMax
 size-small m b e n r q f en = let h = head-is m b e (sym q ∙ f) in omega (arith, h .size, h .few-limit)
 
 attached-small : (m : Mem) (e n : ℕ) → attachedIn m e n ≤ n
 attached-small m e zero = omega arith
-attached-small m e (suc n) = omega (arith, attached-small m e n, bit-small (not (eqb (m (entry (e + n) 0)) 0)))
+attached-small m e (suc n) = omega (arith, attached-small m e n, bit-small (not (eqb (m (entry (e + n) entryFrame)) 0)))
 
 -- what a table's answer says
 pub record Tabled (m : Mem) (sh : Shape) (b c limit : ℕ) : Type 0 where
   pub passes : spanB m sh b (limitsTo m b) ≡ true
-  pub count : c - 1 ≡ attachedIn m (m (head b 10)) (m (head b 5))
+  pub count : c - 1 ≡ attachedIn m (m (head b headFirstEntry)) (m (head b headPages))
   pub some : 1 ≤ c
-  pub few : c - 1 ≤ 262144
-  pub limits : limit ≤ 262144
+  pub few : c - 1 ≤ pagesMax
+  pub limits : limit ≤ pagesMax
 
-pub tabled : (m : Mem) (sh : Shape) (b e c limit : ℕ) → e ≡ limitsTo m b → limit ≡ m (head b 0) → c ≡ counted (spanB m sh b e) (attachedIn m e (m (head b 5))) → (c ≡ 0 → ⊥)
+pub tabled : (m : Mem) (sh : Shape) (b e c limit : ℕ) → e ≡ limitsTo m b → limit ≡ m (head b headPageLimit) → c ≡ counted (spanB m sh b e) (attachedIn m e (m (head b headPages))) → (c ≡ 0 → ⊥)
     → Tabled m sh b c limit
 unfolding spanB
 tabled m sh b e c limit q el ec h =
-    let t = counted-is (spanB m sh b e) (attachedIn m e (m (head b 5))) c ec h in
+    let t = counted-is (spanB m sh b e) (attachedIn m e (m (head b headPages))) c ec h in
     let k = head-is m b e (both (headB m b e) _ (t .0) .0) in
     record {
       passes = rw (← q) (t .0);
       count = t .1 ∙ rw (k .first);
       some = omega arith;
-      few = omega (arith, t .1, attached-small m e (m (head b 5)), k .size, k .few-limit);
+      few = omega (arith, t .1, attached-small m e (m (head b headPages)), k .size, k .few-limit);
       limits = omega (arith, k .few-limit);
     }
 
@@ -187,10 +189,10 @@ module _ (m : Mem) (sh : Shape) where
   abbrev pub tableTest : ℕ → Bool
   tableTest b = spanB m sh b (limitsTo m b)
 
-  pub tables-stop : (b e c x : ℕ) → b < sh .tables → e ≡ limitsTo m b → c ≡ counted (spanB m sh b e) (attachedIn m e (m (head b 5))) → c ≡ 0 → 0 ≡ counted (spansB m sh) x
+  pub tables-stop : (b e c x : ℕ) → b < sh .tables → e ≡ limitsTo m b → c ≡ counted (spanB m sh b e) (attachedIn m e (m (head b headPages))) → c ≡ 0 → 0 ≡ counted (spansB m sh) x
   unfolding spansB
   tables-stop b e c x h q ec z =
-      let t : tableTest b ≡ false = rw (← q) (counted-none (spanB m sh b e) (attachedIn m e (m (head b 5))) c ec z) in
+      let t : tableTest b ≡ false = rw (← q) (counted-none (spanB m sh b e) (attachedIn m e (m (head b headPages))) c ec z) in
       rw (all-stop (sh .tables) tableTest b h t)
 
   pub tables-short : (b first x : ℕ) → all b tableTest ≡ true → first ≡ limitsTo m b → b ≡ sh .tables → (first ≡ sh .pages → ⊥) → 0 ≡ counted (spansB m sh) x
@@ -323,13 +325,13 @@ module _ (m : Mem) (sh : Shape) (c : ℕ) (ec : c ≡ counted (spansB m sh) (att
       let t = counted-is (spansB m sh) (attachedTo m (sh .tables)) c ec z in
       rw (t .0, ← t .1, ← ef, ne-eqb (c - 1 + free) (sh .frames) h)
 
-  pub outline-count : (free w : ℕ) → (c ≡ 0 → ⊥) → free ≡ freeFrom m (sh .frames) 0 (sh .frames) → w ≡ m (root 7) → (w ≡ free → ⊥) → false ≡ outlineB m sh
+  pub outline-count : (free w : ℕ) → (c ≡ 0 → ⊥) → free ≡ freeFrom m (sh .frames) 0 (sh .frames) → w ≡ m (root rootFreeFrames) → (w ≡ free → ⊥) → false ≡ outlineB m sh
   unfolding outlineB framesB
   outline-count free w z ef ew h =
       let t = counted-is (spansB m sh) (attachedTo m (sh .tables)) c ec z in
       rw (t .0, ← t .1, ← ef, ← ew, ne-eqb w free h) (sym (and-false (eqb (c - 1 + free) (sh .frames))))
 
-  pub outline-levels : (free w : ℕ) (r : Bool) → (c ≡ 0 → ⊥) → free ≡ freeFrom m (sh .frames) 0 (sh .frames) → c - 1 + free ≡ sh .frames → w ≡ m (root 7) → w ≡ free
+  pub outline-levels : (free w : ℕ) (r : Bool) → (c ≡ 0 → ⊥) → free ≡ freeFrom m (sh .frames) 0 (sh .frames) → c - 1 + free ≡ sh .frames → w ≡ m (root rootFreeFrames) → w ≡ free
       → r ≡ levelsB m (sh .frames) → r ≡ outlineB m sh
   unfolding outlineB framesB
   outline-levels free w r z ef h ew g er =

@@ -16,6 +16,9 @@ use Rattle.model.specs.Sums.{sum-equal, sum-add, sum-part}
 use Rattle.model.specs.Counting.{bit-same, sum-some, sum-ones, sum-occurs}
 use Rattle.layout.specs.declared.Shape.{Shape}
 use Rattle.layout.specs.Layout.{Mem, head, entry, owner, cell}
+use Rattle.layout.specs.Fields.{headPageLimit, headLifecycle, headCursor, headPages, entryFrame, entryHigh, slotTag, slotGeneration, slotObject, slotRights, slotFlags}
+use Rattle.layout.specs.Values.{tagOccupied}
+use Rattle.layout.specs.Sizes.{pageSize, slotsMax}
 use Rattle.representation.specs.Represents.{entryAt, tagged, LifeIs, TableIs, Represents}
 use Rattle.representation.specs.Told.{link-some}
 use Rattle.structure.specs.Facts.{limitsTo, isFree, freeFrom, attachedTo, HeadIs, SlotIs, PageIs, Structure}
@@ -32,7 +35,7 @@ life-small w c active i = omega arith
 life-small w c (tearingDown n) i = omega arith
 life-small w c retired i = omega arith
 
-life-cursor : (w c : ℕ) (l : Lifecycle) → LifeIs w c l → LifeRange l → w ≡ 1 → c ≤ 16777215
+life-cursor : (w c : ℕ) (l : Lifecycle) → LifeIs w c l → LifeRange l → w ≡ 1 → c ≤ slotsMax
 unfolding maxSlots
 life-cursor w c active i r e = absurd (omega arith)
 life-cursor w c (tearingDown n) i r e = omega arith
@@ -49,7 +52,7 @@ link-small (suc f) F h = h f refl
 
 module _ (sh : Shape) (m : Mem) (s : State) (r : Represents sh m s) (w : WellFormed till s) where
   limits-same : (n : ℕ) → n ≤ s .tableCount → (sum n λ c. s .tables c .limit) ≡ limitsTo m n
-  limits-same n h = sum-equal n (λ c. s .tables c .limit) (λ c. m (head c 0)) (λ c i. sym (r .tables c (omega arith) .limit))
+  limits-same n h = sum-equal n (λ c. s .tables c .limit) (λ c. m (head c headPageLimit)) (λ c i. sym (r .tables c (omega arith) .limit))
 
   -- ---- heads
 
@@ -62,15 +65,15 @@ module _ (sh : Shape) (m : Mem) (s : State) (r : Represents sh m s) (w : WellFor
         some-limit = omega (arith, t .limit, g .limit .0);
         few-limit = omega (arith, t .limit, g .limit .1);
         mask = rw (t .mask) (g .mask);
-        life = life-small (m (head b 2)) (m (head b 3)) (s .tables b .life) (t .life);
-        cursor = life-cursor (m (head b 2)) (m (head b 3)) (s .tables b .life) (t .life) (g .life);
+        life = life-small (m (head b headLifecycle)) (m (head b headCursor)) (s .tables b .life) (t .life);
+        cursor = life-cursor (m (head b headLifecycle)) (m (head b headCursor)) (s .tables b .life) (t .life) (g .life);
         size = omega (arith, t .limit, t .size, g .size);
         first = r .first b i ∙ limits-same b (omega arith);
       }
 
   -- ---- pages
 
-  module _ (b p : ℕ) (here : b < sh .tables) (below : p < m (head b 5)) where
+  module _ (b p : ℕ) (here : b < sh .tables) (below : p < m (head b headPages)) where
     inside : b < s .tableCount
     inside = omega (arith, r .tableCount)
 
@@ -83,11 +86,11 @@ module _ (sh : Shape) (m : Mem) (s : State) (r : Represents sh m s) (w : WellFor
     under : p < s .tables b .size
     under = omega (arith, t .size)
 
-    page-frame : (f : ℕ) → m (entry (entryAt m b p) 0) ≡ suc f → s .tables b .pages p .frame ≡ some f
+    page-frame : (f : ℕ) → m (entry (entryAt m b p) entryFrame) ≡ suc f → s .tables b .pages p .frame ≡ some f
     page-frame f e = link-some (s .tables b .pages p .frame) f (sym (t .frame p under) ∙ e)
 
     -- a frame of a page is one of the frames
-    frame-in : (f : ℕ) → m (entry (entryAt m b p) 0) ≡ suc f → f < sh .frames
+    frame-in : (f : ℕ) → m (entry (entryAt m b p) entryFrame) ≡ suc f → f < sh .frames
     frame-in f e =
         let a : bit (isFrame (s .tables b .pages p .frame) f) ≡ 1 = rw (page-frame f e) (bit-same f f refl) in
         let c = sum-part (s .tables b .limit) (λ q. bit (isFrame (s .tables b .pages q .frame) f)) p (omega (arith, under, g .size)) in
@@ -95,54 +98,54 @@ module _ (sh : Shape) (m : Mem) (s : State) (r : Represents sh m s) (w : WellFor
         let z = ltb-true f (s .frameCount) (bit-true (ltb f (s .frameCount)) (omega (arith, w .frames .once f))) in
         omega (arith, r .frameCount)
 
-    module _ (f : ℕ) (e : m (entry (entryAt m b p) 0) ≡ suc f) (j : ℕ) (i : j < slotsOf till p) where
+    module _ (f : ℕ) (e : m (entry (entryAt m b p) entryFrame) ≡ suc f) (j : ℕ) (i : j < slotsOf till p) where
       k : ℕ
-      k = p * 64 + j
+      k = p * pageSize + j
 
-      slot-is-at : s .tables b .slots k ≡ tagged m (m (cell f j 0)) (m (cell f j 1)) (m (cell f j 2)) (m (cell f j 3)) (m (cell f j 4))
+      slot-is-at : s .tables b .slots k ≡ tagged m (m (cell f j slotTag)) (m (cell f j slotGeneration)) (m (cell f j slotObject)) (m (cell f j slotRights)) (m (cell f j slotFlags))
       unfolding k
       slot-is-at = sym (t .slots k) ∙ slot-at m b p j f below e i
 
-      page-is : k / 64 ≡ p
+      page-is : k / pageSize ≡ p
       unfolding k
       page-is = omega arith
 
       present : isAbsent (s .tables b .slots k) ≡ false
       unfolding k
       present =
-          let q : k / 64 ≡ p = page-is in
-          let a : isAttached (s .tables b) (k / 64) ≡ true = rw q (ap isSome (page-frame f e)) in
+          let q : k / pageSize ≡ p = page-is in
+          let a : isAttached (s .tables b) (k / pageSize) ≡ true = rw q (ap isSome (page-frame f e)) in
           w .orders b .there k ∙ rw (a, lt-ltb k maxSlots (omega arith))
 
-      tag-small : m (cell f j 0) ≤ 3
-      tag-small = tag-there m (m (cell f j 0)) (m (cell f j 1)) (m (cell f j 2)) (m (cell f j 3)) (m (cell f j 4)) (sym (ap isAbsent slot-is-at) ∙ present)
+      tag-small : m (cell f j slotTag) ≤ 3
+      tag-small = tag-there m (m (cell f j slotTag)) (m (cell f j slotGeneration)) (m (cell f j slotObject)) (m (cell f j slotRights)) (m (cell f j slotFlags)) (sym (ap isAbsent slot-is-at) ∙ present)
 
-      occupied-at : m (cell f j 0) ≡ 3 → isOccupied (s .tables b .slots k) ≡ true
+      occupied-at : m (cell f j slotTag) ≡ tagOccupied → isOccupied (s .tables b .slots k) ≡ true
       occupied-at z = ap isOccupied slot-is-at ∙ rw z
 
-      held-at : m (cell f j 0) ≡ 3 → (m (cell f j 2) < s .objectCount) × (m (cell f j 4) ≤ 3)
-      held-at z = tagged-held m s (m (cell f j 0)) (m (cell f j 1)) (m (cell f j 2)) (m (cell f j 3)) (m (cell f j 4)) z (rw slot-is-at at (g .slots k))
+      held-at : m (cell f j slotTag) ≡ tagOccupied → (m (cell f j slotObject) < s .objectCount) × (m (cell f j slotFlags) ≤ 3)
+      held-at z = tagged-held m s (m (cell f j slotTag)) (m (cell f j slotGeneration)) (m (cell f j slotObject)) (m (cell f j slotRights)) (m (cell f j slotFlags)) z (rw slot-is-at at (g .slots k))
 
-      slot-of : SlotIs m (sh .objects) (m (head b 2)) (m (entry (entryAt m b p) 1)) f j
+      slot-of : SlotIs m (sh .objects) (m (head b headLifecycle)) (m (entry (entryAt m b p) entryHigh)) f j
       slot-of =
           let n = w .generations b k present in
-          let q : generation (s .tables b .slots k) ≡ m (cell f j 1) = ap generation slot-is-at
-          ∙ tagged-generation m (m (cell f j 0)) (m (cell f j 1)) (m (cell f j 2)) (m (cell f j 3)) (m (cell f j 4)) tag-small in
-          let y : s .tables b .pages (k / 64) .high ≡ m (entry (entryAt m b p) 1) = ap (λ (x : ℕ). s .tables b .pages x .high) page-is ∙ sym (t .high p under) in
+          let q : generation (s .tables b .slots k) ≡ m (cell f j slotGeneration) = ap generation slot-is-at
+          ∙ tagged-generation m (m (cell f j slotTag)) (m (cell f j slotGeneration)) (m (cell f j slotObject)) (m (cell f j slotRights)) (m (cell f j slotFlags)) tag-small in
+          let y : s .tables b .pages (k / pageSize) .high ≡ m (entry (entryAt m b p) entryHigh) = ap (λ (x : ℕ). s .tables b .pages x .high) page-is ∙ sym (t .high p under) in
           record {
             tag = tag-small;
             some-generation = omega (arith, n .0);
             few-generation = omega (arith, n .2);
             object = λ z. rw (r .objectCount) (held-at z .0);
             flags = λ z. held-at z .1;
-            retired = λ z l. clash (occupied-at z) (w .lifecycles .closed b k (life-gone (m (head b 2)) (m (head b 3)) (s .tables b .life) (t .life) l));
+            retired = λ z l. clash (occupied-at z) (w .lifecycles .closed b k (life-gone (m (head b headLifecycle)) (m (head b headCursor)) (s .tables b .life) (t .life) l));
           }
 
-    page-of : PageIs m sh (m (head b 2)) (entryAt m b p) (slotsOf till p)
+    page-of : PageIs m sh (m (head b headLifecycle)) (entryAt m b p) (slotsOf till p)
     page-of = record {
       some-high = omega (arith, t .high p under, g .high p under .0);
       few-high = omega (arith, t .high p under, g .high p under .1);
-      link = link-small (m (entry (entryAt m b p) 0)) (sh .frames) frame-in;
+      link = link-small (m (entry (entryAt m b p) entryFrame)) (sh .frames) frame-in;
       named = λ f e. r .frames .held b p f inside under (page-frame f e);
       busy = λ f e. t .busy p under (ap isSome (page-frame f e)) ∙ busy-page m b p f (s .tables b .slots) (λ k. sym (t .slots k)) below e (tag-small f e);
       slots = λ f e j i. slot-of f e j i;
@@ -162,9 +165,9 @@ module _ (sh : Shape) (m : Mem) (s : State) (r : Represents sh m s) (w : WellFor
   free-same f = bool (ltb f (sh .frames))
       (λ e. let o : pagesOf m (sh .tables) f + occurs f (s .frames) ≡ 1 = rw (← pages-same f) (w .frames .once f ∙ rw (← r .frameCount, e)) in
       zero-or (occurs f (s .frames))
-      (λ z. let x = sum-some (sh .tables) (λ b. sum (m (head b 5)) λ p. bit (eqb (m (entry (entryAt m b p) 0)) (suc f))) (omega arith) in
-      let y = sum-some (m (head (x .0) 5)) (λ p. bit (eqb (m (entry (entryAt m (x .0) p) 0)) (suc f))) (x .2) in
-      let l : m (entry (entryAt m (x .0) (y .0)) 0) ≡ suc f = eqb-true (m (entry (entryAt m (x .0) (y .0)) 0)) (suc f) (bit-true (eqb (m (entry (entryAt m (x .0) (y .0)) 0)) (suc f)) (y .2)) in
+      (λ z. let x = sum-some (sh .tables) (λ b. sum (m (head b headPages)) λ p. bit (eqb (m (entry (entryAt m b p) entryFrame)) (suc f))) (omega arith) in
+      let y = sum-some (m (head (x .0) headPages)) (λ p. bit (eqb (m (entry (entryAt m (x .0) p) entryFrame)) (suc f))) (x .2) in
+      let l : m (entry (entryAt m (x .0) (y .0)) entryFrame) ≡ suc f = eqb-true (m (entry (entryAt m (x .0) (y .0)) entryFrame)) (suc f) (bit-true (eqb (m (entry (entryAt m (x .0) (y .0)) entryFrame)) (suc f)) (y .2)) in
       let n = page-of (x .0) (y .0) (x .1) (y .1) .named f l in
       z ∙ rw (e, ne-eqb (m (owner f)) 0 (λ q. omega arith)))
       (λ z. let n = r .frames .free f z in

@@ -14,25 +14,26 @@ use Rattle.model.specs.Sums.{sum-equal, sum-zero, sum-add, occurs-dropIf, range
 use Rattle.model.specs.Counting.{bit-same, bit-other, sum-le, sum-up, sum-tight, sum-swap, sum-append, sum-ones, sum-one, sum-link, sum-occurs}
 use Rattle.layout.specs.declared.Shape.{Shape}
 use Rattle.layout.specs.Layout.{Mem, head, entry, owner}
+use Rattle.layout.specs.Fields.{headPageLimit, headPages, headFirstEntry, entryFrame}
 use Rattle.representation.specs.Represents.{entryAt}
 use Rattle.structure.specs.Facts.{limitsTo, isFree, freeFrom, attachedIn, attachedTo, Structure}
 
 -- how many pages of the first n tables have the frame f
 abbrev pub pagesOf : Mem → ℕ → ℕ → ℕ
-pagesOf m n f = sum n λ b. sum (m (head b 5)) λ p. bit (eqb (m (entry (entryAt m b p) 0)) (suc f))
+pagesOf m n f = sum n λ b. sum (m (head b headPages)) λ p. bit (eqb (m (entry (entryAt m b p) entryFrame)) (suc f))
 
 -- a frame has an owner
 abbrev isOwned : Mem → ℕ → Bool
 isOwned m f = not (eqb (m (owner f)) 0)
 
 -- counted by frames or by pages: links that name one of F frames, or none
-pub pages-counted : (m : Mem) (n F : ℕ) → ((b p : ℕ) → b < n → p < m (head b 5) → m (entry (entryAt m b p) 0) ≤ F) → (sum F λ f. pagesOf m n f) ≡ attachedTo m n
+pub pages-counted : (m : Mem) (n F : ℕ) → ((b p : ℕ) → b < n → p < m (head b headPages) → m (entry (entryAt m b p) entryFrame) ≤ F) → (sum F λ f. pagesOf m n f) ≡ attachedTo m n
 pages-counted m n F h =
-    sum-swap F n (λ f b. sum (m (head b 5)) λ p. bit (eqb (m (entry (entryAt m b p) 0)) (suc f)))
-    ∙ sum-equal n (λ b. sum F λ f. sum (m (head b 5)) λ p. bit (eqb (m (entry (entryAt m b p) 0)) (suc f))) (λ b. attachedIn m (m (head b 10)) (m (head b 5)))
-    (λ b i. sum-swap F (m (head b 5)) (λ f p. bit (eqb (m (entry (entryAt m b p) 0)) (suc f)))
-    ∙ sum-equal (m (head b 5)) (λ p. sum F λ f. bit (eqb (m (entry (entryAt m b p) 0)) (suc f))) (λ p. bit (not (eqb (m (entry (entryAt m b p) 0)) 0)))
-    (λ p j. sum-link (m (entry (entryAt m b p) 0)) F (h b p i j)))
+    sum-swap F n (λ f b. sum (m (head b headPages)) λ p. bit (eqb (m (entry (entryAt m b p) entryFrame)) (suc f)))
+    ∙ sum-equal n (λ b. sum F λ f. sum (m (head b headPages)) λ p. bit (eqb (m (entry (entryAt m b p) entryFrame)) (suc f))) (λ b. attachedIn m (m (head b headFirstEntry)) (m (head b headPages)))
+    (λ b i. sum-swap F (m (head b headPages)) (λ f p. bit (eqb (m (entry (entryAt m b p) entryFrame)) (suc f)))
+    ∙ sum-equal (m (head b headPages)) (λ p. sum F λ f. bit (eqb (m (entry (entryAt m b p) entryFrame)) (suc f))) (λ p. bit (not (eqb (m (entry (entryAt m b p) entryFrame)) 0)))
+    (λ p j. sum-link (m (entry (entryAt m b p) entryFrame)) F (h b p i j)))
 
 -- a frame is free or owned
 free-or-owned : (m : Mem) (F f : ℕ) → f < F → bit (isOwned m f) + bit (isFree m F f) ≡ 1
@@ -46,31 +47,31 @@ owned-count m F =
 
 module _ (sh : Shape) (m : Mem) (st : Structure sh m) where
   -- the number of a page entry names one page at most
-  entry-once : (n x : ℕ) → n ≤ sh .tables → (sum n λ b. sum (m (head b 5)) λ p. bit (eqb (entryAt m b p) x)) ≤ (sum (limitsTo m n) λ e. bit (eqb e x))
+  entry-once : (n x : ℕ) → n ≤ sh .tables → (sum n λ b. sum (m (head b headPages)) λ p. bit (eqb (entryAt m b p) x)) ≤ (sum (limitsTo m n) λ e. bit (eqb e x))
   entry-once zero x h = omega arith
   entry-once (suc n) x h =
       let k = st .heads n (omega arith) in
-      let q : (sum (m (head n 5)) λ p. bit (eqb (entryAt m n p) x)) ≤ (sum (m (head n 0)) λ p. bit (eqb (limitsTo m n + p) x)) =
-      rw (k .first) (sum-up (m (head n 5)) (m (head n 0)) (λ p. bit (eqb (limitsTo m n + p) x)) (k .size)) in
-      omega (arith, entry-once n x (omega arith), q, sum-append (limitsTo m n) (m (head n 0)) (λ e. bit (eqb e x)))
+      let q : (sum (m (head n headPages)) λ p. bit (eqb (entryAt m n p) x)) ≤ (sum (m (head n headPageLimit)) λ p. bit (eqb (limitsTo m n + p) x)) =
+      rw (k .first) (sum-up (m (head n headPages)) (m (head n headPageLimit)) (λ p. bit (eqb (limitsTo m n + p) x)) (k .size)) in
+      omega (arith, entry-once n x (omega arith), q, sum-append (limitsTo m n) (m (head n headPageLimit)) (λ e. bit (eqb e x)))
 
   -- a frame's owner is one page at most, and that of a free one none
   pages-few : (f : ℕ) → pagesOf m (sh .tables) f ≤ bit (isOwned m f)
   pages-few f = bool (eqb (m (owner f)) 0)
       (λ e. let z = eqb-true (m (owner f)) 0 e in
-      let y : pagesOf m (sh .tables) f ≡ 0 = sum-zero (sh .tables) (λ b. sum (m (head b 5)) λ p. bit (eqb (m (entry (entryAt m b p) 0)) (suc f))) (λ b i.
-      sum-zero (m (head b 5)) (λ p. bit (eqb (m (entry (entryAt m b p) 0)) (suc f))) (λ p j.
-      bit-other (m (entry (entryAt m b p) 0)) (suc f) (λ q. omega (arith, st .pages b p i j .named f q)))) in
+      let y : pagesOf m (sh .tables) f ≡ 0 = sum-zero (sh .tables) (λ b. sum (m (head b headPages)) λ p. bit (eqb (m (entry (entryAt m b p) entryFrame)) (suc f))) (λ b i.
+      sum-zero (m (head b headPages)) (λ p. bit (eqb (m (entry (entryAt m b p) entryFrame)) (suc f))) (λ p j.
+      bit-other (m (entry (entryAt m b p) entryFrame)) (suc f) (λ q. omega (arith, st .pages b p i j .named f q)))) in
       omega arith)
-      (λ e. let y : pagesOf m (sh .tables) f ≤ (sum (sh .tables) λ b. sum (m (head b 5)) λ p. bit (eqb (entryAt m b p) (m (owner f) - 1))) =
-      sum-le (sh .tables) (λ b. sum (m (head b 5)) λ p. bit (eqb (m (entry (entryAt m b p) 0)) (suc f))) (λ b. sum (m (head b 5)) λ p. bit (eqb (entryAt m b p) (m (owner f) - 1))) (λ b i.
-      sum-le (m (head b 5)) (λ p. bit (eqb (m (entry (entryAt m b p) 0)) (suc f))) (λ p. bit (eqb (entryAt m b p) (m (owner f) - 1))) (λ p j.
-      bool (eqb (m (entry (entryAt m b p) 0)) (suc f))
+      (λ e. let y : pagesOf m (sh .tables) f ≤ (sum (sh .tables) λ b. sum (m (head b headPages)) λ p. bit (eqb (entryAt m b p) (m (owner f) - 1))) =
+      sum-le (sh .tables) (λ b. sum (m (head b headPages)) λ p. bit (eqb (m (entry (entryAt m b p) entryFrame)) (suc f))) (λ b. sum (m (head b headPages)) λ p. bit (eqb (entryAt m b p) (m (owner f) - 1))) (λ b i.
+      sum-le (m (head b headPages)) (λ p. bit (eqb (m (entry (entryAt m b p) entryFrame)) (suc f))) (λ p. bit (eqb (entryAt m b p) (m (owner f) - 1))) (λ p j.
+      bool (eqb (m (entry (entryAt m b p) entryFrame)) (suc f))
       (λ q. omega (
         arith,
-        bit-small (eqb (m (entry (entryAt m b p) 0)) (suc f)),
+        bit-small (eqb (m (entry (entryAt m b p) entryFrame)) (suc f)),
         bit-same (entryAt m b p) (m (owner f) - 1)
-            (omega (arith, st .pages b p i j .named f (eqb-true (m (entry (entryAt m b p) 0)) (suc f) q))),
+            (omega (arith, st .pages b p i j .named f (eqb-true (m (entry (entryAt m b p) entryFrame)) (suc f) q))),
       ))
       (λ q. omega (arith, ap bit q)))) in
       rw e (omega (arith, y, entry-once (sh .tables) (m (owner f) - 1) (omega arith), sum-one (m (owner f) - 1) (limitsTo m (sh .tables)), bit-small (ltb (m (owner f) - 1) (limitsTo m (sh .tables))))))
@@ -82,9 +83,9 @@ module _ (sh : Shape) (m : Mem) (st : Structure sh m) where
       (omega (arith, st .frames, owned-count m (sh .frames), pages-counted m (sh .tables) (sh .frames) (λ b p i j. st .pages b p i j .link))) f h
 
   pages-past : (f : ℕ) → sh .frames ≤ f → pagesOf m (sh .tables) f ≡ 0
-  pages-past f h = sum-zero (sh .tables) (λ b. sum (m (head b 5)) λ p. bit (eqb (m (entry (entryAt m b p) 0)) (suc f))) (λ b i.
-      sum-zero (m (head b 5)) (λ p. bit (eqb (m (entry (entryAt m b p) 0)) (suc f))) (λ p j.
-      bit-other (m (entry (entryAt m b p) 0)) (suc f) (λ q. omega (arith, st .pages b p i j .link))))
+  pages-past f h = sum-zero (sh .tables) (λ b. sum (m (head b headPages)) λ p. bit (eqb (m (entry (entryAt m b p) entryFrame)) (suc f))) (λ b i.
+      sum-zero (m (head b headPages)) (λ p. bit (eqb (m (entry (entryAt m b p) entryFrame)) (suc f))) (λ p j.
+      bit-other (m (entry (entryAt m b p) entryFrame)) (suc f) (λ q. omega (arith, st .pages b p i j .link))))
 
   -- THE FRAMES: each is free or has one page
   pub frame-once : (f : ℕ) → pagesOf m (sh .tables) f + bit (isFree m (sh .frames) f) ≡ bit (ltb f (sh .frames))

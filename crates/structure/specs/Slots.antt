@@ -15,6 +15,9 @@ use Rattle.model.specs.Tests.{bool, clash}
 use Rattle.model.specs.Sums.{sum-equal}
 use Rattle.model.specs.Counting.{bit-same, bit-other, sum-front}
 use Rattle.layout.specs.Layout.{Mem, head, entry, cell}
+use Rattle.layout.specs.Fields.{headPages, entryFrame, entryHigh, slotTag, slotGeneration, slotObject, slotRights, slotFlags}
+use Rattle.layout.specs.Values.{tagVacant}
+use Rattle.layout.specs.Sizes.{pageSize, slotsMax}
 use Rattle.representation.specs.Represents.{entryAt, linkOf, frameOf, tagged, slotFrom, slotIn, LifeIs}
 use Rattle.representation.specs.Told.{frame-at}
 use Rattle.structure.specs.Facts.{busyCells}
@@ -44,15 +47,15 @@ frame-link (some g) f = bool (eqb f g)
 
 -- page p of table b
 unfoldable pub pageView : Mem → ℕ → ℕ → Page
-pageView m b p = pick (ltb p (m (head b 5))) (record { frame = unlink (m (entry (entryAt m b p) 0)); high = m (entry (entryAt m b p) 1) }) noPage
+pageView m b p = pick (ltb p (m (head b headPages))) (record { frame = unlink (m (entry (entryAt m b p) entryFrame)); high = m (entry (entryAt m b p) entryHigh) }) noPage
 
-pub page-in : (m : Mem) (b p : ℕ) → p < m (head b 5) → pageView m b p ≡ record { frame = unlink (m (entry (entryAt m b p) 0)); high = m (entry (entryAt m b p) 1) }
+pub page-in : (m : Mem) (b p : ℕ) → p < m (head b headPages) → pageView m b p ≡ record { frame = unlink (m (entry (entryAt m b p) entryFrame)); high = m (entry (entryAt m b p) entryHigh) }
 unfolding pageView
-page-in m b p h = rw (lt-ltb p (m (head b 5)) h)
+page-in m b p h = rw (lt-ltb p (m (head b headPages)) h)
 
-pub page-out : (m : Mem) (b p : ℕ) → m (head b 5) ≤ p → pageView m b p ≡ noPage
+pub page-out : (m : Mem) (b p : ℕ) → m (head b headPages) ≤ p → pageView m b p ≡ noPage
 unfolding pageView
-page-out m b p h = rw (le-ltb p (m (head b 5)) h)
+page-out m b p h = rw (le-ltb p (m (head b headPages)) h)
 
 abbrev pub lifeView : ℕ → ℕ → Lifecycle
 lifeView zero c = active
@@ -65,7 +68,7 @@ life-view (suc zero) c h = (refl, refl)
 life-view (suc (suc zero)) c h = refl
 life-view (suc (suc (suc n))) c h = absurd (omega arith)
 
-pub life-range : (w c : ℕ) → (w ≡ 1 → c ≤ 16777215) → LifeRange (lifeView w c)
+pub life-range : (w c : ℕ) → (w ≡ 1 → c ≤ slotsMax) → LifeRange (lifeView w c)
 unfolding maxSlots
 life-range zero c h = tt
 life-range (suc zero) c h = omega (arith, h refl)
@@ -79,27 +82,27 @@ life-retired (suc (suc n)) c h e = omega arith
 -- ---- the frame of a slot
 
 -- a slot with a frame stands on a page that the table has had, which has that frame
-pub frame-of : (m : Mem) (b k f : ℕ) → frameOf m b k ≡ suc f → (k < maxSlots) × (k / 64 < m (head b 5)) × (m (entry (entryAt m b (k / 64)) 0) ≡ suc f) × (k % 64 < slotsOf till (k / 64))
+pub frame-of : (m : Mem) (b k f : ℕ) → frameOf m b k ≡ suc f → (k < maxSlots) × (k / pageSize < m (head b headPages)) × (m (entry (entryAt m b (k / pageSize)) entryFrame) ≡ suc f) × (k % pageSize < slotsOf till (k / pageSize))
 frame-of m b k f e = bool (ltb k maxSlots)
-    (λ q. bool (ltb (k / 64) (m (head b 5)))
-    (λ r. let h = ltb-true k maxSlots q in let i = ltb-true (k / 64) (m (head b 5)) r in (h, i, rw (q, r) at e, omega arith))
+    (λ q. bool (ltb (k / pageSize) (m (head b headPages)))
+    (λ r. let h = ltb-true k maxSlots q in let i = ltb-true (k / pageSize) (m (head b headPages)) r in (h, i, rw (q, r) at e, omega arith))
     (λ r. let z : _≡_ {A = ℕ} 0 (suc f) = rw (q, r) at e in absurd (omega arith)))
     (λ q. let z : _≡_ {A = ℕ} 0 (suc f) = rw q at e in absurd (omega arith))
 
 -- slot j of an attached page
-pub slot-at : (m : Mem) (b p j f : ℕ) → p < m (head b 5) → m (entry (entryAt m b p) 0) ≡ suc f → j < slotsOf till p
-    → slotIn m b (p * 64 + j) ≡ tagged m (m (cell f j 0)) (m (cell f j 1)) (m (cell f j 2)) (m (cell f j 3)) (m (cell f j 4))
+pub slot-at : (m : Mem) (b p j f : ℕ) → p < m (head b headPages) → m (entry (entryAt m b p) entryFrame) ≡ suc f → j < slotsOf till p
+    → slotIn m b (p * pageSize + j) ≡ tagged m (m (cell f j slotTag)) (m (cell f j slotGeneration)) (m (cell f j slotObject)) (m (cell f j slotRights)) (m (cell f j slotFlags))
 slot-at m b p j f h e i =
-    let a : (p * 64 + j) % 64 ≡ j = omega arith in
-    ap (λ (fr : ℕ). slotFrom m fr ((p * 64 + j) % 64)) (frame-at m b p j h i ∙ e) ∙ ap (slotFrom m (suc f)) a
+    let a : (p * pageSize + j) % pageSize ≡ j = omega arith in
+    ap (λ (fr : ℕ). slotFrom m fr ((p * pageSize + j) % pageSize)) (frame-at m b p j h i ∙ e) ∙ ap (slotFrom m (suc f)) a
 
 -- without a frame a slot is absent, and with one it goes by its tag
 pub slot-none : (m : Mem) (b k : ℕ) → frameOf m b k ≡ 0 → slotIn m b k ≡ absent
-slot-none m b k e = ap (λ (fr : ℕ). slotFrom m fr (k % 64)) e
+slot-none m b k e = ap (λ (fr : ℕ). slotFrom m fr (k % pageSize)) e
 
 pub slot-in : (m : Mem) (b k f : ℕ) → frameOf m b k ≡ suc f
-    → slotIn m b k ≡ tagged m (m (cell f (k % 64) 0)) (m (cell f (k % 64) 1)) (m (cell f (k % 64) 2)) (m (cell f (k % 64) 3)) (m (cell f (k % 64) 4))
-slot-in m b k f e = ap (λ (fr : ℕ). slotFrom m fr (k % 64)) e
+    → slotIn m b k ≡ tagged m (m (cell f (k % pageSize) slotTag)) (m (cell f (k % pageSize) slotGeneration)) (m (cell f (k % pageSize) slotObject)) (m (cell f (k % pageSize) slotRights)) (m (cell f (k % pageSize) slotFlags))
+slot-in m b k f e = ap (λ (fr : ℕ). slotFrom m fr (k % pageSize)) e
 
 -- ---- tags
 
@@ -166,10 +169,10 @@ busy-sum f k (suc n) =
     p ∙ omega (arith, h, sum-front n (λ j. bit (isBusy (f (k + j)))), a, y)
 
 -- the busy slots of an attached page
-pub busy-page : (m : Mem) (b p f : ℕ) (slots : ℕ → Slot) → ((k : ℕ) → slots k ≡ slotIn m b k) → p < m (head b 5) → m (entry (entryAt m b p) 0) ≡ suc f
-    → ((j : ℕ) → j < slotsOf till p → m (cell f j 0) ≤ 3) → busyOf till slots p ≡ busyCells m f (slotsOf till p)
+pub busy-page : (m : Mem) (b p f : ℕ) (slots : ℕ → Slot) → ((k : ℕ) → slots k ≡ slotIn m b k) → p < m (head b headPages) → m (entry (entryAt m b p) entryFrame) ≡ suc f
+    → ((j : ℕ) → j < slotsOf till p → m (cell f j slotTag) ≤ 3) → busyOf till slots p ≡ busyCells m f (slotsOf till p)
 busy-page m b p f slots s h e t =
-    busy-sum slots (p * 64) (slotsOf till p)
-    ∙ sum-equal (slotsOf till p) (λ j. bit (isBusy (slots (p * 64 + j)))) (λ j. bit (not (eqb (m (cell f j 0)) 0))) (λ j i.
-    ap (λ (x : Slot). bit (isBusy x)) (s (p * 64 + j) ∙ slot-at m b p j f h e i)
-    ∙ ap bit (tagged-busy m (m (cell f j 0)) (m (cell f j 1)) (m (cell f j 2)) (m (cell f j 3)) (m (cell f j 4)) (t j i)))
+    busy-sum slots (p * pageSize) (slotsOf till p)
+    ∙ sum-equal (slotsOf till p) (λ j. bit (isBusy (slots (p * pageSize + j)))) (λ j. bit (not (eqb (m (cell f j slotTag)) tagVacant))) (λ j i.
+    ap (λ (x : Slot). bit (isBusy x)) (s (p * pageSize + j) ∙ slot-at m b p j f h e i)
+    ∙ ap bit (tagged-busy m (m (cell f j slotTag)) (m (cell f j slotGeneration)) (m (cell f j slotObject)) (m (cell f j slotRights)) (m (cell f j slotFlags)) (t j i)))

@@ -12,6 +12,7 @@ use Rattle.model.specs.Storage.{slotsOf}
 use Rattle.layout.specs.declared.Shape.{Shape}
 use Rattle.layout.specs.Layout.{Mem, head, entry, owner, cell}
 use Rattle.layout.specs.Cells.{cellAt}
+use Rattle.layout.specs.Fields.{headLifecycle, headPages, entryFrame, entryHigh, entryBusy, slotObject}
 use Rattle.structure.specs.Facts.{limitsTo, HeadIs}
 use Rattle.structure.specs.Checks.{headB, handleB, slotB, slotsB, frameB, pageB, pagesB, tableB, tablesB, framesB, structureB, boundOf, handleC, slotC, linkB, entryB, entriesB, spanB, spansB, outlineB, head-is}
 
@@ -45,37 +46,37 @@ all-both (suc n) p q = ap (λ (b : Bool). b && (p n && q n)) (all-both n p q) �
 -- a slot's words tell
 pub slot-by : (m : Mem) (O life high f j : ℕ) → slotC (boundOf O life) high (cellAt m f j) ≡ slotB m O life high f j
 unfolding slotC handleC slotB handleB
-slot-by m O life high f j = bool (eqb life 2) (λ e. rw (e, le-ltb (m (cell f j 2)) 0 (omega arith))) (λ e. rw e)
+slot-by m O life high f j = bool (eqb life 2) (λ e. rw (e, le-ltb (m (cell f j slotObject)) 0 (omega arith))) (λ e. rw e)
 
 -- the slots of the page of entry e, whose frame is given as a link
 unfoldable pub slotsOn : Mem → Shape → ℕ → ℕ → ℕ → ℕ → Bool
 slotsOn m sh life e n zero = true
-slotsOn m sh life e n (suc f) = slotsB m (sh .objects) life (m (entry e 1)) f n (m (entry e 2))
+slotsOn m sh life e n (suc f) = slotsB m (sh .objects) life (m (entry e entryHigh)) f n (m (entry e entryBusy))
 
 module _ (m : Mem) (sh : Shape) where
   -- of page p of table b
   abbrev pub slotsAt : ℕ → ℕ → Bool
-  slotsAt b p = slotsOn m sh (m (head b 2)) (limitsTo m b + p) (slotsOf till p) (m (entry (limitsTo m b + p) 0))
+  slotsAt b p = slotsOn m sh (m (head b headLifecycle)) (limitsTo m b + p) (slotsOf till p) (m (entry (limitsTo m b + p) entryFrame))
 
   abbrev pub slotsIn : ℕ → Bool
-  slotsIn b = all (m (head b 5)) (slotsAt b)
+  slotsIn b = all (m (head b headPages)) (slotsAt b)
 
   link-split : (life e n l : ℕ) → frameB m sh life e n l ≡ (linkB m sh e l && slotsOn m sh life e n l)
   unfolding frameB linkB slotsOn
   link-split life e n zero = refl
-  link-split life e n (suc f) = sym (and-assoc (ltb f (sh .frames)) (eqb (m (owner f)) (suc e)) (slotsB m (sh .objects) life (m (entry e 1)) f n (m (entry e 2))))
+  link-split life e n (suc f) = sym (and-assoc (ltb f (sh .frames)) (eqb (m (owner f)) (suc e)) (slotsB m (sh .objects) life (m (entry e entryHigh)) f n (m (entry e entryBusy))))
 
-  page-split : (life e n : ℕ) → pageB m sh life e n ≡ (entryB m sh e && slotsOn m sh life e n (m (entry e 0)))
+  page-split : (life e n : ℕ) → pageB m sh life e n ≡ (entryB m sh e && slotsOn m sh life e n (m (entry e entryFrame)))
   unfolding pageB entryB
   page-split life e n =
-      let a : Bool = leb 1 (m (entry e 1)) in let b : Bool = leb (m (entry e 1)) 4294967295 in
-      let l : Bool = linkB m sh e (m (entry e 0)) in let s : Bool = slotsOn m sh life e n (m (entry e 0)) in
-      ap (λ (x : Bool). a && (b && x)) (link-split life e n (m (entry e 0))) ∙ ap (λ (x : Bool). a && x) (sym (and-assoc b l s)) ∙ sym (and-assoc a (b && l) s)
+      let a : Bool = leb 1 (m (entry e entryHigh)) in let b : Bool = leb (m (entry e entryHigh)) 4294967295 in
+      let l : Bool = linkB m sh e (m (entry e entryFrame)) in let s : Bool = slotsOn m sh life e n (m (entry e entryFrame)) in
+      ap (λ (x : Bool). a && (b && x)) (link-split life e n (m (entry e entryFrame))) ∙ ap (λ (x : Bool). a && x) (sym (and-assoc b l s)) ∙ sym (and-assoc a (b && l) s)
 
   table-split : (b : ℕ) → tableB m sh b (limitsTo m b) ≡ (spanB m sh b (limitsTo m b) && slotsIn b)
   unfolding tableB spanB pagesB entriesB
-  table-split b = let e : ℕ = limitsTo m b in let n : ℕ = m (head b 5) in
-      ap (λ (x : Bool). headB m b e && x) (all-same n _ _ (λ p h. page-split (m (head b 2)) (e + p) (slotsOf till p)) ∙ all-both n (λ p. entryB m sh (e + p)) (slotsAt b))
+  table-split b = let e : ℕ = limitsTo m b in let n : ℕ = m (head b headPages) in
+      ap (λ (x : Bool). headB m b e && x) (all-same n _ _ (λ p h. page-split (m (head b headLifecycle)) (e + p) (slotsOf till p)) ∙ all-both n (λ p. entryB m sh (e + p)) (slotsAt b))
       ∙ sym (and-assoc (headB m b e) (all n (λ p. entryB m sh (e + p))) (slotsIn b))
 
   -- THE FIRST PART IN TWO
@@ -93,9 +94,9 @@ module _ (m : Mem) (sh : Shape) where
     unfolding outlineB spansB
     spans = both (all (sh .tables) (λ c. spanB m sh c (limitsTo m c))) (eqb (limitsTo m (sh .tables)) (sh .pages)) (both (spansB m sh) (framesB m sh) y .0)
 
-    parts : (b : ℕ) → b < sh .tables → (headB m b (limitsTo m b) ≡ true) × (entriesB m sh (limitsTo m b) (m (head b 5)) ≡ true)
+    parts : (b : ℕ) → b < sh .tables → (headB m b (limitsTo m b) ≡ true) × (entriesB m sh (limitsTo m b) (m (head b headPages)) ≡ true)
     unfolding spanB
-    parts b h = both (headB m b (limitsTo m b)) (entriesB m sh (limitsTo m b) (m (head b 5))) (all-at (sh .tables) (λ c. spanB m sh c (limitsTo m c)) (spans .0) b h)
+    parts b h = both (headB m b (limitsTo m b)) (entriesB m sh (limitsTo m b) (m (head b headPages))) (all-at (sh .tables) (λ c. spanB m sh c (limitsTo m c)) (spans .0) b h)
 
     pub outline-entries : limitsTo m (sh .tables) ≡ sh .pages
     outline-entries = eqb-true (limitsTo m (sh .tables)) (sh .pages) (spans .1)
@@ -103,11 +104,11 @@ module _ (m : Mem) (sh : Shape) where
     pub outline-head : (b : ℕ) → b < sh .tables → HeadIs m b (limitsTo m b)
     outline-head b h = head-is m b (limitsTo m b) (parts b h .0)
 
-    pub outline-link : (b p f : ℕ) → b < sh .tables → p < m (head b 5) → m (entry (limitsTo m b + p) 0) ≡ suc f → f < sh .frames
+    pub outline-link : (b p f : ℕ) → b < sh .tables → p < m (head b headPages) → m (entry (limitsTo m b + p) entryFrame) ≡ suc f → f < sh .frames
     unfolding entriesB entryB linkB
     outline-link b p f h l q =
-        let a = all-at (m (head b 5)) (λ k. entryB m sh (limitsTo m b + k)) (parts b h .1) p l in
+        let a = all-at (m (head b headPages)) (λ k. entryB m sh (limitsTo m b + k)) (parts b h .1) p l in
         let e : ℕ = limitsTo m b + p in
-        let g = both (leb (m (entry e 1)) 4294967295) (linkB m sh e (m (entry e 0))) (both (leb 1 (m (entry e 1))) (leb (m (entry e 1)) 4294967295 && linkB m sh e (m (entry e 0))) a .1) in
+        let g = both (leb (m (entry e entryHigh)) 4294967295) (linkB m sh e (m (entry e entryFrame))) (both (leb 1 (m (entry e entryHigh))) (leb (m (entry e entryHigh)) 4294967295 && linkB m sh e (m (entry e entryFrame))) a .1) in
         let t : linkB m sh e (suc f) ≡ true = rw q at (g .1) in
         ltb-true f (sh .frames) (both (ltb f (sh .frames)) (eqb (m (owner f)) (suc e)) t .0)

@@ -4,12 +4,17 @@ ghost use mathlib.Core.Bool.{not};
 ghost use lib.Dec.{eqb};
 ghost use Rattle.model.specs.Base.{bit};
 ghost use Rattle.layout.specs.Layout.{load as loadAt, head, owner};
+ghost use Rattle.layout.specs.Fields.{headPages};
 ghost use Rattle.structure.specs.Facts.{freeFrom, attachedIn, attachedTo};
 ghost use Rattle.structure.specs.Checks.{lifeB, headB, boundOf, handleC, slotC, linkB, entryB, entriesB, spanB, spansB, groupsB, levelsB, outlineB};
 ghost use Rattle.structure.specs.Code.{counted, LevelIs};
 ghost use Prim.Native.Nat.{_+_, _*_};
+use codec::HandleCodec;
 use layout::CellWords;
 use layout::Shape;
+use layout::field;
+use layout::size;
+use layout::value;
 
 // 1 unless x is 0.
 pub fn present(x: u64) -> u64
@@ -22,29 +27,29 @@ pub fn present(x: u64) -> u64
 fn life_ok(life: u64, cursor: u64) -> bool
     ensures { λ r. ⌜ r ≡ lifeB life cursor ⌝ }
 {
-    if life == 1 {
-        return cursor <= 16777215;
+    if life == value::LIFE_TEARING_DOWN {
+        return cursor <= size::SLOTS_MAX;
     }
-    life <= 2
+    life <= value::LIFE_RETIRED
 }
 
 // The head of table b, whose first page entry is e.
 fn head_ok(s: &[u64], sh: Shape, b: u64, e: u64) -> bool
     ensures { λ r. ⌜ r ≡ headB (loadAt (now (s .entry)) sh) b e ⌝ }
 {
-    let limit = layout::head_word(s, sh, b, 0);
-    let mask = layout::head_word(s, sh, b, 1);
-    let life = layout::head_word(s, sh, b, 2);
-    let cursor = layout::head_word(s, sh, b, 3);
-    let size = layout::head_word(s, sh, b, 5);
-    let first = layout::head_word(s, sh, b, 10);
+    let limit = layout::head_word(s, sh, b, field::HEAD_PAGE_LIMIT);
+    let mask = layout::head_word(s, sh, b, field::HEAD_MASK);
+    let life = layout::head_word(s, sh, b, field::HEAD_LIFECYCLE);
+    let cursor = layout::head_word(s, sh, b, field::HEAD_CURSOR);
+    let size = layout::head_word(s, sh, b, field::HEAD_PAGES);
+    let first = layout::head_word(s, sh, b, field::HEAD_FIRST_ENTRY);
     if limit < 1 {
         return false;
     }
-    if limit > 262144 {
+    if limit > size::PAGES_MAX {
         return false;
     }
-    if mask > 0x00ff_ffff_ffff_ffff {
+    if mask > HandleCodec::PAYLOAD_MASK {
         return false;
     }
     if !life_ok(life, cursor) {
@@ -63,7 +68,7 @@ fn head_ok(s: &[u64], sh: Shape, b: u64, e: u64) -> bool
 pub fn bound_of(objects: u64, life: u64) -> u64
     ensures { λ r. ⌜ r ≡ boundOf objects life ⌝ }
 {
-    if life == 2 {
+    if life == value::LIFE_RETIRED {
         return 0;
     }
     objects
@@ -76,7 +81,7 @@ fn handle_ok(c: CellWords, bound: u64) -> bool
     if c.object >= bound {
         return false;
     }
-    c.flags <= 3
+    c.flags <= value::KNOWN_FLAGS
 }
 
 // A slot, on a page with that high mark. Most slots are occupied.
@@ -89,10 +94,10 @@ pub fn slot_ok(c: CellWords, bound: u64, high: u64) -> bool
     if c.generation > high {
         return false;
     }
-    if c.tag == 3 {
+    if c.tag == value::TAG_OCCUPIED {
         return handle_ok(c, bound);
     }
-    c.tag < 3
+    c.tag < value::TAG_OCCUPIED
 }
 
 // The frame of the page of entry e, given plus 1; 0 for none.
@@ -120,14 +125,14 @@ fn link_ok(s: &[u64], sh: Shape, e: u64, link: u64) -> bool
 fn entry_ok(s: &[u64], sh: Shape, e: u64) -> bool
     ensures { λ r. ⌜ r ≡ entryB (loadAt (now (s .entry)) sh) sh e ⌝ }
 {
-    let high = layout::entry_word(s, sh, e, 1);
+    let high = layout::entry_word(s, sh, e, field::ENTRY_HIGH);
     if high < 1 {
         return false;
     }
     if high > 0xffff_ffff {
         return false;
     }
-    link_ok(s, sh, e, layout::entry_word(s, sh, e, 0))
+    link_ok(s, sh, e, layout::entry_word(s, sh, e, field::ENTRY_FRAME))
 }
 
 // How many of n pages from entry e on are attached, plus 1; 0 if an entry is not as it must be.
@@ -141,7 +146,7 @@ fn entries_ok(s: &[u64], sh: Shape, e: u32, n: u32) -> u64
         if !entry_ok(s, sh, at) {
             return 0;
         }
-        count += present(layout::entry_word(s, sh, at, 0));
+        count += present(layout::entry_word(s, sh, at, field::ENTRY_FRAME));
         p += 1;
     }
     count + 1
@@ -149,12 +154,12 @@ fn entries_ok(s: &[u64], sh: Shape, e: u32, n: u32) -> u64
 
 // The same of table b, whose head is tested first; its first page entry is e.
 fn table_ok(s: &[u64], sh: Shape, b: u64, e: u32) -> u64
-    ensures { λ r. ⌜ r ≡ counted (spanB (loadAt (now (s .entry)) sh) sh b e) (attachedIn (loadAt (now (s .entry)) sh) e (loadAt (now (s .entry)) sh (head b 5))) ⌝ }
+    ensures { λ r. ⌜ r ≡ counted (spanB (loadAt (now (s .entry)) sh) sh b e) (attachedIn (loadAt (now (s .entry)) sh) e (loadAt (now (s .entry)) sh (head b headPages))) ⌝ }
 {
     if !head_ok(s, sh, b, e as u64) {
         return 0;
     }
-    let size = layout::head_word(s, sh, b, 5);
+    let size = layout::head_word(s, sh, b, field::HEAD_PAGES);
     entries_ok(s, sh, e, size as u32)
 }
 
@@ -172,7 +177,7 @@ fn tables_ok(s: &[u64], sh: Shape) -> u64
             return 0;
         }
         count += c - 1;
-        first += layout::head_word(s, sh, b as u64, 0) as u32;
+        first += layout::head_word(s, sh, b as u64, field::HEAD_PAGE_LIMIT) as u32;
         b += 1;
     }
     if first != sh.pages {
@@ -284,7 +289,7 @@ pub fn check_outline(s: &[u64], sh: Shape) -> bool
     if c - 1 != (sh.frames as u64) - free {
         return false;
     }
-    if layout::root_word(s, sh, 7) != free {
+    if layout::root_word(s, sh, field::ROOT_FREE_FRAMES) != free {
         return false;
     }
     levels_ok(s, sh)

@@ -10,7 +10,7 @@ use borrow.Author.Tests.{eq-eqb, ne-eqb, lt-ltb, le-ltb, ltb-true}
 use Rattle.words.specs.Pick.{pick, pick-has, both}
 use Rattle.words.specs.All.{all, all-more, all-stop}
 use Rattle.model.specs.Base.{bit}
-use Rattle.model.specs.State.{till, maxSlots}
+use Rattle.model.specs.State.{till}
 use Rattle.model.specs.Storage.{slotsOf}
 use Rattle.layout.specs.declared.Shape.{Shape}
 use Rattle.layout.specs.declared.CellWords.{CellWords}
@@ -18,6 +18,9 @@ use Rattle.layout.specs.declared.Extent.{Extent}
 use Rattle.layout.specs.Regions.{region, placeIn, in-place}
 use Rattle.layout.specs.Layout.{Mem, layout, total, head, entry, cell, load, in-cell}
 use Rattle.layout.specs.Cells.{cellAt}
+use Rattle.layout.specs.Fields.{headLifecycle, headPages, headFirstEntry, entryFrame, entryHigh, entryBusy, slotTag}
+use Rattle.layout.specs.Values.{tagVacant}
+use Rattle.layout.specs.Sizes.{pageSize, slotSize}
 use Rattle.structure.specs.Facts.{busyCells}
 use Rattle.structure.specs.Checks.{boundOf, handleC, slotC}
 use Rattle.structure.specs.Code.{sum-more}
@@ -29,30 +32,18 @@ use Rattle.survey.specs.Walk.{markedB, cellB, slotAt, frameB, onFrame, p
 
 -- ---- the slots of a page
 
-pub slots-full : (p : ℕ) → p < 262143 → 64 ≡ slotsOf till p
-unfolding maxSlots
-slots-full p h = omega arith
-
-pub slots-last : (p : ℕ) → p ≡ 262143 → 63 ≡ slotsOf till p
-unfolding maxSlots
-slots-last p h = omega arith
-
-pub slots-none : (p : ℕ) → 262143 < p → 0 ≡ slotsOf till p
-unfolding maxSlots
-slots-none p h = omega arith
-
-pub slots-few : (p n : ℕ) → n ≡ slotsOf till p → n ≤ 64
+pub slots-few : (p n : ℕ) → n ≡ slotsOf till p → n ≤ pageSize
 slots-few p n e = omega arith
 
 -- ---- a slot
 
 -- where a slot of a frame stands
-pub cell-place : (n : ℕ) (sh : Shape) (f j : ℕ) (e : Extent) (at : ℕ) → e ≡ region (layout sh) 7 → f < sh .frames → j < 64 → at ≡ e .low + (f * 64 + j) * 6 → at ≡ placeIn n e f j 0
-cell-place n sh f j e at q h k z = let p = in-place (region (layout sh) 7) f j 0 n (in-cell sh f j 0 h k (omega arith)) in
+pub cell-place : (n : ℕ) (sh : Shape) (f j : ℕ) (e : Extent) (at : ℕ) → e ≡ region (layout sh) 7 → f < sh .frames → j < pageSize → at ≡ e .low + (f * pageSize + j) * slotSize → at ≡ placeIn n e f j 0
+cell-place n sh f j e at q h k z = let p = in-place (region (layout sh) 7) f j 0 n (in-cell sh f j slotTag h k (omega arith)) in
     z ∙ rw q (omega (arith, p))
 
 -- all its words are lent
-pub cell-lent : (sh : Shape) (f j : ℕ) (e : Extent) → e ≡ region (layout sh) 7 → f < sh .frames → j < 64 → e .low + (f * 64 + j) * 6 + 6 ≤ total sh
+pub cell-lent : (sh : Shape) (f j : ℕ) (e : Extent) → e ≡ region (layout sh) 7 → f < sh .frames → j < pageSize → e .low + (f * pageSize + j) * slotSize + slotSize ≤ total sh
 cell-lent sh f j e q h k = rw q (omega arith)
 
 module _ (m : Mem) (sh : Shape) (b k life bound high : ℕ) (c : CellWords) (t : Bool) (eb : bound ≡ boundOf (sh .objects) life) (ec : t ≡ slotC bound high c) where
@@ -101,7 +92,7 @@ module _ (ws vs : List ℕ) (sh : Shape) (os : List ℕ) (ev : vs ≡ shifted ws
   pub cell-left : (f j : ℕ) (c : CellWords) → c ≡ cellAt (load vs sh) f j → c ≡ cellAt (load ws sh) f j
   cell-left f j c e = e ∙ cell-same (load ws sh) (load vs sh) off f j
 
-  pub slot-left : (b p life high f j k : ℕ) (c : CellWords) (r : Bool) → k ≡ p * 64 + j → c ≡ cellAt (load vs sh) f j → r ≡ cellB (load vs sh) sh b k life high c
+  pub slot-left : (b p life high f j k : ℕ) (c : CellWords) (r : Bool) → k ≡ p * pageSize + j → c ≡ cellAt (load vs sh) f j → r ≡ cellB (load vs sh) sh b k life high c
       → r ≡ slotAt (load ws sh) sh b p life high f j
   slot-left b p life high f j k c r ek ec q = q ∙ test-same (load ws sh) (load vs sh) off sh b k life high c ∙ rw (ek, cell-left f j c ec)
 
@@ -133,7 +124,7 @@ module _ (ws vs : List ℕ) (sh : Shape) (f j : ℕ) (ev : vs ≡ shifted ws sh 
 
 -- one more slot may be busy
 pub busy-more : (m : Mem) (f j x v y : ℕ) (c : CellWords) → x ≡ busyCells m f j → c ≡ cellAt m f j → v ≡ bit (not (eqb (c .tag) 0)) → y ≡ x + v → y ≡ busyCells m f (j + 1)
-busy-more m f j x v y c e ec q z = sum-more (λ i. bit (not (eqb (m (cell f i 0)) 0))) j x v y e (q ∙ ap (λ (d : CellWords). bit (not (eqb (d .tag) 0))) ec) z
+busy-more m f j x v y c e ec q z = sum-more (λ i. bit (not (eqb (m (cell f i slotTag)) tagVacant))) j x v y e (q ∙ ap (λ (d : CellWords). bit (not (eqb (d .tag) 0))) ec) z
 
 -- what the walk over a frame has done up to slot j: the handles counted, the slots tested, the busy ones counted
 abbrev pub Done : List ℕ → List ℕ → Shape → ℕ → ℕ → ℕ → ℕ → ℕ → ℕ → ℕ → Type 0
@@ -145,7 +136,7 @@ unfoldable pub Further : List ℕ → List ℕ → Shape → ℕ → ℕ → ℕ
 Further vs us sh b p life high f j k = (ws : List ℕ) (count : ℕ) → Done ws vs sh b p life high f j count → Done ws us sh b p life high f k (count + (k - j))
 
 -- one slot more
-pub done-more : (ws vs us : List ℕ) (sh : Shape) (b p life high f j k x v y : ℕ) (c : CellWords) (r : Bool) → Done ws vs sh b p life high f j x → c ≡ cellAt (load vs sh) f j → k ≡ p * 64 + j
+pub done-more : (ws vs us : List ℕ) (sh : Shape) (b p life high f j k x v y : ℕ) (c : CellWords) (r : Bool) → Done ws vs sh b p life high f j x → c ≡ cellAt (load vs sh) f j → k ≡ p * pageSize + j
     → r ≡ cellB (load vs sh) sh b k life high c → r ≡ true → us ≡ shifted vs sh unit (heldIn c) → v ≡ bit (not (eqb (c .tag) 0)) → y ≡ x + v → Done ws us sh b p life high f (j + 1) y
 done-more ws vs us sh b p life high f j k x v y c r d ec ek et z e ev ey = (
   noted-more ws vs sh f j (d .0) us c ec e,
@@ -158,7 +149,7 @@ module _ (vs : List ℕ) (sh : Shape) (b p life high f j : ℕ) where
   unfolding Further
   further-none ws count d = let e : count + (j - j) ≡ count = omega arith in rw e d
 
-  pub further-more : (us zs : List ℕ) (i k : ℕ) (c : CellWords) (r : Bool) → j ≤ k → Further vs us sh b p life high f j k → c ≡ cellAt (load us sh) f k → i ≡ p * 64 + k
+  pub further-more : (us zs : List ℕ) (i k : ℕ) (c : CellWords) (r : Bool) → j ≤ k → Further vs us sh b p life high f j k → c ≡ cellAt (load us sh) f k → i ≡ p * pageSize + k
       → r ≡ cellB (load us sh) sh b i life high c → r ≡ true → c .tag ≡ 3 → zs ≡ shifted us sh unit (heldIn c) → Further vs zs sh b p life high f j (k + 1)
   unfolding Further
   further-more us zs i k c r l g ec ei et z h e ws count d =
@@ -170,13 +161,13 @@ module _ (vs : List ℕ) (sh : Shape) (b p life high f j : ℕ) where
 
 -- ---- a page
 
-module _ (ws : List ℕ) (sh : Shape) (b life e p l : ℕ) (el : l ≡ load ws sh (entry (e + p) 0)) where
+module _ (ws : List ℕ) (sh : Shape) (b life e p l : ℕ) (el : l ≡ load ws sh (entry (e + p) entryFrame)) where
   -- what stands on the link, in both definitions
   test : ℕ → Bool
-  test k = onFrame k (λ f. ltb f (sh .frames) && frameB (load ws sh) sh b p life (load ws sh (entry (e + p) 1)) f (slotsOf till p) (load ws sh (entry (e + p) 2)))
+  test k = onFrame k (λ f. ltb f (sh .frames) && frameB (load ws sh) sh b p life (load ws sh (entry (e + p) entryHigh)) f (slotsOf till p) (load ws sh (entry (e + p) entryBusy)))
 
   list : ℕ → List ℕ
-  list k = onLink k (λ f. pick (ltb f (sh .frames)) (frameFound (load ws sh) sh b p life (load ws sh (entry (e + p) 1)) f (slotsOf till p)) [])
+  list k = onLink k (λ f. pick (ltb f (sh .frames)) (frameFound (load ws sh) sh b p life (load ws sh (entry (e + p) entryHigh)) f (slotsOf till p)) [])
 
   by-test : (r : Bool) → r ≡ test l → r ≡ pageB (load ws sh) sh b life e p
   unfolding pageB test
@@ -198,15 +189,15 @@ module _ (ws : List ℕ) (sh : Shape) (b life e p l : ℕ) (el : l ≡ load ws s
   page-far h k = let g = le-ltb (l - 1) (sh .frames) k in
       (by-list ws (rw (link-is h, g)), by-test false (rw (link-is h, g)))
 
-  listed : (f : ℕ) → f < sh .frames → shifted ws sh unit (frameFound (load ws sh) sh b p life (load ws sh (entry (e + p) 1)) f (slotsOf till p)) ≡ shifted ws sh unit (list (suc f))
+  listed : (f : ℕ) → f < sh .frames → shifted ws sh unit (frameFound (load ws sh) sh b p life (load ws sh (entry (e + p) entryHigh)) f (slotsOf till p)) ≡ shifted ws sh unit (list (suc f))
   unfolding list
   listed f i = rw (lt-ltb f (sh .frames) i)
 
-  tested : (f : ℕ) → f < sh .frames → frameB (load ws sh) sh b p life (load ws sh (entry (e + p) 1)) f (slotsOf till p) (load ws sh (entry (e + p) 2)) ≡ test (suc f)
+  tested : (f : ℕ) → f < sh .frames → frameB (load ws sh) sh b p life (load ws sh (entry (e + p) entryHigh)) f (slotsOf till p) (load ws sh (entry (e + p) entryBusy)) ≡ test (suc f)
   unfolding test
   tested f i = rw (lt-ltb f (sh .frames) i)
 
-  pub page-some : (high busy n : ℕ) (vs : List ℕ) (r : Bool) → (l ≡ 0 → ⊥) → l - 1 < sh .frames → high ≡ load ws sh (entry (e + p) 1) → busy ≡ load ws sh (entry (e + p) 2) → n ≡ slotsOf till p
+  pub page-some : (high busy n : ℕ) (vs : List ℕ) (r : Bool) → (l ≡ 0 → ⊥) → l - 1 < sh .frames → high ≡ load ws sh (entry (e + p) entryHigh) → busy ≡ load ws sh (entry (e + p) entryBusy) → n ≡ slotsOf till p
       → vs ≡ shifted ws sh unit (frameFound (load ws sh) sh b p life high (l - 1) n) → r ≡ frameB (load ws sh) sh b p life high (l - 1) n busy
       → (vs ≡ shifted ws sh unit (pageFound (load ws sh) sh b life e p)) × (r ≡ pageB (load ws sh) sh b life e p)
   page-some high busy n vs r h k eh eb en q t = (
@@ -229,7 +220,7 @@ module _ (sh : Shape) (d : ℕ) (P : Mem → ℕ → Bool) (same : (m n : Mem) �
   pub test-end : (ws : List ℕ) (k n : ℕ) (ok : Bool) → ok ≡ all k (P (load ws sh)) → k ≡ n → ok ≡ all n (P (load ws sh))
   test-end ws k n ok a e = a ∙ ap (λ (i : ℕ). all i (P (load ws sh))) e
 
-pub table-by : (m : Mem) (sh : Shape) (b life z e n : ℕ) (ok : Bool) → life ≡ m (head b 2) → z ≡ m (head b 5) → e ≡ m (head b 10) → n ≡ min z (sh .pages)
+pub table-by : (m : Mem) (sh : Shape) (b life z e n : ℕ) (ok : Bool) → life ≡ m (head b headLifecycle) → z ≡ m (head b headPages) → e ≡ m (head b headFirstEntry) → n ≡ min z (sh .pages)
     → ok ≡ all n (pageB m sh b life e) → ok ≡ tableB m sh b
 unfolding tableB
 table-by m sh b life z e n ok el ez ee en q = q ∙ rw (en, el, ez, ee)
@@ -238,7 +229,7 @@ pub survey-by : (m : Mem) (sh : Shape) (ok : Bool) → ok ≡ all (sh .tables) (
 unfolding surveyB
 survey-by m sh ok q = q
 
-pub found-by : (ws : List ℕ) (sh : Shape) (b life z e n : ℕ) (vs : List ℕ) → life ≡ load ws sh (head b 2) → z ≡ load ws sh (head b 5) → e ≡ load ws sh (head b 10) → n ≡ min z (sh .pages)
+pub found-by : (ws : List ℕ) (sh : Shape) (b life z e n : ℕ) (vs : List ℕ) → life ≡ load ws sh (head b headLifecycle) → z ≡ load ws sh (head b headPages) → e ≡ load ws sh (head b headFirstEntry) → n ≡ min z (sh .pages)
     → vs ≡ shifted ws sh unit (gather n (pageFound (load ws sh) sh b life e)) → vs ≡ shifted ws sh unit (tableFound (load ws sh) sh b)
 unfolding tableFound
 found-by ws sh b life z e n vs el ez ee en q = q ∙ rw (en, el, ez, ee)

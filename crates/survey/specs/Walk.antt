@@ -14,6 +14,8 @@ use Rattle.layout.specs.declared.Shape.{Shape}
 use Rattle.layout.specs.declared.CellWords.{CellWords}
 use Rattle.layout.specs.Layout.{Mem, head, entry}
 use Rattle.layout.specs.Cells.{cellAt}
+use Rattle.layout.specs.Fields.{headLifecycle, headPages, headFirstEntry, entryFrame, entryHigh, entryBusy}
+use Rattle.layout.specs.Sizes.{pageSize}
 use Rattle.structure.specs.Facts.{busyCells}
 use Rattle.structure.specs.Checks.{boundOf, slotC}
 use Rattle.ledger.specs.Ledger.{isMark, hitB, markB}
@@ -29,7 +31,7 @@ cellB m sh b k life high c = slotC (boundOf (sh .objects) life) high c && marked
 
 -- slot j of page p of table b, in frame f
 abbrev pub slotAt : Mem → Shape → ℕ → ℕ → ℕ → ℕ → ℕ → ℕ → Bool
-slotAt m sh b p life high f j = cellB m sh b (p * 64 + j) life high (cellAt m f j)
+slotAt m sh b p life high f j = cellB m sh b (p * pageSize + j) life high (cellAt m f j)
 
 -- the first n of them, of which w are busy
 unfoldable pub frameB : Mem → Shape → ℕ → ℕ → ℕ → ℕ → ℕ → ℕ → ℕ → Bool
@@ -42,11 +44,11 @@ onFrame (suc f) t = t f
 
 -- page p of table b, whose first entry is e
 unfoldable pub pageB : Mem → Shape → ℕ → ℕ → ℕ → ℕ → Bool
-pageB m sh b life e p = onFrame (m (entry (e + p) 0)) (λ f. ltb f (sh .frames) && frameB m sh b p life (m (entry (e + p) 1)) f (slotsOf till p) (m (entry (e + p) 2)))
+pageB m sh b life e p = onFrame (m (entry (e + p) entryFrame)) (λ f. ltb f (sh .frames) && frameB m sh b p life (m (entry (e + p) entryHigh)) f (slotsOf till p) (m (entry (e + p) entryBusy)))
 
 -- the pages that table b has had; there are no more than the state has entries
 unfoldable pub tableB : Mem → Shape → ℕ → Bool
-tableB m sh b = all (min (m (head b 5)) (sh .pages)) (pageB m sh b (m (head b 2)) (m (head b 10)))
+tableB m sh b = all (min (m (head b headPages)) (sh .pages)) (pageB m sh b (m (head b headLifecycle)) (m (head b headFirstEntry)))
 
 -- ALL SLOTS
 unfoldable pub surveyB : Mem → Shape → Bool
@@ -79,10 +81,10 @@ unfoldable pub frameFound : Mem → Shape → ℕ → ℕ → ℕ → ℕ → �
 frameFound m sh b p life high f n = gather (passed n (slotAt m sh b p life high f)) (inCell m f)
 
 unfoldable pub pageFound : Mem → Shape → ℕ → ℕ → ℕ → ℕ → List ℕ
-pageFound m sh b life e p = onLink (m (entry (e + p) 0)) (λ f. pick (ltb f (sh .frames)) (frameFound m sh b p life (m (entry (e + p) 1)) f (slotsOf till p)) [])
+pageFound m sh b life e p = onLink (m (entry (e + p) entryFrame)) (λ f. pick (ltb f (sh .frames)) (frameFound m sh b p life (m (entry (e + p) entryHigh)) f (slotsOf till p)) [])
 
 unfoldable pub tableFound : Mem → Shape → ℕ → List ℕ
-tableFound m sh b = gather (min (m (head b 5)) (sh .pages)) (pageFound m sh b (m (head b 2)) (m (head b 10)))
+tableFound m sh b = gather (min (m (head b headPages)) (sh .pages)) (pageFound m sh b (m (head b headLifecycle)) (m (head b headFirstEntry)))
 
 -- ---- the walk does not look at objects
 

@@ -3,10 +3,9 @@
 ghost use mathlib.Core.Path.{_≡_};
 ghost use Prim.Native.Nat.{_≤_, _<_};
 ghost use lib.ListN.{length};
-ghost use Rattle.model.specs.State.{till};
-ghost use Rattle.model.specs.Storage.{slotsOf};
 ghost use Rattle.layout.specs.Layout.{total, load as loadAt};
 ghost use Rattle.layout.specs.Cells.{cellAt};
+ghost use Rattle.layout.specs.Sizes.{pageSize};
 ghost use Rattle.structure.specs.Checks.{boundOf};
 ghost use Rattle.counts.specs.Found.{gather};
 ghost use Rattle.counts.specs.Shift.{unit, shifted};
@@ -14,19 +13,10 @@ ghost use Rattle.survey.specs.Code.{Further};
 ghost use Rattle.survey.specs.Walk.{cellB, heldIn, frameB, frameFound, pageB, pageFound, tableB, tableFound, surveyB};
 use layout::CellWords;
 use layout::Shape;
-
-// How many slots page p has: 64, and the last page of the largest table one less.
-fn slots_of(p: u32) -> u64
-    ensures { λ r. ⌜ r ≡ slotsOf till p ⌝ }
-{
-    if p < 262143 {
-        return 64;
-    }
-    if p == 262143 {
-        return 63;
-    }
-    0
-}
+use layout::field;
+use layout::place;
+use layout::size;
+use layout::value;
 
 // A slot of table b, its number k: a mark is an item of the row that it names.
 fn slot_ok(
@@ -45,10 +35,10 @@ fn slot_ok(
     if !structure::slot_ok(c, bound, high) {
         return false;
     }
-    if c.tag == 0 {
+    if c.tag == value::TAG_VACANT {
         return true;
     }
-    if c.tag >= 3 {
+    if c.tag >= value::TAG_OCCUPIED {
         return true;
     }
     ledger::mark_ok(s, sh, b, k, c.tag, c.object, c.rights)
@@ -57,19 +47,19 @@ fn slot_ok(
 // Slot j of frame f, in words that hold the whole state: no test of bounds.
 fn cell_in(s: &[u64], sh: Shape, f: u64, j: u64) -> CellWords
     requires { ⌜ f < sh .frames ⌝ }
-    requires { ⌜ j < 64 ⌝ }
+    requires { ⌜ j < pageSize ⌝ }
     requires { ⌜ total sh ≤ length (now s) ⌝ }
     ensures { λ r. ⌜ r ≡ cellAt (loadAt (now (s .entry)) sh) f j ⌝ }
 {
     let e = layout::region_of(sh, layout::CELL);
-    let at = (e.low + (f * 64 + j) * 6) as usize;
+    let at = (e.low + (f * size::PAGE_SIZE + j) * size::SLOT_SIZE) as usize;
     CellWords {
         tag: s[at],
-        generation: s[at + 1],
-        object: s[at + 2],
-        rights: s[at + 3],
-        flags: s[at + 4],
-        unused: s[at + 5],
+        generation: s[at + place::SLOT_GENERATION],
+        object: s[at + place::SLOT_OBJECT],
+        rights: s[at + place::SLOT_RIGHTS],
+        flags: s[at + place::SLOT_FLAGS],
+        unused: s[at + place::SLOT_UNUSED],
     }
 }
 
@@ -79,7 +69,7 @@ fn note_slot(s: &mut [u64], sh: Shape, c: CellWords)
     requires { ⌜ total sh ≤ length (now s) ⌝ }
     ensures { λ _. ⌜ now (s .exit) ≡ shifted (now (s .entry)) sh unit (heldIn c) ⌝ }
 {
-    if c.tag == 3 {
+    if c.tag == value::TAG_OCCUPIED {
         counts::note_handle(s, sh, c.object);
     }
 }
@@ -98,16 +88,16 @@ fn walk_held(
     n: u64,
 ) -> u64
     requires { ⌜ bound ≡ boundOf (sh .objects) life ⌝ }
-    requires { ⌜ (n ≤ 64) × (f < sh .frames) × (from ≤ n) ⌝ }
+    requires { ⌜ (n ≤ pageSize) × (f < sh .frames) × (from ≤ n) ⌝ }
     requires { ⌜ total sh ≤ length (now s) ⌝ }
     ensures noted { λ r. ⌜ Further (now (s .entry)) (now (s .exit)) sh b p life high f from r ⌝ }
     ensures within { λ r. ⌜ (from ≤ r) × (r ≤ n) ⌝ }
 {
-    let first = (p as u64) * 64;
+    let first = (p as u64) * size::PAGE_SIZE;
     let mut j = from;
     while j < n {
         let c = cell_in(s, sh, f, j);
-        if c.tag != 3 {
+        if c.tag != value::TAG_OCCUPIED {
             return j;
         }
         if !slot_ok(s, sh, b, first + j, life, bound, high, c) {
@@ -131,13 +121,13 @@ fn walk_frame(
     n: u64,
     w: u64,
 ) -> bool
-    requires { ⌜ (n ≤ 64) × (f < sh .frames) ⌝ }
+    requires { ⌜ (n ≤ pageSize) × (f < sh .frames) ⌝ }
     requires { ⌜ total sh ≤ length (now s) ⌝ }
     ensures noted { λ _. ⌜ now (s .exit) ≡ shifted (now (s .entry)) sh unit (frameFound (loadAt (now (s .entry)) sh) sh b p life high f n) ⌝ }
     ensures answer { λ r. ⌜ r ≡ frameB (loadAt (now (s .entry)) sh) sh b p life high f n w ⌝ }
 {
     let bound = structure::bound_of(sh.objects as u64, life);
-    let first = (p as u64) * 64;
+    let first = (p as u64) * size::PAGE_SIZE;
     let mut count: u64 = 0;
     let mut j: u64 = 0;
     while j < n {
@@ -164,7 +154,7 @@ fn walk_page(s: &mut [u64], sh: Shape, b: u64, life: u64, e: u64, p: u32) -> boo
     ensures answer { λ r. ⌜ r ≡ pageB (loadAt (now (s .entry)) sh) sh b life e p ⌝ }
 {
     let q = p as u64;
-    let link = storage::page_word(s, sh, e, q, 0);
+    let link = storage::page_word(s, sh, e, q, field::ENTRY_FRAME);
     if link == 0 {
         return true;
     }
@@ -172,9 +162,10 @@ fn walk_page(s: &mut [u64], sh: Shape, b: u64, life: u64, e: u64, p: u32) -> boo
     if f >= sh.frames as u64 {
         return false;
     }
-    let high = storage::page_word(s, sh, e, q, 1);
-    let busy = storage::page_word(s, sh, e, q, 2);
-    walk_frame(s, sh, b, p, life, high, f, slots_of(p), busy)
+    let high = storage::page_word(s, sh, e, q, field::ENTRY_HIGH);
+    let busy = storage::page_word(s, sh, e, q, field::ENTRY_BUSY);
+    let n = head::slots_of(q) as u64;
+    walk_frame(s, sh, b, p, life, high, f, n, busy)
 }
 
 // The pages of table b.
@@ -183,9 +174,9 @@ fn walk_table(s: &mut [u64], sh: Shape, b: u64) -> bool
     ensures noted { λ _. ⌜ now (s .exit) ≡ shifted (now (s .entry)) sh unit (tableFound (loadAt (now (s .entry)) sh) sh b) ⌝ }
     ensures answer { λ r. ⌜ r ≡ tableB (loadAt (now (s .entry)) sh) sh b ⌝ }
 {
-    let life = layout::head_word(s, sh, b, 2);
-    let size = layout::head_word(s, sh, b, 5);
-    let e = layout::head_word(s, sh, b, 10);
+    let life = layout::head_word(s, sh, b, field::HEAD_LIFECYCLE);
+    let size = layout::head_word(s, sh, b, field::HEAD_PAGES);
+    let e = layout::head_word(s, sh, b, field::HEAD_FIRST_ENTRY);
     let n = words::smaller(size, sh.pages as u64);
     let mut ok = true;
     let mut p: u32 = 0;

@@ -8,6 +8,7 @@ use lib.Dec.{eqb, ltb}
 use Rattle.words.specs.Pick.{pick, yes-is, no-is}
 use Rattle.layout.specs.declared.Shape.{Shape}
 use Rattle.layout.specs.Layout.{Mem, root, head, index, row, load, writes}
+use Rattle.layout.specs.Fields.{rootUsedRows, headLifecycle, headCursor, slotObject, rowKind, rowTable}
 use Rattle.head.specs.declared.TableHead.{TableHead}
 use Rattle.head.specs.Head.{headAt, withLife, lifeP}
 use Rattle.representation.specs.Represents.{slotWord}
@@ -24,7 +25,7 @@ use Rattle.lookup.specs.Scan.{entryOf, entryWords}
 use Rattle.teardown.specs.Ops.{nextLink, removeW, lifeW, opensAt, openFrom, openIn, tearing, stoppedR, stoppingR, teardownStartR, tornR, teardownStepR, teardownFinishR}
 
 -- `remove_slot`
-pub remove-by : (ws w₁ w₂ : List ℕ) (sh : Shape) (b k o : ℕ) → o ≡ slotWord (load ws sh) b k 2 → w₁ ≡ vacateW ws sh b k → w₂ ≡ lowerW w₁ sh o → w₂ ≡ removeW ws sh b k
+pub remove-by : (ws w₁ w₂ : List ℕ) (sh : Shape) (b k o : ℕ) → o ≡ slotWord (load ws sh) b k slotObject → w₁ ≡ vacateW ws sh b k → w₂ ≡ lowerW w₁ sh o → w₂ ≡ removeW ws sh b k
 unfolding removeW
 remove-by ws w₁ w₂ sh b k o e p q = rw (q, p, e)
 
@@ -39,7 +40,7 @@ read-test x w n t e q = sym (q ∙ ap (λ (z : ℕ). eqb z n) e)
 
 -- ---- `opens_in`
 
-module _ (m : Mem) (b x what table : ℕ) (ew : what ≡ m (row x 1)) (et : table ≡ m (row x 2)) (t₁ : Bool) (q₁ : t₁ ≡ eqb what 1) where
+module _ (m : Mem) (b x what table : ℕ) (ew : what ≡ m (row x rowKind)) (et : table ≡ m (row x rowTable)) (t₁ : Bool) (q₁ : t₁ ≡ eqb what 1) where
   pub opens-reservation : (r : Bool) → t₁ ≡ true → r ≡ eqb b table → r ≡ opensAt m b x
   unfolding opensAt
   opens-reservation r y e = yes-is _ _ _ _ (read-test _ _ _ _ ew q₁ ∙ y) (e ∙ ap (eqb b) et)
@@ -55,7 +56,7 @@ module _ (m : Mem) (b x what table : ℕ) (ew : what ≡ m (row x 1)) (et : tabl
 
 -- ---- `any_open`
 
-pub open-start : (m : Mem) (sh : Shape) (b u n : ℕ) → u ≡ m (root 6) → n ≡ min u (sh .rows) → openIn m sh b ≡ openFrom m b 0 (n - 0)
+pub open-start : (m : Mem) (sh : Shape) (b u n : ℕ) → u ≡ m (root rootUsedRows) → n ≡ min u (sh .rows) → openIn m sh b ≡ openFrom m b 0 (n - 0)
 unfolding openIn
 open-start m sh b u n d e = let z : n - 0 ≡ usedOf m sh = omega (arith, ap (λ (v : ℕ). min v (sh .rows)) d) in rw z
 
@@ -80,7 +81,7 @@ module _ (m : Mem) (sh : Shape) (b : ℕ) (t : Bool) (e : t ≡ ltb b (sh .table
   unfolding tearing
   tearing-unknown n = no-is _ _ _ _ (sym e ∙ n) refl
 
-  pub tearing-known : (w : ℕ) (r : Bool) → t ≡ true → w ≡ m (head b 2) → r ≡ eqb w 1 → r ≡ tearing m sh b
+  pub tearing-known : (w : ℕ) (r : Bool) → t ≡ true → w ≡ m (head b headLifecycle) → r ≡ eqb w 1 → r ≡ tearing m sh b
   unfolding tearing
   tearing-known w r y d q = yes-is _ _ _ _ (sym e ∙ y) (sym (read-test _ _ _ _ d q))
 
@@ -101,7 +102,7 @@ module _ (ws os : List ℕ) (sh : Shape) (base b c : ℕ) (t : Bool) (e : t ≡ 
   unfolding stoppingR
   stopping-unknown os′ n q = no-is _ _ _ _ (sym e ∙ n) (ap (both ws) q)
 
-  module _ (y : t ≡ true) (w : ℕ) (ew : w ≡ load ws sh (head b 2)) (u : Bool) (eu : u ≡ eqb w 0) where
+  module _ (y : t ≡ true) (w : ℕ) (ew : w ≡ load ws sh (head b headLifecycle)) (u : Bool) (eu : u ≡ eqb w 0) where
     pub stopping-active : (ws′ os′ : List ℕ) → u ≡ true → both ws′ os′ ≡ stoppedR ws os sh base b c → both ws′ os′ ≡ stoppingR ws os sh base b c
     unfolding stoppingR
     stopping-active ws′ os′ z q = yes-is _ _ _ _ (sym e ∙ y) (yes-is _ _ _ _ (read-test _ _ _ _ ew eu ∙ z) q)
@@ -128,8 +129,8 @@ module _ (ws os : List ℕ) (sh : Shape) (base b n : ℕ) (en : n ≡ tableRefus
 
 -- ---- `remove_tearing`, `remove_next`
 
-module _ (ws os : List ℕ) (sh : Shape) (base b c n : ℕ) (ec : c ≡ load ws sh (head b 3)) (en : n ≡ nextLink (load ws sh) b c) (t : Bool) (et : t ≡ eqb n 0) where
-  next-is : n ≡ nextLink (load ws sh) b (load ws sh (head b 3))
+module _ (ws os : List ℕ) (sh : Shape) (base b c n : ℕ) (ec : c ≡ load ws sh (head b headCursor)) (en : n ≡ nextLink (load ws sh) b c) (t : Bool) (et : t ≡ eqb n 0) where
+  next-is : n ≡ nextLink (load ws sh) b (load ws sh (head b headCursor))
   next-is = en ∙ ap (nextLink (load ws sh) b) ec
 
   pub torn-none : (os′ : List ℕ) → t ≡ true → os′ ≡ answered os base (0 ∷ 0 ∷ []) → both ws os′ ≡ tornR ws os sh base b

@@ -14,6 +14,8 @@ use Rattle.invariant.specs.Orders.{recast}
 use Rattle.layout.specs.declared.Shape.{Shape}
 use Rattle.layout.specs.Layout.{Mem, cell, head, load, Write, Write.at, upds, in-head, length-writes, load-writes}
 use Rattle.layout.specs.ShapeOf.{roots-kept}
+use Rattle.layout.specs.Fields.{headLifecycle, headCursor, headFirstFree, slotTag, slotGeneration, slotNextFree, slotPreviousFree, slotObject, slotRights, slotFlags}
+use Rattle.layout.specs.Sizes.{pageSize}
 use Rattle.representation.specs.Represents.{wordIn, frameOf, slotWord, slotFrom, slotIn, LifeIs, TableIs, Represents}
 use Rattle.storage.specs.Order.{chain-frame}
 use Rattle.storage.specs.Slots.{tagged-rows}
@@ -25,7 +27,7 @@ use Rattle.teardown.specs.Ops.{lifeW}
 module _ (m : Mem) (b w c : ℕ) where
   -- the memory then: every other address computes to its word in m
   abbrev lived : Mem
-  lived = upds m (at (head b 2) w ∷ at (head b 3) c ∷ [])
+  lived = upds m (at (head b headLifecycle) w ∷ at (head b headCursor) c ∷ [])
 
   stay : RowsStay m lived
   stay = record { places = λ i. refl; ranks = λ i. refl; rows = λ i f. refl; items = λ i j f. refl }
@@ -33,19 +35,19 @@ module _ (m : Mem) (b w c : ℕ) where
   word-kept : (a k f : ℕ) → slotWord lived a k f ≡ slotWord m a k f
   word-kept a k f = go (frameOf m a k)
     where
-      go : (fr : ℕ) → wordIn lived fr (k % 64) f ≡ wordIn m fr (k % 64) f
+      go : (fr : ℕ) → wordIn lived fr (k % pageSize) f ≡ wordIn m fr (k % pageSize) f
       go zero = refl
       go (suc fr) = refl
 
   slot-kept : (a k : ℕ) → slotIn lived a k ≡ slotIn m a k
   slot-kept a k = go (frameOf m a k)
     where
-      go : (fr : ℕ) → slotFrom lived fr (k % 64) ≡ slotFrom m fr (k % 64)
+      go : (fr : ℕ) → slotFrom lived fr (k % pageSize) ≡ slotFrom m fr (k % pageSize)
       go zero = refl
-      go (suc fr) = let j : ℕ = k % 64 in tagged-rows m lived (λ r. refl) (m (cell fr j 0)) (m (cell fr j 1)) (m (cell fr j 2)) (m (cell fr j 3)) (m (cell fr j 4))
+      go (suc fr) = let j : ℕ = k % pageSize in tagged-rows m lived (λ r. refl) (m (cell fr j slotTag)) (m (cell fr j slotGeneration)) (m (cell fr j slotObject)) (m (cell fr j slotRights)) (m (cell fr j slotFlags))
 
   -- a table, with the lifecycle that its head shows
-  table-lived : (a : ℕ) (t : Table) (x : Lifecycle) → TableIs m a t → LifeIs (lived (head a 2)) (lived (head a 3)) x → TableIs lived a (withLife t x)
+  table-lived : (a : ℕ) (t : Table) (x : Lifecycle) → TableIs m a t → LifeIs (lived (head a headLifecycle)) (lived (head a headCursor)) x → TableIs lived a (withLife t x)
   table-lived a t x i l = record {
     limit = i .limit;
     mask = i .mask;
@@ -56,7 +58,7 @@ module _ (m : Mem) (b w c : ℕ) where
     high = i .high;
     busy = i .busy;
     slots = λ k. slot-kept a k ∙ i .slots k;
-    free = chain-frame (λ k. slotWord m a k 2) (λ k. slotWord m a k 3) _ _ (m (head a 6)) 0 (t .free) (i .free) (λ k h. (word-kept a k 2, word-kept a k 3));
+    free = chain-frame (λ k. slotWord m a k slotNextFree) (λ k. slotWord m a k slotPreviousFree) _ _ (m (head a headFirstFree)) 0 (t .free) (i .free) (λ k h. (word-kept a k 2, word-kept a k 3));
     freeCount = i .freeCount;
     empty = i .empty;
     detached = i .detached;
@@ -99,10 +101,10 @@ module _ (ws : List ℕ) (sh : Shape) (s : State) (h : Held ws sh s) (b : ℕ) (
   pub life-held : Held (lifeW ws sh b w c) sh (withTable s b (withLife (s .tables b) x))
   unfolding lifeW
   life-held =
-      let xs : List Write = at (head b 2) w ∷ at (head b 3) c ∷ [] in
+      let xs : List Write = at (head b headLifecycle) w ∷ at (head b headCursor) c ∷ [] in
       let k : b < sh .tables = omega (arith, h .reps .memory .tableCount) in
       let q = h .reps .shaped in
-      let e = load-writes ws sh (q .room) xs (in-head sh b 2 k (omega arith), (in-head sh b 3 k (omega arith), tt)) in
+      let e = load-writes ws sh (q .room) xs (in-head sh b headLifecycle k (omega arith), (in-head sh b headCursor k (omega arith), tt)) in
       record {
         reps = record {
           shaped = record {

@@ -22,6 +22,8 @@ use Rattle.model.specs.Words.{infoWords, usedWords}
 use Rattle.invariant.specs.StorageViews.{next-occupied}
 use Rattle.layout.specs.declared.Shape.{Shape}
 use Rattle.layout.specs.Layout.{Mem, head, load}
+use Rattle.layout.specs.Fields.{headLifecycle, headCursor, slotTag, slotGeneration, slotObject}
+use Rattle.layout.specs.Values.{lifeActive}
 use Rattle.representation.specs.Represents.{linkOf, slotWord, LifeIs, TableIs, Rep}
 use Rattle.representation.specs.Told.{life-tells}
 use Rattle.storage.specs.Ops.{vacateW}
@@ -69,16 +71,16 @@ module _ (ws : List ℕ) (sh : Shape) (s : State) (i : Rep ws sh s) where
 
     module _ (k : ℕ) (q : isOccupied (s .tables b .slots k) ≡ true) where
       -- by the words
-      slot-is : s .tables b .slots k ≡ occupied (slotWord (load ws sh) b k 1) (handleOf (handleAt (load ws sh) b k))
-      slot-is = sym (its-table .slots k) ∙ slot-occupied (load ws sh) b k (eqb-true (slotWord (load ws sh) b k 0) 3 (slot-tells (load ws sh) b k ∙ ap isOccupied (its-table .slots k) ∙ q))
+      slot-is : s .tables b .slots k ≡ occupied (slotWord (load ws sh) b k slotGeneration) (handleOf (handleAt (load ws sh) b k))
+      slot-is = sym (its-table .slots k) ∙ slot-occupied (load ws sh) b k (eqb-true (slotWord (load ws sh) b k slotTag) 3 (slot-tells (load ws sh) b k ∙ ap isOccupied (its-table .slots k) ∙ q))
 
-      known : slotWord (load ws sh) b k 2 < s .objectCount
-      known = object-known s (i .wellFormed) b l k (slotWord (load ws sh) b k 1) (handleOf (handleAt (load ws sh) b k)) slot-is
+      known : slotWord (load ws sh) b k slotObject < s .objectCount
+      known = object-known s (i .wellFormed) b l k (slotWord (load ws sh) b k slotGeneration) (handleOf (handleAt (load ws sh) b k)) slot-is
 
       remove-held : Held (removeW ws sh b k) sh (release (withTable s b (vacate till (s .tables b) k)) (handleOr (s .tables b .slots k) ∷ []))
       unfolding removeW
       remove-held = rw slot-is (lower-held (vacateW ws sh b k) sh (withTable s b (vacate till (s .tables b) k))
-          (vacate-held ws sh s (held-of ws sh s i) b l k (ap isBusy slot-is)) (slotWord (load ws sh) b k 2) known)
+          (vacate-held ws sh s (held-of ws sh s i) b l k (ap isBusy slot-is)) (slotWord (load ws sh) b k slotObject) known)
 
       info-tells : infoList (infoAt (load ws sh) (handleAt (load ws sh) b k)) ≡ infoWords (infoFor s (handleOr (s .tables b .slots k)))
       info-tells = rw slot-is (info-is sh (load ws sh) s (i .reps .memory) (handleAt (load ws sh) b k) known)
@@ -98,21 +100,21 @@ module _ (ws : List ℕ) (sh : Shape) (s : State) (i : Rep ws sh s) where
         (next-is (load ws sh) b (s .tables b) its-table c ∙ ap linkOf e ∙ z, ap isOccupied (next-occupied till (s .tables b) c k e .1))
 
   -- a table that is tearing down, and any other
-  tears : (b : ℕ) → tearing (load ws sh) sh b ≡ true → (b < s .tableCount) × (s .tables b .life ≡ tearingDown (load ws sh (head b 3)))
+  tears : (b : ℕ) → tearing (load ws sh) sh b ≡ true → (b < s .tableCount) × (s .tables b .life ≡ tearingDown (load ws sh (head b headCursor)))
   unfolding tearing
   tears b e = bool (ltb b (sh .tables))
       (λ p. let l : b < s .tableCount = omega (arith, ltb-true b (sh .tables) p, i .reps .memory .tableCount) in
-      (l, life-tearing (load ws sh (head b 2)) (load ws sh (head b 3)) (s .tables b .life) (its-table b l .life) (rw p at e)))
+      (l, life-tearing (load ws sh (head b headLifecycle)) (load ws sh (head b headCursor)) (s .tables b .life) (its-table b l .life) (rw p at e)))
       (λ p. clash {b = false} (rw p at e) refl)
 
-  tears-on : (b : ℕ) → tearing (load ws sh) sh b ≡ true → (f : Table → ℕ → Decision) → (table b of s refuse 18 then λ t. teardownCursor t .life refuse 18 then f t) ≡ f (s .tables b) (load ws sh (head b 3))
+  tears-on : (b : ℕ) → tearing (load ws sh) sh b ≡ true → (f : Table → ℕ → Decision) → (table b of s refuse 18 then λ t. teardownCursor t .life refuse 18 then f t) ≡ f (s .tables b) (load ws sh (head b headCursor))
   tears-on b e f = let q = tears b e in rw (lt-ltb b (s .tableCount) (q .0), q .1)
 
   tears-not : (b : ℕ) → tearing (load ws sh) sh b ≡ false → (f : Table → ℕ → Decision) → (table b of s refuse 18 then λ t. teardownCursor t .life refuse 18 then f t) ≡ refusal 18
   unfolding tearing
   tears-not b e f = bool (ltb b (sh .tables))
       (λ p. let l : b < s .tableCount = omega (arith, ltb-true b (sh .tables) p, i .reps .memory .tableCount) in
-      rw (lt-ltb b (s .tableCount) l) (life-out (load ws sh (head b 2)) (load ws sh (head b 3)) (s .tables b .life) (its-table b l .life) (rw p at e) (f (s .tables b))))
+      rw (lt-ltb b (s .tableCount) l) (life-out (load ws sh (head b headLifecycle)) (load ws sh (head b headCursor)) (s .tables b .life) (its-table b l .life) (rw p at e) (f (s .tables b))))
       (λ p. rw (le-ltb b (s .tableCount) (omega (arith, ltb-false b (sh .tables) p, i .reps .memory .tableCount))))
 
 -- ---- the requests
@@ -147,7 +149,7 @@ module _ (ws : List ℕ) (sh : Shape) (s : State) (i : Rep ws sh s) (os : List �
   unfolding stoppingR decide removeStoppingOwnerOf usedWords
   removeStoppingOwner-does c = bool (ltb b (sh .tables))
       (λ e. let l : b < s .tableCount = omega (arith, ltb-true b (sh .tables) e, i .reps .memory .tableCount) in
-      let d : eqb (m (head b 2)) 0 ≡ isActive (t .life) = life-tells (m (head b 2)) (m (head b 3)) (t .life) (its-table ws sh s i b l .life) in
+      let d : eqb (m (head b headLifecycle)) lifeActive ≡ isActive (t .life) = life-tells (m (head b headLifecycle)) (m (head b headCursor)) (t .life) (its-table ws sh s i b l .life) in
       bool (isActive (t .life))
       (λ a. rw (e, d, a) (stopped-does c (record { known = l; active = a })))
       (λ a. rw (e, d, a) (does-accepted os sh base s (removeStoppingOwner b c) ws s (removed none c) (i .reps) (rw (lt-ltb b (s .tableCount) l, a)))))
@@ -172,19 +174,19 @@ module _ (ws : List ℕ) (sh : Shape) (s : State) (i : Rep ws sh s) (os : List �
   -- of a table that is tearing down
   torn-does : tearing m sh b ≡ true → Does ws os sh base s (teardownStep b) (tornR ws os sh base b)
   unfolding tornR decide teardownStepOf usedWords
-  torn-does y = go (nextOccupied till t (m (head b 3))) refl
+  torn-does y = go (nextOccupied till t (m (head b headCursor))) refl
     where
       l : b < s .tableCount
       l = tears ws sh s i b y .0
 
-      decided : (x : Option ℕ) → nextOccupied till t (m (head b 3)) ≡ x → decide till s (teardownStep b) ≡ tearAt till s b t x
+      decided : (x : Option ℕ) → nextOccupied till t (m (head b headCursor)) ≡ x → decide till s (teardownStep b) ≡ tearAt till s b t x
       decided x e = tears-on ws sh s i b y (λ u c. tearAt till s b u (nextOccupied till u c)) ∙ ap (λ (z : Option ℕ). tearAt till s b t z) e
 
-      go : (x : Option ℕ) → nextOccupied till t (m (head b 3)) ≡ x → Does ws os sh base s (teardownStep b) (tornR ws os sh base b)
-      go none e = rw (next-none ws sh s i b l (m (head b 3)) e)
+      go : (x : Option ℕ) → nextOccupied till t (m (head b headCursor)) ≡ x → Does ws os sh base s (teardownStep b) (tornR ws os sh base b)
+      go none e = rw (next-none ws sh s i b l (m (head b headCursor)) e)
           (does-accepted os sh base s (teardownStep b) ws s (closed none) (i .reps) (decided none e))
       go (some k) e =
-          let q = next-some ws sh s i b l (m (head b 3)) k e in
+          let q = next-some ws sh s i b l (m (head b headCursor)) k e in
           let z : k + 1 - 1 ≡ k = omega arith in
           rw (q .0, z, ne-eqb (k + 1) 0 (λ d. omega arith), info-tells ws sh s i b l k (q .1))
           (does-accepted os sh base s (teardownStep b) (lifeW (removeW ws sh b k) sh b 1 (k + 1)) _ (closed (some (infoFor s (handleOr (t .slots k)))))

@@ -13,6 +13,8 @@ use Rattle.model.specs.State.{till, Slot, Table, isOccupied, maxSlots}
 use Rattle.model.specs.Storage.{firstOccupied}
 use Rattle.model.specs.Step.{nextOccupied}
 use Rattle.layout.specs.Layout.{Mem, head, entry, cell}
+use Rattle.layout.specs.Fields.{headPages, entryFrame, slotTag}
+use Rattle.layout.specs.Sizes.{pageSize, slotsMax}
 use Rattle.representation.specs.Represents.{entryAt, linkOf, wordIn, frameOf, slotFrom, slotIn, TableIs}
 use Rattle.lookup.specs.Named.{slot-tells}
 use Rattle.lookup.specs.Scan.{lengthAt}
@@ -43,24 +45,24 @@ module _ (f : ℕ → Slot) where
 -- ---- the table's slots
 
 -- slots of one page, below the last slot: one without frame, all without
-page-empty : (m : Mem) (b k j : ℕ) → k < maxSlots → frameOf m b k ≡ 0 → j / 64 ≡ k / 64 → frameOf m b j ≡ 0
+page-empty : (m : Mem) (b k j : ℕ) → k < maxSlots → frameOf m b k ≡ 0 → j / pageSize ≡ k / pageSize → frameOf m b j ≡ 0
 page-empty m b k j l e q =
-    let z : pick (ltb (k / 64) (m (head b 5))) (m (entry (entryAt m b (k / 64)) 0)) 0 ≡ 0 = rw (lt-ltb k maxSlots l) at e in
+    let z : pick (ltb (k / pageSize) (m (head b headPages))) (m (entry (entryAt m b (k / pageSize)) entryFrame)) 0 ≡ 0 = rw (lt-ltb k maxSlots l) at e in
     rw q (bool (ltb j maxSlots) (λ p. rw p z) (λ p. rw p))
 
 -- a slot without frame is not occupied
 no-frame : (m : Mem) (b k : ℕ) → frameOf m b k ≡ 0 → isOccupied (slotIn m b k) ≡ false
-no-frame m b k e = ap (λ (fr : ℕ). isOccupied (slotFrom m fr (k % 64))) e
+no-frame m b k e = ap (λ (fr : ℕ). isOccupied (slotFrom m fr (k % pageSize))) e
 
 -- the tag in a frame that there is
-frame-word : (m : Mem) (j x fr g tag : ℕ) → fr ≡ x → (fr ≡ 0 → ⊥) → g ≡ fr - 1 → tag ≡ m (cell g j 0) → tag ≡ wordIn m x j 0
+frame-word : (m : Mem) (j x fr g tag : ℕ) → fr ≡ x → (fr ≡ 0 → ⊥) → g ≡ fr - 1 → tag ≡ m (cell g j slotTag) → tag ≡ wordIn m x j slotTag
 frame-word m j zero fr g tag e n d q = absurd (n e)
-frame-word m j (suc f) fr g tag e n d q = let z : g ≡ f = omega arith in q ∙ ap (λ (y : ℕ). m (cell y j 0)) z
+frame-word m j (suc f) fr g tag e n d q = let z : g ≡ f = omega arith in q ∙ ap (λ (y : ℕ). m (cell y j slotTag)) z
 
 -- ---- the loop of `next_occupied`
 
 -- no table has more slots than there are
-pub length-few : (m : Mem) (b long : ℕ) → long ≡ lengthAt m b → long ≤ 16777215
+pub length-few : (m : Mem) (b long : ℕ) → long ≡ lengthAt m b → long ≤ slotsMax
 unfolding maxSlots
 length-few m b long e = omega arith
 
@@ -74,20 +76,20 @@ module _ (m : Mem) (b c k long : ℕ) (inv : nextLink m b c ≡ linkOf (firstOcc
 
   module _ (l : k < long) (fr : ℕ) (t : Bool) (ef : fr ≡ frameOf m b k) (et : t ≡ eqb fr 0) where
     -- the page has no frame
-    pub next-page : long ≡ lengthAt m b → t ≡ true → nextLink m b c ≡ linkOf (firstOccupied (slotIn m b) ((k / 64 + 1) * 64) (long - (k / 64 + 1) * 64))
+    pub next-page : long ≡ lengthAt m b → t ≡ true → nextLink m b c ≡ linkOf (firstOccupied (slotIn m b) ((k / pageSize + 1) * pageSize) (long - (k / pageSize + 1) * pageSize))
     next-page e y =
         let bare : frameOf m b k ≡ 0 = sym ef ∙ eqb-true fr 0 (sym et ∙ y) in
-        let n : ℕ = (k / 64 + 1) * 64 - k in
-        let a : k + n ≡ (k / 64 + 1) * 64 = omega arith in
-        let z : long - k - n ≡ long - (k / 64 + 1) * 64 = omega arith in
-        let w : firstOccupied (slotIn m b) k (long - k) ≡ firstOccupied (slotIn m b) ((k / 64 + 1) * 64) (long - (k / 64 + 1) * 64)
+        let n : ℕ = (k / pageSize + 1) * pageSize - k in
+        let a : k + n ≡ (k / pageSize + 1) * pageSize = omega arith in
+        let z : long - k - n ≡ long - (k / pageSize + 1) * pageSize = omega arith in
+        let w : firstOccupied (slotIn m b) k (long - k) ≡ firstOccupied (slotIn m b) ((k / pageSize + 1) * pageSize) (long - (k / pageSize + 1) * pageSize)
         = rw (a, z) at (walk-skip (slotIn m b) n k (long - k) (λ j p u. no-frame m b j (page-empty m b k j (omega (arith, e)) bare (omega arith)))) in
         inv ∙ ap linkOf w
 
     -- it has one: the slot's tag tells
-    module _ (framed : t ≡ false) (g tag : ℕ) (u : Bool) (eg : g ≡ fr - 1) (ew : tag ≡ m (cell g (k % 64) 0)) (eu : u ≡ eqb tag 3) where
+    module _ (framed : t ≡ false) (g tag : ℕ) (u : Bool) (eg : g ≡ fr - 1) (ew : tag ≡ m (cell g (k % pageSize) slotTag)) (eu : u ≡ eqb tag 3) where
       tag-tells : isOccupied (slotIn m b k) ≡ u
-      tag-tells = sym (slot-tells m b k) ∙ ap (λ (x : ℕ). eqb x 3) (sym (frame-word m (k % 64) (frameOf m b k) fr g tag ef (eqb-false fr 0 (sym et ∙ framed)) eg ew)) ∙ sym eu
+      tag-tells = sym (slot-tells m b k) ∙ ap (λ (x : ℕ). eqb x 3) (sym (frame-word m (k % pageSize) (frameOf m b k) fr g tag ef (eqb-false fr 0 (sym et ∙ framed)) eg ew)) ∙ sym eu
 
       pub next-hit : u ≡ true → k + 1 ≡ nextLink m b c
       next-hit y = let z : k + 1 ≡ suc k = omega arith in
@@ -105,4 +107,4 @@ unfolding nextLink
 next-is m b t i c =
     let f : slotIn m b ≡ t .slots = fun-ext (i .slots) in
     ap (λ (g : ℕ → Slot). linkOf (firstOccupied g c (lengthAt m b - c))) f
-    ∙ ap (λ (n : ℕ). linkOf (firstOccupied (t .slots) c (min (n * 64) maxSlots - c))) (i .size)
+    ∙ ap (λ (n : ℕ). linkOf (firstOccupied (t .slots) c (min (n * pageSize) maxSlots - c))) (i .size)

@@ -8,6 +8,9 @@ ghost use Rattle.layout.specs.Layout.{load as loadAt};
 ghost use Rattle.answer.specs.Does.{both};
 ghost use Rattle.teardown.specs.Ops.{nextLink, removeW, lifeW, opensAt, openIn, tearing, stoppedR, stoppingR, teardownStartR, tornR, teardownStepR, teardownFinishR};
 use layout::Shape;
+use layout::field;
+use layout::size;
+use layout::value;
 
 // The first occupied slot of table b from a slot on, plus 1; 0 for none. A page without frame is passed over as a whole.
 pub fn next_occupied(s: &[u64], sh: Shape, b: u64, start: u64) -> u64
@@ -18,11 +21,11 @@ pub fn next_occupied(s: &[u64], sh: Shape, b: u64, start: u64) -> u64
     while k < length {
         let fr = storage::frame_link(s, sh, b, k);
         if words::eq(fr, 0) {
-            k = (k / 64 + 1) * 64;
+            k = (k / size::PAGE_SIZE + 1) * size::PAGE_SIZE;
             continue;
         }
-        let tag = layout::cell_word(s, sh, words::dec(fr), k % 64, 0);
-        if words::eq(tag, lookup::OCCUPIED) {
+        let tag = layout::cell_word(s, sh, words::dec(fr), k % size::PAGE_SIZE, field::SLOT_TAG);
+        if words::eq(tag, value::TAG_OCCUPIED) {
             return k + 1;
         }
         k += 1;
@@ -34,7 +37,7 @@ pub fn next_occupied(s: &[u64], sh: Shape, b: u64, start: u64) -> u64
 fn remove_slot(s: &mut [u64], sh: Shape, b: u64, k: u64)
     ensures { λ _. ⌜ now (s .exit) ≡ removeW (now (s .entry)) sh b k ⌝ }
 {
-    let object = storage::slot_word(s, sh, b, k, 2);
+    let object = storage::slot_word(s, sh, b, k, field::SLOT_OBJECT);
     storage::vacate(s, sh, b, k);
     object::lower_object(s, sh, object);
 }
@@ -95,7 +98,10 @@ pub fn remove_stopping_owner(
     ensures { λ _. ⌜ both (now (s .exit)) (now (out .exit)) ≡ stoppingR (now (s .entry)) (now (out .entry)) sh base b cursor ⌝ }
 {
     if words::lt(b, sh.tables as u64) {
-        if words::eq(layout::head_word(s, sh, b, 2), 0) {
+        if words::eq(
+            layout::head_word(s, sh, b, field::HEAD_LIFECYCLE),
+            value::LIFE_ACTIVE,
+        ) {
             remove_stopping(s, sh, b, cursor, out, base);
             return;
         }
@@ -109,12 +115,12 @@ pub fn remove_stopping_owner(
 fn opens_in(s: &[u64], sh: Shape, b: u64, x: u64) -> bool
     ensures { λ r. ⌜ r ≡ opensAt (loadAt (now (s .entry)) sh) b x ⌝ }
 {
-    let what = layout::row_word(s, sh, x, 1);
-    let table = layout::row_word(s, sh, x, 2);
-    if words::eq(what, book::RESERVATION) {
+    let what = layout::row_word(s, sh, x, field::ROW_KIND);
+    let table = layout::row_word(s, sh, x, field::ROW_TABLE);
+    if words::eq(what, value::KIND_RESERVATION) {
         return words::eq(b, table);
     }
-    if words::eq(what, book::CLAIM) {
+    if words::eq(what, value::KIND_CLAIM) {
         return words::eq(b, table);
     }
     false
@@ -125,7 +131,7 @@ fn any_open(s: &[u64], sh: Shape, b: u64) -> bool
     ensures { λ r. ⌜ r ≡ openIn (loadAt (now (s .entry)) sh) sh b ⌝ }
 {
     let rows = sh.rows as u64;
-    let n = words::smaller(layout::root_word(s, sh, 6), rows);
+    let n = words::smaller(layout::root_word(s, sh, field::ROOT_USED_ROWS), rows);
     let mut i: u64 = 0;
     while i < n {
         let x = layout::index_word(s, sh, i);
@@ -159,7 +165,10 @@ fn is_tearing(s: &[u64], sh: Shape, b: u64) -> bool
     ensures { λ r. ⌜ r ≡ tearing (loadAt (now (s .entry)) sh) sh b ⌝ }
 {
     if words::lt(b, sh.tables as u64) {
-        return words::eq(layout::head_word(s, sh, b, 2), head::TEARING_DOWN);
+        return words::eq(
+            layout::head_word(s, sh, b, field::HEAD_LIFECYCLE),
+            value::LIFE_TEARING_DOWN,
+        );
     }
     false
 }
@@ -168,7 +177,7 @@ fn is_tearing(s: &[u64], sh: Shape, b: u64) -> bool
 fn remove_tearing(s: &mut [u64], sh: Shape, b: u64, out: &mut [u64], base: usize)
     ensures { λ _. ⌜ both (now (s .exit)) (now (out .exit)) ≡ tornR (now (s .entry)) (now (out .entry)) sh base b ⌝ }
 {
-    let cursor = layout::head_word(s, sh, b, 3);
+    let cursor = layout::head_word(s, sh, b, field::HEAD_CURSOR);
     let next = next_occupied(s, sh, b, cursor);
     if words::eq(next, 0) {
         answer::say1(out, base, 0);

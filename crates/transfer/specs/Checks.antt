@@ -12,8 +12,12 @@ use Rattle.model.specs.Base.{orElse, agrees, bans, member}
 use Rattle.model.specs.Request.{Operation, Item}
 use Rattle.model.specs.Words.{may, must, operationOf}
 use Rattle.model.specs.Transfer.{isCopy}
+use Rattle.format.specs.Fields.{routeField, forbiddenObjectField, forbiddenKindField}
 use Rattle.layout.specs.declared.Shape.{Shape}
 use Rattle.layout.specs.Layout.{Mem, object}
+use Rattle.layout.specs.Fields.{objectKoid, objectKind, objectClass}
+use Rattle.layout.specs.Values.{classLeaf, classRendezvousOnly}
+use Rattle.layout.specs.Sizes.{batchMax}
 use Rattle.request.specs.declared.Optional.{Optional}
 use Rattle.request.specs.declared.Optional.the-variants.{Word, Absent}
 use Rattle.request.specs.Place.{fieldsAt, placesFrom, placeOf, itemAt}
@@ -46,9 +50,9 @@ itemBy q = record {
 
 -- what the transfer whose record stands at a place bars
 pub record RulesAt (rq : List ℕ) (at : ℕ) (t : TransferRules) : Type 0 where
-  pub route : t .route ≡ must (fieldsAt rq at) 12
-  pub object : asOption (t .«forbidden_object») ≡ may (fieldsAt rq at) 16
-  pub kind : asOption (t .«forbidden_kind») ≡ may (fieldsAt rq at) 17
+  pub route : t .route ≡ must (fieldsAt rq at) routeField
+  pub object : asOption (t .«forbidden_object») ≡ may (fieldsAt rq at) forbiddenObjectField
+  pub kind : asOption (t .«forbidden_kind») ≡ may (fieldsAt rq at) forbiddenKindField
 
 -- the items of a transfer: n records from a place of the request list on
 unfoldable pub itemsAt : List ℕ → ℕ → ℕ → List Item
@@ -66,7 +70,7 @@ unfoldable pub transferRefusal : Mem → Shape → ℕ → ℕ → ℕ
 transferRefusal m sh b n =
     pick (eqb (tableRefusal m sh b) 0)
     (pick (eqb n 0) 17
-    (pick (ltb 64 n) 13
+    (pick (ltb batchMax n) 13
     (pick (rowLeft m sh) (idRefusal m) 1)))
     (tableRefusal m sh b)
 
@@ -76,7 +80,7 @@ copyDenied held op = isCopy op && not (contains held duplicateRight)
 
 -- Buffered bars RendezvousOnly, every route bars Never
 unfoldable pub routeBars : ℕ → ℕ → Bool
-routeBars route class = pick (eqb class 0) false (pick (eqb class 1) (eqb route 0) true)
+routeBars route class = pick (eqb class classLeaf) false (pick (eqb class classRendezvousOnly) (eqb route 0) true)
 
 -- "5 (rights)", four places
 unfoldable pub rightsRefusal : ℕ → Item → ℕ
@@ -100,9 +104,9 @@ objectRefusal x route bannedObject bannedKind q =
 -- what these checks look at of an object, with 0 for the rest
 unfoldable pub lookedAt : Mem → ℕ → ObjectRecord
 lookedAt m o = record {
-  koid = record { 0 = m (object o 0) };
-  kind = m (object o 1);
-  class = m (object o 2);
+  koid = record { 0 = m (object o objectKoid) };
+  kind = m (object o objectKind);
+  class = m (object o objectClass);
   supported = 0;
   exportable = 0;
   stage = 0;

@@ -17,6 +17,9 @@ use Rattle.model.specs.Book.{addRow, movedOf}
 use Rattle.invariant.specs.Pointwise.{place-slots}
 use Rattle.layout.specs.declared.Shape.{Shape}
 use Rattle.layout.specs.Layout.{Addr, Addr.reg, total, root, index, item, load, save, same, same-is, isIn, in-item, length-save, load-save-any, Write, Write.at, writes, load-writes}
+use Rattle.layout.specs.Fields.{rootUsedRows, itemOperation, itemMoved, itemObject, itemRights, itemFlags, itemGranted}
+use Rattle.layout.specs.Values.{kindClaim, operationMove, operationCopy}
+use Rattle.layout.specs.Sizes.{batchMax}
 use Rattle.representation.specs.Represents.{EntryIs, Items}
 use Rattle.storage.specs.Order.{occurs-head}
 use Rattle.storage.specs.Ops.{moveW}
@@ -71,19 +74,19 @@ module _ (ws : List ℕ) (sh : Shape) (room : total sh ≤ length ws) (x j : ℕ
   unfolding movedW
   moved-enters = enter-all sh x j (movedP x j h r) ws room ((0, refl), ((1, refl), ((2, refl), ((3, refl), ((4, refl), ((5, refl), tt))))))
 
-  pub moved-in : x < sh .rows → j < 64 → EntryIs (load (movedW ws sh x j h r) sh) x j (moved (h .slot) (handleOf h) r)
+  pub moved-in : x < sh .rows → j < batchMax → EntryIs (load (movedW ws sh x j h r) sh) x j (moved (h .slot) (handleOf h) r)
   unfolding movedW
   moved-in l m = let e = load-writes ws sh room (movedP x j h r) (
-    in-item sh x j 0 l m (omega arith),
+    in-item sh x j itemOperation l m (omega arith),
     (
-      in-item sh x j 1 l m (omega arith),
+      in-item sh x j itemMoved l m (omega arith),
       (
-        in-item sh x j 2 l m (omega arith),
+        in-item sh x j itemObject l m (omega arith),
         (
-          in-item sh x j 3 l m (omega arith),
+          in-item sh x j itemRights l m (omega arith),
           (
-            in-item sh x j 4 l m (omega arith),
-            (in-item sh x j 5 l m (omega arith), tt),
+            in-item sh x j itemFlags l m (omega arith),
+            (in-item sh x j itemGranted l m (omega arith), tt),
           ),
         ),
       ),
@@ -93,11 +96,11 @@ module _ (ws : List ℕ) (sh : Shape) (room : total sh ≤ length ws) (x j : ℕ
 
 -- ---- marks
 
-mark-move : (ws : List ℕ) (sh : Shape) (b x j k : ℕ) → load ws sh (item x j 0) ≡ 0 → load ws sh (item x j 1) ≡ k → markItemW ws sh b x j ≡ moveW ws sh b k x j
+mark-move : (ws : List ℕ) (sh : Shape) (b x j k : ℕ) → load ws sh (item x j itemOperation) ≡ operationMove → load ws sh (item x j itemMoved) ≡ k → markItemW ws sh b x j ≡ moveW ws sh b k x j
 unfolding markItemW
 mark-move ws sh b x j k d e = rw (d, e)
 
-mark-copy : (ws : List ℕ) (sh : Shape) (b x j : ℕ) → load ws sh (item x j 0) ≡ 1 → markItemW ws sh b x j ≡ ws
+mark-copy : (ws : List ℕ) (sh : Shape) (b x j : ℕ) → load ws sh (item x j itemOperation) ≡ operationCopy → markItemW ws sh b x j ≡ ws
 unfolding markItemW
 mark-copy ws sh b x j d = rw d
 
@@ -144,7 +147,7 @@ module _ (sh : Shape) (x b i : ℕ) (es : List Entry) where
 
 module _ (ws ws₁ : List ℕ) (sh : Shape) (s : State) (h : Held ws sh s) (free : length (s .book .rows) < s .book .capacity) (fills : Fills ws ws₁ sh (spare (load ws sh))) where
   same-place : spare (load ws₁ sh) ≡ spare (load ws sh)
-  same-place = fills .rest 9 (load ws₁ sh (root 6)) 0 0 (λ q z. omega arith) ∙ ap (λ (i : ℕ). load ws sh (index i)) (fills .rest 0 0 0 6 (λ q z. omega arith))
+  same-place = fills .rest 9 (load ws₁ sh (root rootUsedRows)) 0 0 (λ q z. omega arith) ∙ ap (λ (i : ℕ). load ws sh (index i)) (fills .rest 0 0 0 6 (λ q z. omega arith))
 
   -- A CLAIM whose entries stand in the place that was free opens
   pub claim-held : (b : ℕ) (es : List Entry) → b < s .tableCount → s .book .next + 1 < 2 ^ 64 → Items (EntryIs (load ws₁ sh) (spare (load ws sh))) 0 es
@@ -154,6 +157,6 @@ module _ (ws ws₁ : List ℕ) (sh : Shape) (s : State) (h : Held ws sh s) (free
   claim-held b es l left its busy =
       let h₁ : Held ws₁ sh s = spare-held ws ws₁ sh s h (spare (load ws sh)) fills free refl in
       let p : Opens (load ws₁ sh) (spare (load ws₁ sh)) 2 b (length es) (claim b es) = rw same-place (refl, refl, refl, its) in
-      marked-all sh (spare (load ws₁ sh)) b (s .book .next) es es (openW ws₁ sh 2 b (length es)) (addRow (claim b es) s) 0
+      marked-all sh (spare (load ws₁ sh)) b (s .book .next) es es (openW ws₁ sh kindClaim b (length es)) (addRow (claim b es) s) 0
       (open-held ws₁ sh s h₁ free 2 b (length es) (claim b es) p left) l (open-row ws₁ sh s h₁ free 2 b (length es) (claim b es) p left)
       (λ q e d. let z : 0 + q ≡ q = omega arith in rw z d) busy

@@ -9,6 +9,8 @@ use Rattle.words.specs.Pick.{yes-is, no-is}
 use Rattle.authority.specs.Rights.{contains}
 use Rattle.layout.specs.declared.Shape.{Shape}
 use Rattle.layout.specs.Layout.{Mem, root, object, item, load}
+use Rattle.layout.specs.Fields.{rootNextId, objectKoid, objectKind, itemOperation, itemMoved}
+use Rattle.layout.specs.Values.{kindClaim, operationMove}
 use Rattle.storage.specs.Ops.{moveW}
 use Rattle.book.specs.Ops.{rowLeft, idRefusal, spare, openW}
 use Rattle.answer.specs.Does.{both, answered}
@@ -22,11 +24,11 @@ use Rattle.lookup.specs.Code.{on-refused}
 use Rattle.transfer.specs.Ops.{movedW, markItemW, markedW, claimW, consumeRefusal, consumedR, consumptionR}
 
 -- `mark_item`
-module _ (ws : List ℕ) (sh : Shape) (b x j w : ℕ) (e : w ≡ load ws sh (item x j 0)) (t : Bool) (q : t ≡ eqb w 0) where
-  a-move : eqb (load ws sh (item x j 0)) 0 ≡ t
+module _ (ws : List ℕ) (sh : Shape) (b x j w : ℕ) (e : w ≡ load ws sh (item x j itemOperation)) (t : Bool) (q : t ≡ eqb w 0) where
+  a-move : eqb (load ws sh (item x j itemOperation)) operationMove ≡ t
   a-move = rw (q, e)
 
-  pub mark-moved : (vs : List ℕ) (k : ℕ) → t ≡ true → k ≡ load ws sh (item x j 1) → vs ≡ moveW ws sh b k x j → vs ≡ markItemW ws sh b x j
+  pub mark-moved : (vs : List ℕ) (k : ℕ) → t ≡ true → k ≡ load ws sh (item x j itemMoved) → vs ≡ moveW ws sh b k x j → vs ≡ markItemW ws sh b x j
   unfolding markItemW
   mark-moved vs k y d a = yes-is _ _ _ _ (a-move ∙ y) (rw (a, d))
 
@@ -50,7 +52,7 @@ unfolding markedW
 marked-end ws us sh b x n j l inv = let z : n - j ≡ 0 = omega arith in sym (inv ∙ ap (markedW us sh b x j) z)
 
 -- `open_claim`
-pub claim-is : (ws w₁ w₂ : List ℕ) (sh : Shape) (b n x : ℕ) → x ≡ spare (load ws sh) → w₁ ≡ openW ws sh 2 b n → w₂ ≡ markedW w₁ sh b x 0 n → w₂ ≡ claimW ws sh b n
+pub claim-is : (ws w₁ w₂ : List ℕ) (sh : Shape) (b n x : ℕ) → x ≡ spare (load ws sh) → w₁ ≡ openW ws sh kindClaim b n → w₂ ≡ markedW w₁ sh b x 0 n → w₂ ≡ claimW ws sh b n
 unfolding claimW
 claim-is ws w₁ w₂ sh b n x e a₁ a₂ = rw (a₂, a₁, e)
 
@@ -61,7 +63,7 @@ module _ (m : Mem) (h : PreparedHandle) (r kind koid : ℕ) (t₁ : Bool) (e₁ 
   consume-rights n = no-is _ _ _ _ (sym e₁ ∙ n) refl
 
   module _ (y₁ : t₁ ≡ true) (i : HandleInfo) (d : i ≡ infoAt m h) (t₂ : Bool) (e₂ : t₂ ≡ eqb (i .kind) kind) where
-    kinds : eqb (m (object (h .object) 1)) kind ≡ t₂
+    kinds : eqb (m (object (h .object) objectKind)) kind ≡ t₂
     kinds = sym (e₂ ∙ ap (λ (z : HandleInfo). eqb (z .kind) kind) d)
 
     pub consume-kind : t₂ ≡ false → 4 ≡ consumeRefusal m h r kind koid
@@ -69,7 +71,7 @@ module _ (m : Mem) (h : PreparedHandle) (r kind koid : ℕ) (t₁ : Bool) (e₁ 
     consume-kind n = yes-is _ _ _ _ (sym e₁ ∙ y₁) (no-is _ _ _ _ (kinds ∙ n) refl)
 
     module _ (y₂ : t₂ ≡ true) (t₃ : Bool) (e₃ : t₃ ≡ eqb (i .koid .0) koid) where
-      koids : eqb (m (object (h .object) 0)) koid ≡ t₃
+      koids : eqb (m (object (h .object) objectKoid)) koid ≡ t₃
       koids = sym (e₃ ∙ ap (λ (z : HandleInfo). eqb (z .koid .0) koid) d)
 
       pub consume-koid : t₃ ≡ false → 2 ≡ consumeRefusal m h r kind koid
@@ -89,7 +91,7 @@ module _ (ws os os′ : List ℕ) (sh : Shape) (base b r kind koid : ℕ) (h : P
   unfolding consumedR
   consumed-refused y a = no-is _ _ _ _ (consume-tested ∙ y) (rw (a, e))
 
-  pub consumed-done : (w₁ w₂ : List ℕ) (id x : ℕ) → t ≡ true → id ≡ load ws sh (root 5) → x ≡ spare (load ws sh) → w₁ ≡ movedW ws sh x 0 h (h .rights) → w₂ ≡ claimW w₁ sh b 1
+  pub consumed-done : (w₁ w₂ : List ℕ) (id x : ℕ) → t ≡ true → id ≡ load ws sh (root rootNextId) → x ≡ spare (load ws sh) → w₁ ≡ movedW ws sh x 0 h (h .rights) → w₂ ≡ claimW w₁ sh b 1
       → os′ ≡ answered os base (0 ∷ id ∷ []) → both w₂ os′ ≡ consumedR ws os sh base b r kind koid h
   unfolding consumedR
   consumed-done w₁ w₂ id x y i d a₁ a₂ a₃ = yes-is _ _ _ _ (consume-tested ∙ y) (rw (a₂, a₁, d, a₃, i))

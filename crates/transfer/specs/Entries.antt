@@ -13,6 +13,8 @@ use Rattle.model.specs.Transfer.{entryFor}
 use Rattle.model.specs.WellFormed.{WellFormed, All}
 use Rattle.layout.specs.declared.Shape.{Shape}
 use Rattle.layout.specs.Layout.{Mem, total, item, load, in-item, load-writes}
+use Rattle.layout.specs.Fields.{itemOperation, itemObject, itemRights, itemFlags}
+use Rattle.layout.specs.Sizes.{batchMax}
 use Rattle.representation.specs.Represents.{EntryIs, Items}
 use Rattle.storage.specs.Reps.{Held}
 use Rattle.book.specs.Ops.{spare, Fills, fills-none, fills-then}
@@ -33,10 +35,10 @@ module _ (ws : List ℕ) (sh : Shape) (room : total sh ≤ length ws) (x j : ℕ
   unfolding copiedW
   copied-enters = enter-all sh x j (copiedP x j h r) ws room ((0, refl), ((2, refl), ((3, refl), ((4, refl), tt))))
 
-  copied-in : x < sh .rows → j < 64 → EntryIs (load (copiedW ws sh x j h r) sh) x j (copied (withRights (handleOf h) r))
+  copied-in : x < sh .rows → j < batchMax → EntryIs (load (copiedW ws sh x j h r) sh) x j (copied (withRights (handleOf h) r))
   unfolding copiedW
   copied-in l m = let e = load-writes ws sh room (copiedP x j h r)
-      (in-item sh x j 0 l m (omega arith), (in-item sh x j 2 l m (omega arith), (in-item sh x j 3 l m (omega arith), (in-item sh x j 4 l m (omega arith), tt)))) in
+      (in-item sh x j itemOperation l m (omega arith), (in-item sh x j itemObject l m (omega arith), (in-item sh x j itemRights l m (omega arith), (in-item sh x j itemFlags l m (omega arith), tt)))) in
       rw (e, eq-eqb j j refl, eq-eqb x x refl) (refl, (refl, refl, refl))
 
 -- an item of a row keeps its entry while it keeps its words
@@ -70,7 +72,7 @@ module _ (sh : Shape) (s : State) (w : WellFormed till s) (b : ℕ) (l : b < s .
   unfolding handleEntryW
   copies-by vs j q y e = rw e
 
-  entry-put : (vs : List ℕ) (j : ℕ) (q : Item) → Fills ws vs sh (spare (load ws sh)) → j < 64 → Found t q → Put vs j q (entryW vs sh b (spare (load ws sh)) j q)
+  entry-put : (vs : List ℕ) (j : ℕ) (q : Item) → Fills ws vs sh (spare (load ws sh)) → j < batchMax → Found t q → Put vs j q (entryW vs sh b (spare (load ws sh)) j q)
   entry-put vs j q p m f = go (q .operation) refl (view-found-at sh s w b l vs os held q f)
     where
       held : Held vs sh (withObjects s os)
@@ -109,7 +111,7 @@ module _ (sh : Shape) (s : State) (w : WellFormed till s) (b : ℕ) (l : b < s .
     pub are : Items (EntryIs (load us sh) (spare (load ws sh))) j (map (entryFor t) qs)
     pub before : (i f : ℕ) → i < j → load us sh (item (spare (load ws sh)) i f) ≡ load vs sh (item (spare (load ws sh)) i f)
 
-  entries-all : (qs : List Item) (vs : List ℕ) (j : ℕ) → Fills ws vs sh (spare (load ws sh)) → j + length qs ≤ 64 → All (Found t) qs
+  entries-all : (qs : List Item) (vs : List ℕ) (j : ℕ) → Fills ws vs sh (spare (load ws sh)) → j + length qs ≤ batchMax → All (Found t) qs
       → Listed vs j qs (entriesW vs sh b (spare (load ws sh)) j qs)
   entries-all [] vs j p m fs = rw (entries-stop vs j) (record { fills = p; are = tt; before = λ i f n. refl })
   entries-all (q ∷ qs) vs j p m fs =
@@ -124,5 +126,5 @@ module _ (sh : Shape) (s : State) (w : WellFormed till s) (b : ℕ) (l : b < s .
       })
 
   -- from the first on
-  pub entries-listed : (qs : List Item) → length qs ≤ 64 → All (Found t) qs → Listed ws 0 qs (entriesW ws sh b (spare (load ws sh)) 0 qs)
+  pub entries-listed : (qs : List Item) → length qs ≤ batchMax → All (Found t) qs → Listed ws 0 qs (entriesW ws sh b (spare (load ws sh)) 0 qs)
   entries-listed qs m fs = entries-all qs ws 0 (fills-none ws sh (spare (load ws sh))) (omega arith) fs

@@ -6,6 +6,8 @@ use Rattle.words.specs.Pick.{pick}
 use Rattle.authority.specs.Rights.{contains}
 use Rattle.layout.specs.declared.Shape.{Shape}
 use Rattle.layout.specs.Layout.{Mem, root, object, item, load, Write, Write.at, writes}
+use Rattle.layout.specs.Fields.{rootNextId, objectKoid, objectKind, itemOperation, itemMoved, itemObject, itemRights, itemFlags, itemGranted}
+use Rattle.layout.specs.Values.{kindClaim, operationMove}
 use Rattle.storage.specs.Ops.{moveW}
 use Rattle.book.specs.Ops.{rowLeft, idRefusal, spare, openW}
 use Rattle.answer.specs.Does.{Both, both, answered, refuseR}
@@ -15,15 +17,15 @@ use Rattle.lookup.specs.Read.{onOpened}
 
 -- ---- a claim
 
--- the words of a moved handle in item j of the row in place x: 0, its slot, the handle, the rights that its receiver gets
+-- the words of a moved handle in item j of the row in place x: that it is a move, its slot, the handle, the rights that its receiver gets
 abbrev pub movedP : ℕ → ℕ → PreparedHandle → ℕ → List Write
 movedP x j h r =
-    at (item x j 0) 0
-    ∷ at (item x j 1) (h .slot)
-    ∷ at (item x j 2) (h .object)
-    ∷ at (item x j 3) (h .rights)
-    ∷ at (item x j 4) (h .flags)
-    ∷ at (item x j 5) r
+    at (item x j itemOperation) operationMove
+    ∷ at (item x j itemMoved) (h .slot)
+    ∷ at (item x j itemObject) (h .object)
+    ∷ at (item x j itemRights) (h .rights)
+    ∷ at (item x j itemFlags) (h .flags)
+    ∷ at (item x j itemGranted) r
     ∷ []
 
 unfoldable pub movedW : List ℕ → Shape → ℕ → ℕ → PreparedHandle → ℕ → List ℕ
@@ -31,7 +33,7 @@ movedW ws sh x j h r = writes ws sh (movedP x j h r)
 
 -- the slot that item j moves is TransferReserved by position j of the row in place x; "A Copy-only claim marks no slot"
 unfoldable pub markItemW : List ℕ → Shape → ℕ → ℕ → ℕ → List ℕ
-markItemW ws sh b x j = pick (eqb (load ws sh (item x j 0)) 0) (moveW ws sh b (load ws sh (item x j 1)) x j) ws
+markItemW ws sh b x j = pick (eqb (load ws sh (item x j itemOperation)) operationMove) (moveW ws sh b (load ws sh (item x j itemMoved)) x j) ws
 
 -- so for n items from j on
 unfoldable pub markedW : List ℕ → Shape → ℕ → ℕ → ℕ → ℕ → List ℕ
@@ -40,7 +42,7 @@ markedW ws sh b x j (suc n) = markedW (markItemW ws sh b x j) sh b x (suc j) n
 
 -- a claim of table b opens in the place that is free, where its n items stand, and marks the slots that they move
 unfoldable pub claimW : List ℕ → Shape → ℕ → ℕ → List ℕ
-claimW ws sh b n = markedW (openW ws sh 2 b n) sh b (spare (load ws sh)) 0 n
+claimW ws sh b n = markedW (openW ws sh kindClaim b n) sh b (spare (load ws sh)) 0 n
 
 -- ---- prepare consumption
 
@@ -48,15 +50,15 @@ claimW ws sh b n = markedW (openW ws sh 2 b n) sh b (spare (load ws sh)) 0 n
 unfoldable pub consumeRefusal : Mem → PreparedHandle → ℕ → ℕ → ℕ → ℕ
 consumeRefusal m h r kind koid =
     pick (contains (h .rights) r)
-    (pick (eqb (m (object (h .object) 1)) kind)
-    (pick (eqb (m (object (h .object) 0)) koid) (idRefusal m)
+    (pick (eqb (m (object (h .object) objectKind)) kind)
+    (pick (eqb (m (object (h .object) objectKoid)) koid) (idRefusal m)
     2) 4) 5
 
 unfoldable pub consumedR : List ℕ → List ℕ → Shape → ℕ → ℕ → ℕ → ℕ → ℕ → PreparedHandle → Both
 consumedR ws os sh base b r kind koid h =
     let n : ℕ = consumeRefusal (load ws sh) h r kind koid in
     pick (eqb n 0)
-    (both (claimW (movedW ws sh (spare (load ws sh)) 0 h (h .rights)) sh b 1) (answered os base (0 ∷ load ws sh (root 5) ∷ [])))
+    (both (claimW (movedW ws sh (spare (load ws sh)) 0 h (h .rights)) sh b 1) (answered os base (0 ∷ load ws sh (root rootNextId) ∷ [])))
     (refuseR ws os base n)
 
 unfoldable pub consumptionR : List ℕ → List ℕ → Shape → ℕ → ℕ → ℕ → ℕ → ℕ → ℕ → Both

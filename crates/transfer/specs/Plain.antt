@@ -7,6 +7,7 @@ use Prim.Native.Nat.{ℕ, suc, _+_, _<_}
 use native.Mathlib.Omega.{arith}
 use lib.ListN.{length, getD}
 use Rattle.model.specs.Words.{may, must}
+use Rattle.format.specs.Fields.{opField, valueField, rightsField}
 use Rattle.request.specs.declared.Optional.the-variants.{Absent}
 use Rattle.request.specs.Place.{after, fieldsFrom, fieldsAt, endAt, itemAt, optional}
 use Rattle.request.specs.Plain.{fields-by, ends-by}
@@ -15,17 +16,17 @@ use Rattle.transfer.specs.Checks.{itemBy}
 use Rattle.transfer.specs.TransferCode.{item-is}
 
 module _ (rq : List ℕ) (at : ℕ) (e : getD rq at 0 ≡ 49) where
-  pub plain-operation : must (fieldsAt rq at) 0 ≡ getD rq (at + 1) 0
+  pub plain-operation : must (fieldsAt rq at) opField ≡ getD rq (at + 1) 0
   unfolding fieldsFrom
-  plain-operation = let z : suc at ≡ at + 1 = omega arith in fields-by rq at 49 e (λ f. must f 0) ∙ ap (λ (p : ℕ). getD rq p 0) z
+  plain-operation = let z : suc at ≡ at + 1 = omega arith in fields-by rq at 49 e (λ f. must f opField) ∙ ap (λ (p : ℕ). getD rq p 0) z
 
-  pub plain-value : must (fieldsAt rq at) 4 ≡ getD rq (at + 2) 0
+  pub plain-value : must (fieldsAt rq at) valueField ≡ getD rq (at + 2) 0
   unfolding fieldsFrom
-  plain-value = let z : suc (suc at) ≡ at + 2 = omega arith in fields-by rq at 49 e (λ f. must f 4) ∙ ap (λ (p : ℕ). getD rq p 0) z
+  plain-value = let z : suc (suc at) ≡ at + 2 = omega arith in fields-by rq at 49 e (λ f. must f valueField) ∙ ap (λ (p : ℕ). getD rq p 0) z
 
-  pub plain-rights : must (fieldsAt rq at) 5 ≡ getD rq (at + 3) 0
+  pub plain-rights : must (fieldsAt rq at) rightsField ≡ getD rq (at + 3) 0
   unfolding fieldsFrom
-  plain-rights = let z : suc (suc (suc at)) ≡ at + 3 = omega arith in fields-by rq at 49 e (λ f. must f 5) ∙ ap (λ (p : ℕ). getD rq p 0) z
+  plain-rights = let z : suc (suc (suc at)) ≡ at + 3 = omega arith in fields-by rq at 49 e (λ f. must f rightsField) ∙ ap (λ (p : ℕ). getD rq p 0) z
 
   plain-absent : (b : ℕ) → may (fieldsFrom 18 49 rq (suc at)) b ≡ none → Absent ≡ optional (may (fieldsAt rq at) b)
   plain-absent b n = sym (fields-by rq at 49 e (λ f. optional (may f b)) ∙ ap optional n)

@@ -28,6 +28,8 @@ use Rattle.invariant.specs.Items.{items-stand, items-count, taken}
 use Rattle.layout.specs.declared.Shape.{Shape}
 use Rattle.layout.specs.Regions.{region, in-place}
 use Rattle.layout.specs.Layout.{layout, root, load, save, in-root, load-root}
+use Rattle.layout.specs.Fields.{rootNextId}
+use Rattle.layout.specs.Sizes.{batchMax}
 use Rattle.representation.specs.Represents.{Represents, Rep}
 use Rattle.request.specs.Place.{requestOf}
 use Rattle.storage.specs.Reps.{Held, held-of}
@@ -45,6 +47,7 @@ use Rattle.transfer.specs.Claim.{claim-held}
 use Rattle.transfer.specs.Faults.{Tells, Found, items-tell, found-all}
 use Rattle.transfer.specs.Raised.{tally, Outcome, raised-outcome}
 use Rattle.transfer.specs.Entries.{entries-listed}
+use Rattle.format.specs.Ops.{opPrepareTransfer}
 
 -- ---- the id
 
@@ -53,7 +56,7 @@ unfolding save
 save-root ws sh f v h = ap (λ (i : ℕ). set ws i v) (in-place (region (layout sh) 0) 0 0 f (length ws) (in-root sh f h) ∙ omega arith)
 
 -- the id's word, one more, and no other
-spent-is : (ws : List ℕ) (sh : Shape) → load ws sh (root 5) + 1 < 2 ^ 64 → spendW ws sh ≡ idSpent ws
+spent-is : (ws : List ℕ) (sh : Shape) → load ws sh (root rootNextId) + 1 < 2 ^ 64 → spendW ws sh ≡ idSpent ws
 unfolding spendW idSpent
 spent-is ws sh l = save-root ws sh 5 _ (omega arith) ∙ ap (set ws 5) (let e = load-root ws sh 5 (omega arith) in omega (arith, e))
 
@@ -139,11 +142,11 @@ module _ (ws : List ℕ) (sh : Shape) (s : State) (i : Rep ws sh s) (os : List �
   inactive-is n e ne = table-refused sh (load ws sh) s r b n e ne afterTable
 
   abbrev batchBy′ : ℕ
-  batchBy′ = batchBy (eqb (length qs) 0) (ltb 64 (length qs)) (freeRow s) (eqb (s .book .next) lastId)
+  batchBy′ = batchBy (eqb (length qs) 0) (ltb batchMax (length qs)) (freeRow s) (eqb (s .book .next) lastId)
 
   batch-decided : Active s b → decide till s request ≡ decidedBy batchBy′ rest
   unfolding maxBatch
-  batch-decided a = table-is a ∙ rw (some-items (length qs)) (batch-checks (eqb (length qs) 0) (ltb 64 (length qs)) (freeRow s) (eqb (s .book .next) lastId) rest)
+  batch-decided a = table-is a ∙ rw (some-items (length qs)) (batch-checks (eqb (length qs) 0) (ltb batchMax (length qs)) (freeRow s) (eqb (s .book .next) lastId) rest)
 
   batch-is : tableRefusal (load ws sh) sh b ≡ 0 → transferRefusal (load ws sh) sh b (length qs) ≡ batchBy′
   unfolding transferRefusal
@@ -155,7 +158,7 @@ module _ (ws : List ℕ) (sh : Shape) (s : State) (i : Rep ws sh s) (os : List �
 
   -- ---- from the id step on
 
-  module _ (a : Active s b) (p : Passed (ltb 64 (length qs)) (freeRow s) (eqb (s .book .next) lastId)) (d : decide till s request ≡ rest) where
+  module _ (a : Active s b) (p : Passed (ltb batchMax (length qs)) (freeRow s) (eqb (s .book .next) lastId)) (d : decide till s request ≡ rest) where
     abbrev t : Table
     t = s .tables b
 
@@ -182,8 +185,8 @@ module _ (ws : List ℕ) (sh : Shape) (s : State) (i : Rep ws sh s) (os : List �
       busy : (k : ℕ) → 0 < occurs k (movedOf es) → isBusy (s .tables b .slots k) ≡ true
       busy k m = rw (taken (s .tables b .slots) es k (items-stand s (s .tables b) (routeOf route) bo bk [] qs sound) m .stood)
 
-      few : length qs ≤ 64
-      few = ltb-false 64 (length qs) (p .few)
+      few : length qs ≤ batchMax
+      few = ltb-false batchMax (length qs) (p .few)
 
       -- THE CLAIM of a transfer whose copies are raised
       opened-held : (vs : List ℕ) → Held vs sh (withObjects s (changeAll raise (copiesOf es) (s .objects)))
@@ -199,7 +202,7 @@ module _ (ws : List ℕ) (sh : Shape) (s : State) (i : Rep ws sh s) (os : List �
           → Does ws os sh base s request (pick (eqb (x .number) 0) (openedR (x .words) os sh base b qs) (refuseSpentR (x .words) os sh base (x .number)))
       unfolding openedR usedWords
       copies-does none e x o =
-          let n : load (x .words) sh (root 5) ≡ s .book .next = o .1 .reps .memory .book .next in
+          let n : load (x .words) sh (root rootNextId) ≡ s .book .next = o .1 .reps .memory .book .next in
           rw (o .0, n) (does-accepted os sh base s request (claimW (entriesW (x .words) sh b (spare (load (x .words) sh)) 0 qs) sh b (length qs)) after (opened (s .book .next))
           (opened-held (x .words) (o .1) .reps) (d ∙ rw (sound, e)))
       copies-does (some n) e x o =
@@ -220,7 +223,7 @@ module _ (ws : List ℕ) (sh : Shape) (s : State) (i : Rep ws sh s) (os : List �
       let a = table-open sh (load ws sh) s r b z in
       rw (batch-is z) (bool (eqb batchBy′ 0)
       (λ p. let k : batchBy′ ≡ 0 = eqb-true batchBy′ 0 p in
-      rw p (items-does a (batch-passed (eqb (length qs) 0) (ltb 64 (length qs)) (freeRow s) (eqb (s .book .next) lastId) k) (accepted-when batchBy′ (decide till s request) rest (batch-decided a) k)
+      rw p (items-does a (batch-passed (eqb (length qs) 0) (ltb batchMax (length qs)) (freeRow s) (eqb (s .book .next) lastId) k) (accepted-when batchBy′ (decide till s request) rest (batch-decided a) k)
       (itemsFault s (s .tables b) (routeOf route) bo bk [] qs) refl (items-tell sh (load ws sh) s r (i .wellFormed) b (a .known) route bo bk [] qs)))
       (λ p. rw p (does-refused os sh base s request ws batchBy′ (i .reps) (refused-when batchBy′ (decide till s request) rest (batch-decided a) (eqb-false batchBy′ 0 p))))))
       (λ y. let ne : tableRefusal (load ws sh) sh b ≡ 0 → ⊥ = eqb-false (tableRefusal (load ws sh) sh b) 0 y in
@@ -229,7 +232,7 @@ module _ (ws : List ℕ) (sh : Shape) (s : State) (i : Rep ws sh s) (os : List �
 
 -- as it stands in a request list: the request of op 14 whose record stands at a place
 pub transferAt-does : (ws : List ℕ) (sh : Shape) (s : State) → Rep ws sh s → (os : List ℕ) (base : ℕ) (list : List ℕ) (place : ℕ)
-    → Does ws os sh base s (requestOf 14 list place) (transferAt ws os sh base list place)
+    → Does ws os sh base s (requestOf opPrepareTransfer list place) (transferAt ws os sh base list place)
 unfolding requestOf transferAt itemsAt
 transferAt-does ws sh s i os base list place =
     prepareTransfer-does ws sh s i os base _ _ _ _ _

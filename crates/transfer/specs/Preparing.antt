@@ -8,8 +8,11 @@ use Rattle.words.specs.Pick.{pick}
 use Rattle.model.specs.Request.{Item}
 use Rattle.model.specs.Words.{may, must}
 use Rattle.model.specs.Transfer.{isCopy}
+use Rattle.format.specs.Fields.{tableField, countField, routeField, forbiddenObjectField, forbiddenKindField}
 use Rattle.layout.specs.declared.Shape.{Shape}
 use Rattle.layout.specs.Layout.{Mem, root, item, load, Write, Write.at, writes}
+use Rattle.layout.specs.Fields.{rootNextId, itemOperation, itemObject, itemRights, itemFlags}
+use Rattle.layout.specs.Values.{operationCopy}
 use Rattle.request.specs.Place.{fieldsAt, endAt}
 use Rattle.storage.specs.Ops.{up}
 use Rattle.object.specs.Words.{raiseW, lowerW, raiseRefusal}
@@ -67,7 +70,7 @@ raisedItems ws sh b ps (q ∷ qs) =
 
 -- a copy of the handle h with the rights r, in item j of the row in place x
 abbrev pub copiedP : ℕ → ℕ → PreparedHandle → ℕ → List Write
-copiedP x j h r = at (item x j 0) 1 ∷ at (item x j 2) (h .object) ∷ at (item x j 3) r ∷ at (item x j 4) (h .flags) ∷ []
+copiedP x j h r = at (item x j itemOperation) operationCopy ∷ at (item x j itemObject) (h .object) ∷ at (item x j itemRights) r ∷ at (item x j itemFlags) (h .flags) ∷ []
 
 unfoldable pub copiedW : List ℕ → Shape → ℕ → ℕ → PreparedHandle → ℕ → List ℕ
 copiedW ws sh x j h r = writes ws sh (copiedP x j h r)
@@ -98,7 +101,7 @@ refuseSpentR ws os sh base n = both (spendW ws sh) (answered os base (n ∷ []))
 -- every copy is raised, the entries stand in the row to come, and it opens
 unfoldable pub openedR : List ℕ → List ℕ → Shape → ℕ → ℕ → List Item → Both
 openedR ws os sh base b qs =
-    both (claimW (entriesW ws sh b (spare (load ws sh)) 0 qs) sh b (length qs)) (answered os base (0 ∷ load ws sh (root 5) ∷ []))
+    both (claimW (entriesW ws sh b (spare (load ws sh)) 0 qs) sh b (length qs)) (answered os base (0 ∷ load ws sh (root rootNextId) ∷ []))
 
 -- from the id step on
 unfoldable pub itemsR : List ℕ → List ℕ → Shape → ℕ → ℕ → ℕ → Option ℕ → Option ℕ → List Item → Both
@@ -118,5 +121,5 @@ transferR ws os sh base b route bannedObject bannedKind qs =
 -- the transfer whose record stands at a place of the request list
 unfoldable pub transferAt : List ℕ → List ℕ → Shape → ℕ → List ℕ → ℕ → Both
 transferAt ws os sh base rq place =
-    transferR ws os sh base (must (fieldsAt rq place) 1) (must (fieldsAt rq place) 12) (may (fieldsAt rq place) 16) (may (fieldsAt rq place) 17)
-    (itemsAt rq (endAt rq place) (must (fieldsAt rq place) 3))
+    transferR ws os sh base (must (fieldsAt rq place) tableField) (must (fieldsAt rq place) routeField) (may (fieldsAt rq place) forbiddenObjectField) (may (fieldsAt rq place) forbiddenKindField)
+    (itemsAt rq (endAt rq place) (must (fieldsAt rq place) countField))

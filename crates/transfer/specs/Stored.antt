@@ -11,38 +11,40 @@ use Rattle.layout.specs.declared.Shape.{Shape}
 use Rattle.layout.specs.declared.Extent.{Extent}
 use Rattle.layout.specs.Regions.{region, in-place}
 use Rattle.layout.specs.Layout.{layout, rowsAt, item, place, In, isIn, in-is, in-yes, in-no, in-item, place-out, save, save-out}
+use Rattle.layout.specs.Fields.{itemOperation}
+use Rattle.layout.specs.Sizes.{batchMax, blockSize, rowBlocks}
 use Rattle.lookup.specs.declared.PreparedHandle.{PreparedHandle}
 use Rattle.transfer.specs.Ops.{movedW}
 use Rattle.transfer.specs.Preparing.{copiedW}
 
 -- `item_place`
 module _ (n : ℕ) (sh : Shape) (x j : ℕ) where
-  pub item-stands : j < 64 → x < sh .rows → (e : Extent) → e ≡ region (layout sh) 10 → e .low + (x * 65 + j + 1) * 6 ≡ place n sh (item x j 0)
+  pub item-stands : j < batchMax → x < sh .rows → (e : Extent) → e ≡ region (layout sh) 10 → e .low + (x * rowBlocks + j + 1) * blockSize ≡ place n sh (item x j itemOperation)
   item-stands a b e q = let z : e .low ≡ rowsAt sh = ap (λ (r : Extent). r .low) q in
-      sym (in-place (region (layout sh) 10) x (suc j) 0 n (in-item sh x j 0 b a (omega arith)) ∙ omega (arith, z))
+      sym (in-place (region (layout sh) 10) x (suc j) 0 n (in-item sh x j itemOperation b a (omega arith)) ∙ omega (arith, z))
 
-  pub item-none : (In sh (item x j 0) → ⊥) → n ≡ place n sh (item x j 0)
-  item-none h = sym (place-out n sh (item x j 0) (in-no sh (item x j 0) h))
+  pub item-none : (In sh (item x j itemOperation) → ⊥) → n ≡ place n sh (item x j itemOperation)
+  item-none h = sym (place-out n sh (item x j itemOperation) (in-no sh (item x j itemOperation) h))
 
 -- a store f words behind
-stored : (ws : List ℕ) (sh : Shape) (x j p f v : ℕ) → p ≡ place (length ws) sh (item x j 0) → f < 6 → set ws (p + f) v ≡ save ws sh (item x j f) v
+stored : (ws : List ℕ) (sh : Shape) (x j p f v : ℕ) → p ≡ place (length ws) sh (item x j itemOperation) → f < 6 → set ws (p + f) v ≡ save ws sh (item x j f) v
 unfolding save
-stored ws sh x j p f v e l = bool (isIn sh (item x j 0))
-    (λ y. let i = in-is sh (item x j 0) y in
+stored ws sh x j p f v e l = bool (isIn sh (item x j itemOperation))
+    (λ y. let i = in-is sh (item x j itemOperation) y in
     let a = in-place (region (layout sh) 10) x (suc j) 0 (length ws) i in
     let b = in-place (region (layout sh) 10) x (suc j) f (length ws) (record { xs = i .xs; ys = i .ys; fs = l }) in
     ap (λ (k : ℕ). set ws k v) (omega (arith, a, b, e)))
-    (λ y. let o : place (length ws) sh (item x j 0) ≡ length ws = place-out (length ws) sh (item x j 0) y in
-    let n : isIn sh (item x j f) ≡ false = in-no sh (item x j f) (λ i. clash (in-yes sh (item x j 0) (record { xs = i .xs; ys = i .ys; fs = omega arith })) y) in
+    (λ y. let o : place (length ws) sh (item x j itemOperation) ≡ length ws = place-out (length ws) sh (item x j itemOperation) y in
+    let n : isIn sh (item x j f) ≡ false = in-no sh (item x j f) (λ i. clash (in-yes sh (item x j itemOperation) (record { xs = i .xs; ys = i .ys; fs = omega arith })) y) in
     set-out ws (p + f) v (omega (arith, o, e)) ∙ sym (save-out ws sh (item x j f) v n))
 
-module _ (ws : List ℕ) (sh : Shape) (x j p : ℕ) (e : p ≡ place (length ws) sh (item x j 0)) where
+module _ (ws : List ℕ) (sh : Shape) (x j p : ℕ) (e : p ≡ place (length ws) sh (item x j itemOperation)) where
   -- after a store
   next : (vs us : List ℕ) (f v : ℕ) → length vs ≡ length ws → f < 6 → us ≡ set vs (p + f) v → (us ≡ save vs sh (item x j f) v) × (length us ≡ length ws)
   next vs us f v l a d =
-      (d ∙ stored vs sh x j p f v (e ∙ ap (λ (n : ℕ). place n sh (item x j 0)) (sym l)) a, ap length d ∙ length-set vs (p + f) v ∙ l)
+      (d ∙ stored vs sh x j p f v (e ∙ ap (λ (n : ℕ). place n sh (item x j itemOperation)) (sym l)) a, ap length d ∙ length-set vs (p + f) v ∙ l)
 
-  first : (us : List ℕ) (v : ℕ) → us ≡ set ws p v → (us ≡ save ws sh (item x j 0) v) × (length us ≡ length ws)
+  first : (us : List ℕ) (v : ℕ) → us ≡ set ws p v → (us ≡ save ws sh (item x j itemOperation) v) × (length us ≡ length ws)
   first us v d = let z : p ≡ p + 0 = omega arith in next ws us 0 v refl (omega arith) (d ∙ ap (λ (k : ℕ). set ws k v) z)
 
   -- `put_moved`

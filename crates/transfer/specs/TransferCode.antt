@@ -14,8 +14,12 @@ use Rattle.model.specs.Base.{orElse, agrees, bans, member}
 use Rattle.model.specs.Request.{Operation, Item}
 use Rattle.model.specs.Words.{may, must, operationOf}
 use Rattle.model.specs.Transfer.{isCopy}
+use Rattle.format.specs.Fields.{opField, tableField, countField, valueField, rightsField, routeField, offeredRightsField, offeredKindField, expectedKindField, forbiddenObjectField, forbiddenKindField}
 use Rattle.layout.specs.declared.Shape.{Shape}
 use Rattle.layout.specs.Layout.{Mem, root, object, load}
+use Rattle.layout.specs.Fields.{rootNextId, objectKoid, objectKind, objectClass}
+use Rattle.layout.specs.Values.{classLeaf, classRendezvousOnly}
+use Rattle.layout.specs.Sizes.{batchMax}
 use Rattle.request.specs.declared.Optional.{Optional}
 use Rattle.request.specs.declared.Optional.the-variants.{Word}
 use Rattle.request.specs.Place.{optional, fieldsAt, endAt, placesFrom, placeOf, itemAt}
@@ -44,17 +48,17 @@ found-is : (x : Optional) (o : Option ℕ) → x ≡ optional o → asOption x �
 found-is x o e = ap asOption e ∙ as-found o
 
 -- `read_rules`
-pub rules-are : (rq : List ℕ) (at : ℕ) (t : TransferRules) → t .route ≡ must (fieldsAt rq at) 12 → t .«forbidden_object» ≡ optional (may (fieldsAt rq at) 16)
-    → t .«forbidden_kind» ≡ optional (may (fieldsAt rq at) 17) → RulesAt rq at t
+pub rules-are : (rq : List ℕ) (at : ℕ) (t : TransferRules) → t .route ≡ must (fieldsAt rq at) routeField → t .«forbidden_object» ≡ optional (may (fieldsAt rq at) forbiddenObjectField)
+    → t .«forbidden_kind» ≡ optional (may (fieldsAt rq at) forbiddenKindField) → RulesAt rq at t
 rules-are rq at t e₁ e₂ e₃ = record { route = e₁; object = found-is _ _ e₂; kind = found-is _ _ e₃ }
 
 -- `read_item`
-pub item-is : (rq : List ℕ) (at : ℕ) (q : HandleTransferRequest) → q .operation ≡ must (fieldsAt rq at) 0 → q .value .0 ≡ must (fieldsAt rq at) 4 → q .rights .0 ≡ must (fieldsAt rq at) 5
-    → q .«offered_rights» ≡ optional (may (fieldsAt rq at) 13) → q .«offered_kind» ≡ optional (may (fieldsAt rq at) 14) → q .«expected_kind» ≡ optional (may (fieldsAt rq at) 15)
+pub item-is : (rq : List ℕ) (at : ℕ) (q : HandleTransferRequest) → q .operation ≡ must (fieldsAt rq at) opField → q .value .0 ≡ must (fieldsAt rq at) valueField → q .rights .0 ≡ must (fieldsAt rq at) rightsField
+    → q .«offered_rights» ≡ optional (may (fieldsAt rq at) offeredRightsField) → q .«offered_kind» ≡ optional (may (fieldsAt rq at) offeredKindField) → q .«expected_kind» ≡ optional (may (fieldsAt rq at) expectedKindField)
     → itemBy q ≡ itemAt rq at
 unfolding itemBy itemAt
 item-is rq at q e₁ e₂ e₃ e₄ e₅ e₆ =
-    rw (e₁, e₂, e₃, found-is (q .«offered_rights») (may (fieldsAt rq at) 13) e₄, found-is (q .«offered_kind») (may (fieldsAt rq at) 14) e₅, found-is (q .«expected_kind») (may (fieldsAt rq at) 15) e₆)
+    rw (e₁, e₂, e₃, found-is (q .«offered_rights») (may (fieldsAt rq at) offeredRightsField) e₄, found-is (q .«offered_kind») (may (fieldsAt rq at) offeredKindField) e₅, found-is (q .«expected_kind») (may (fieldsAt rq at) expectedKindField) e₆)
 
 -- the items of a list: the first of them, and one more
 items-turn : (rq : List ℕ) (at n : ℕ) (q : Item) (e : ℕ) → 0 < n → q ≡ itemAt rq at → e ≡ endAt rq at → itemsAt rq at n ≡ q ∷ itemsAt rq e (n - 1)
@@ -117,7 +121,7 @@ module _ (m : Mem) (sh : Shape) (b n k : ℕ) (e : k ≡ tableRefusal m sh b) (t
     unfolding transferRefusal
     transfer-empty z = passed-by _ k e t q _ _ _ y (yes-is _ _ _ _ (sym q₂ ∙ z) refl)
 
-    module _ (z : t₂ ≡ false) (t₃ : Bool) (q₃ : t₃ ≡ ltb 64 n) where
+    module _ (z : t₂ ≡ false) (t₃ : Bool) (q₃ : t₃ ≡ ltb batchMax n) where
       pub transfer-large : t₃ ≡ true → 13 ≡ transferRefusal m sh b n
       unfolding transferRefusal
       transfer-large v = passed-by _ k e t q _ _ _ y (no-is _ _ _ _ (sym q₂ ∙ z) (yes-is _ _ _ _ (sym q₃ ∙ v) refl))
@@ -161,12 +165,12 @@ module _ (o : Optional) where
   differs-word w x r e a = rw e a
 
 -- `route_bars`
-module _ (route class : ℕ) (t : Bool) (e : t ≡ eqb class 0) where
+module _ (route class : ℕ) (t : Bool) (e : t ≡ eqb class classLeaf) where
   pub bars-leaf : t ≡ true → false ≡ routeBars route class
   unfolding routeBars
   bars-leaf y = yes-is _ _ _ _ (sym e ∙ y) refl
 
-  module _ (n : t ≡ false) (t₂ : Bool) (e₂ : t₂ ≡ eqb class 1) where
+  module _ (n : t ≡ false) (t₂ : Bool) (e₂ : t₂ ≡ eqb class classRendezvousOnly) where
     pub bars-rendezvous : (r : Bool) → t₂ ≡ true → r ≡ eqb route 0 → r ≡ routeBars route class
     unfolding routeBars
     bars-rendezvous r y a = no-is _ _ _ _ (sym e ∙ n) (yes-is _ _ _ _ (sym e₂ ∙ y) a)
@@ -252,7 +256,7 @@ module _ (m : Mem) (h : PreparedHandle) (route : ℕ) (bo bk : Option ℕ) (q : 
   handle-object x r y i a = passed-by _ n e t d _ _ _ y (a ∙ ap (λ (z : ObjectRecord). objectRefusal z route bo bk q) i ∙ looked-same)
 
 -- `look_at`
-pub looked-is : (m : Mem) (o koid kind class : ℕ) → koid ≡ m (object o 0) → kind ≡ m (object o 1) → class ≡ m (object o 2)
+pub looked-is : (m : Mem) (o koid kind class : ℕ) → koid ≡ m (object o objectKoid) → kind ≡ m (object o objectKind) → class ≡ m (object o objectClass)
     → _≡_ {A = ObjectRecord} (record { koid = record { 0 = koid }; kind = kind; class = class; supported = 0; exportable = 0; stage = 0; count = 0; limit = 0 }) (lookedAt m o)
 unfolding lookedAt
 looked-is m o koid kind class a b c = rw (a, b, c)
@@ -278,7 +282,7 @@ earlier-hit rq at v i (suc n) l e = bool (eqb i n)
 pub place-turn : (rq : List ℕ) (at i place e : ℕ) → place ≡ placeOf i rq at → e ≡ endAt rq place → e ≡ placeOf (i + 1) rq at
 place-turn rq at i place e p d = d ∙ ap (endAt rq) p ∙ sym (place-next i rq at)
 
-module _ (rq : List ℕ) (at v i place : ℕ) (p : place ≡ placeOf i rq at) (w : ℕ) (e : w ≡ must (fieldsAt rq place) 4) (t : Bool) (q : t ≡ eqb v w) where
+module _ (rq : List ℕ) (at v i place : ℕ) (p : place ≡ placeOf i rq at) (w : ℕ) (e : w ≡ must (fieldsAt rq place) valueField) (t : Bool) (q : t ≡ eqb v w) where
   value-is : eqb v (itemAt rq (placeOf i rq at) .value) ≡ t
   unfolding itemAt
   value-is = rw (q, e, p)
@@ -466,17 +470,17 @@ module _ (ws os : List ℕ) (sh : Shape) (base b route : ℕ) (bo bk : Option �
     unfolding itemsR
     prepare-copy y v a = passed-by _ n e t q _ _ _ z (refused-by _ k number-is t₂ q₂ _ _ _ v (a ∙ rw (← words-is, ← number-is)))
 
-    pub prepare-done : (w₁ w₂ os′ : List ℕ) (id : ℕ) → t₂ ≡ false → id ≡ load vs sh (root 5) → w₁ ≡ entriesW vs sh b (spare (load vs sh)) 0 (itemsAt rq at count) → w₂ ≡ claimW w₁ sh b count
+    pub prepare-done : (w₁ w₂ os′ : List ℕ) (id : ℕ) → t₂ ≡ false → id ≡ load vs sh (root rootNextId) → w₁ ≡ entriesW vs sh b (spare (load vs sh)) 0 (itemsAt rq at count) → w₂ ≡ claimW w₁ sh b count
         → os′ ≡ answered os base (0 ∷ id ∷ []) → both w₂ os′ ≡ itemsR ws os sh base b route bo bk (itemsAt rq at count)
     unfolding itemsR openedR
     prepare-done w₁ w₂ os′ id v i a₁ a₂ a₃ = passed-by _ n e t q _ _ _ z (passed-by _ k number-is t₂ q₂ _ _ _ v
         (rw (← words-is, items-length rq at count, a₂, a₁, a₃, i)))
 
 -- `prepare_transfer`
-module _ (ws os : List ℕ) (sh : Shape) (base : ℕ) (rq : List ℕ) (at b count : ℕ) (e₁ : b ≡ must (fieldsAt rq at) 1) (e₂ : count ≡ must (fieldsAt rq at) 3)
+module _ (ws os : List ℕ) (sh : Shape) (base : ℕ) (rq : List ℕ) (at b count : ℕ) (e₁ : b ≡ must (fieldsAt rq at) tableField) (e₂ : count ≡ must (fieldsAt rq at) countField)
     (n : ℕ) (e : n ≡ transferRefusal (load ws sh) sh b count) (t : Bool) (q : t ≡ not (eqb n 0)) where
-  first-is : n ≡ transferRefusal (load ws sh) sh (must (fieldsAt rq at) 1) (length (itemsAt rq (endAt rq at) (must (fieldsAt rq at) 3)))
-  first-is = rw (items-length rq (endAt rq at) (must (fieldsAt rq at) 3), ← e₁, ← e₂) e
+  first-is : n ≡ transferRefusal (load ws sh) sh (must (fieldsAt rq at) tableField) (length (itemsAt rq (endAt rq at) (must (fieldsAt rq at) countField)))
+  first-is = rw (items-length rq (endAt rq at) (must (fieldsAt rq at) countField), ← e₁, ← e₂) e
 
   pub transfer-refused : (os′ : List ℕ) → t ≡ true → os′ ≡ answered os base (n ∷ []) → both ws os′ ≡ transferAt ws os sh base rq at
   unfolding transferAt transferR

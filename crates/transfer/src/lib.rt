@@ -14,7 +14,9 @@ ghost use Rattle.authority.specs.Rights.{contains};
 ghost use Rattle.model.specs.Base.{orElse, agrees, bans, member};
 ghost use Rattle.model.specs.Words.{must, operationOf};
 ghost use Rattle.model.specs.Transfer.{isCopy};
+ghost use Rattle.format.specs.Fields.{valueField};
 ghost use Rattle.layout.specs.Layout.{item, place, load as loadAt};
+ghost use Rattle.layout.specs.Fields.{itemOperation};
 ghost use Rattle.request.specs.Place.{fieldsAt, endAt, itemAt};
 ghost use Rattle.book.specs.Ops.{spare};
 ghost use Rattle.answer.specs.Does.{both};
@@ -26,29 +28,28 @@ use authority::Rights;
 use codec::HandleValue;
 use codec::Koid;
 use layout::Shape;
+use layout::field;
+use layout::place;
+use layout::size;
+use layout::value;
 use lookup::Opened;
 use lookup::PreparedHandle;
 use lookup::View;
 use object::ObjectRecord;
 use request::Optional;
 
-// "class (0 Leaf, 1 RendezvousOnly, 2 Never)".
-pub const LEAF: u64 = 0;
-
-pub const RENDEZVOUS_ONLY: u64 = 1;
-
 // "Routes: 0 Buffered, 1 Rendezvous, 2 StagedStartup".
 pub const BUFFERED: u64 = 0;
 
 // Where item j of the row in place x stands; where there is none, the length.
 fn item_place(s: &[u64], sh: Shape, x: u64, j: u64) -> usize
-    ensures stands { λ r. ⌜ r ≡ place (length (now (s .entry))) sh (item x j 0) ⌝ }
+    ensures stands { λ r. ⌜ r ≡ place (length (now (s .entry))) sh (item x j itemOperation) ⌝ }
     ensures room { λ r. ⌜ r < 2 ^ 62 ⌝ }
 {
-    if j < 64 {
+    if j < size::BATCH_MAX {
         if x < sh.rows as u64 {
             let rows = layout::region_of(sh, layout::ROW);
-            return (rows.low + (x * 65 + j + 1) * 6) as usize;
+            return (rows.low + (x * size::ROW_BLOCKS + j + 1) * size::BLOCK_SIZE) as usize;
         }
     }
     s.len()
@@ -59,20 +60,23 @@ fn put_moved(s: &mut [u64], sh: Shape, x: u64, j: u64, h: PreparedHandle, r: u64
     ensures words { λ _. ⌜ now (s .exit) ≡ movedW (now (s .entry)) sh x j h r ⌝ }
 {
     let at = item_place(s, sh, x, j);
-    words::put(s, at, book::MOVE);
-    words::put(s, at + 1, h.slot);
-    words::put(s, at + 2, h.object);
-    words::put(s, at + 3, h.rights);
-    words::put(s, at + 4, h.flags);
-    words::put(s, at + 5, r);
+    words::put(s, at, value::OPERATION_MOVE);
+    words::put(s, at + place::ITEM_MOVED, h.slot);
+    words::put(s, at + place::ITEM_OBJECT, h.object);
+    words::put(s, at + place::ITEM_RIGHTS, h.rights);
+    words::put(s, at + place::ITEM_FLAGS, h.flags);
+    words::put(s, at + place::ITEM_GRANTED, r);
 }
 
 // The slot that item j of the claim in place x moves is TransferReserved by it; a copy marks none.
 fn mark_item(s: &mut [u64], sh: Shape, b: u64, x: u64, j: u64)
     ensures words { λ _. ⌜ now (s .exit) ≡ markItemW (now (s .entry)) sh b x j ⌝ }
 {
-    if words::eq(layout::item_word(s, sh, x, j, 0), book::MOVE) {
-        let k = layout::item_word(s, sh, x, j, 1);
+    if words::eq(
+        layout::item_word(s, sh, x, j, field::ITEM_OPERATION),
+        value::OPERATION_MOVE,
+    ) {
+        let k = layout::item_word(s, sh, x, j, field::ITEM_MOVED);
         storage::mark_moving(s, sh, b, k, x, j);
     }
 }
@@ -93,7 +97,7 @@ fn open_claim(s: &mut [u64], sh: Shape, b: u64, n: u64)
     ensures words { λ _. ⌜ now (s .exit) ≡ claimW (now (s .entry)) sh b n ⌝ }
 {
     let x = book::spare_place(s, sh);
-    book::open_row(s, sh, book::CLAIM, b, n);
+    book::open_row(s, sh, value::KIND_CLAIM, b, n);
     mark_items(s, sh, b, x, n);
 }
 
@@ -138,7 +142,7 @@ fn consume_handle(
 {
     let n = consume_refusal(s, sh, h, required, kind, koid);
     if words::eq(n, 0) {
-        let id = layout::root_word(s, sh, 5);
+        let id = layout::root_word(s, sh, field::ROOT_NEXT_ID);
         let x = book::spare_place(s, sh);
         put_moved(s, sh, x, 0, h, h.rights);
         open_claim(s, sh, b, 1);
@@ -256,7 +260,7 @@ fn read_item(rq: &[u64], at: usize) -> HandleTransferRequest
 
 // Its value.
 fn item_value(rq: &[u64], at: usize) -> u64
-    ensures { λ r. ⌜ r ≡ must (fieldsAt (now (rq .entry)) at) 4 ⌝ }
+    ensures { λ r. ⌜ r ≡ must (fieldsAt (now (rq .entry)) at) valueField ⌝ }
 {
     if at < rq.len() {
         if rq[at] == format::TRANSFER_ITEM_MUST {
@@ -289,7 +293,7 @@ fn transfer_refusal(s: &[u64], sh: Shape, b: u64, n: u64) -> u64
     if words::eq(n, 0) {
         return format::refusal::EMPTY_RESERVATION;
     }
-    if words::lt(book::MAX_BATCH, n) {
+    if words::lt(size::BATCH_MAX, n) {
         return format::refusal::RESERVATION_TOO_LARGE;
     }
     if book::row_left(s, sh) {
@@ -312,7 +316,7 @@ fn lacks(held: Rights, asked: Rights) -> bool
 fn copies(operation: u64) -> bool
     ensures { λ r. ⌜ r ≡ isCopy (operationOf operation) ⌝ }
 {
-    words::ne(operation, book::MOVE)
+    words::ne(operation, value::OPERATION_MOVE)
 }
 
 // "a copy without DUPLICATE".
@@ -359,10 +363,10 @@ fn differs(kind: Optional, x: u64) -> bool
 fn route_bars(route: u64, class: u64) -> bool
     ensures { λ r. ⌜ r ≡ routeBars route class ⌝ }
 {
-    if words::eq(class, LEAF) {
+    if words::eq(class, value::CLASS_LEAF) {
         return false;
     }
-    if words::eq(class, RENDEZVOUS_ONLY) {
+    if words::eq(class, value::CLASS_RENDEZVOUS_ONLY) {
         return words::eq(route, BUFFERED);
     }
     true
@@ -420,9 +424,9 @@ fn object_refusal(x: ObjectRecord, q: HandleTransferRequest, t: TransferRules) -
 fn look_at(s: &[u64], sh: Shape, o: u64) -> ObjectRecord
     ensures { λ r. ⌜ r ≡ lookedAt (loadAt (now (s .entry)) sh) o ⌝ }
 {
-    let koid = layout::object_word(s, sh, o, 0);
-    let kind = layout::object_word(s, sh, o, 1);
-    let class = layout::object_word(s, sh, o, 2);
+    let koid = layout::object_word(s, sh, o, field::OBJECT_KOID);
+    let kind = layout::object_word(s, sh, o, field::OBJECT_KIND);
+    let class = layout::object_word(s, sh, o, field::OBJECT_CLASS);
     ObjectRecord {
         koid: Koid(koid),
         kind: kind,
@@ -470,11 +474,14 @@ fn listed(rq: &[u64], at: usize, n: u64, v: u64) -> bool
     false
 }
 
+// Bits of a word.
+const WORD_BITS: u64 = 64;
+
 // Whether the bit of a value, by its remainder, stands in a set of bits.
 fn in_set(seen: u64, v: u64) -> bool
     ensures { λ r. ⌜ r ≡ eqb (bitOf seen v) 1 ⌝ }
 {
-    let k = v % 64;
+    let k = v % WORD_BITS;
     words::eq((seen >> k) % 2, 1)
 }
 
@@ -483,7 +490,7 @@ fn joined(seen: u64, v: u64) -> u64
     ensures { λ r. ⌜ r ≡ bitOr seen (2 ^ (v % 64)) ⌝ }
 {
     let one: u64 = 1;
-    let k = v % 64;
+    let k = v % WORD_BITS;
     seen | (one << k)
 }
 
@@ -633,10 +640,10 @@ fn put_copied(s: &mut [u64], sh: Shape, x: u64, j: u64, h: PreparedHandle, r: u6
     ensures words { λ _. ⌜ now (s .exit) ≡ copiedW (now (s .entry)) sh x j h r ⌝ }
 {
     let at = item_place(s, sh, x, j);
-    words::put(s, at, book::COPY);
-    words::put(s, at + 2, h.object);
-    words::put(s, at + 3, r);
-    words::put(s, at + 4, h.flags);
+    words::put(s, at, value::OPERATION_COPY);
+    words::put(s, at + place::ITEM_OBJECT, h.object);
+    words::put(s, at + place::ITEM_RIGHTS, r);
+    words::put(s, at + place::ITEM_FLAGS, h.flags);
 }
 
 // An item that names the handle h, as its claim keeps it, in item j of the row in place x.
@@ -718,7 +725,7 @@ fn prepare_items(
         refuse_spent(s, sh, k, out, base);
         return;
     }
-    let id = layout::root_word(s, sh, 5);
+    let id = layout::root_word(s, sh, field::ROOT_NEXT_ID);
     put_entries(s, sh, rq, at, count, b);
     open_claim(s, sh, b, count);
     answer::say1(out, base, id);

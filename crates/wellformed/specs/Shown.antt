@@ -13,6 +13,8 @@ use Rattle.model.specs.WellFormed.{ObjectRange, Ranges, Orders, Generations, St
 use Rattle.layout.specs.declared.Shape.{Shape}
 use Rattle.layout.specs.Layout.{Addr, Mem, root, head, object}
 use Rattle.layout.specs.ShapeOf.{Permitted}
+use Rattle.layout.specs.Fields.{rootNextId, headPageLimit, headLifecycle, headCursor, objectKoid, objectSupported}
+use Rattle.layout.specs.Values.{lifeActive}
 use Rattle.representation.specs.Represents.{TableIs, ObjectIs, Represents}
 use Rattle.structure.specs.Facts.{Structure}
 use Rattle.structure.specs.Slots.{lifeView}
@@ -71,9 +73,9 @@ module _ (sh : Shape) (m : Mem) (limits : Permitted sh) (small : (a : Addr) → 
     rest = λ b h. table-out sh m b h;
   }
 
-  life-active : (b : ℕ) → m (head b 2) ≡ 0 → isActive (tableView m b .life) ≡ true
+  life-active : (b : ℕ) → m (head b headLifecycle) ≡ lifeActive → isActive (tableView m b .life) ≡ true
   unfolding tableView
-  life-active b e = ap (λ (w : ℕ). isActive (lifeView w (m (head b 3)))) e
+  life-active b e = ap (λ (w : ℕ). isActive (lifeView w (m (head b headCursor)))) e
 
   book-shows : LedgerShows sh m s
   book-shows = record {
@@ -151,7 +153,7 @@ module _ (sh : Shape) (m : Mem) (limits : Permitted sh) (small : (a : Addr) → 
 
   bounds : Bounds sh m
   bounds = record {
-    pages = λ b h. omega (arith, st .heads b h .size, st .entries, sum-part (sh .tables) (λ c. m (head c 0)) b h);
+    pages = λ b h. omega (arith, st .heads b h .size, st .entries, sum-part (sh .tables) (λ c. m (head c headPageLimit)) b h);
     rows = p .ledger .used;
     items = λ i h. p .ledger .rows i h .few-items;
   }
@@ -165,7 +167,7 @@ module _ (sh : Shape) (m : Mem) (limits : Permitted sh) (small : (a : Addr) → 
     capacity = (limits .some-row, limits .few-rows);
     rowCount = row-count sh m (p .ledger) s book-shows;
     tables = λ b h. range-shown sh m st b h (tablesView sh m b) (shows .tables b h) small s refl;
-    objects = λ o h. subst ObjectRange (sym (object-in sh m o h)) (from-range m o (p .objects o h) (small (object o 0)) (small (object o 3)));
+    objects = λ o h. subst ObjectRange (sym (object-in sh m o h)) (from-range m o (p .objects o h) (small (object o objectKoid)) (small (object o objectSupported)));
     rows = row-ranges sh m (p .ledger) s book-shows small;
   }
 
@@ -194,7 +196,7 @@ module _ (sh : Shape) (m : Mem) (limits : Permitted sh) (small : (a : Addr) → 
       closing = closing-holds sh m (p .ledger) s book-shows;
       closed = retired-shown sh m st s shows;
     };
-    ids = ids-hold sh m (p .ledger) s book-shows (small (root 5));
+    ids = ids-hold sh m (p .ledger) s book-shows (small (root rootNextId));
     marks = marks-hold sh m (p .ledger) s book-shows;
     atRest = at-rest;
   }

@@ -7,6 +7,7 @@ use Rattle.model.specs.Base.{pick}
 use Rattle.model.specs.State.{Table, Object, State, noTable, noObject}
 use Rattle.layout.specs.declared.Shape.{Shape}
 use Rattle.layout.specs.Layout.{Mem, root, head}
+use Rattle.layout.specs.Fields.{rootNextId, headPageLimit, headMask, headLifecycle, headCursor, headEpoch, headPages}
 use Rattle.representation.specs.Represents.{slotIn}
 use Rattle.structure.specs.Frames.{freeFrames}
 use Rattle.structure.specs.Slots.{pageView, lifeView}
@@ -17,11 +18,11 @@ use Rattle.counts.specs.Objects.{objectFrom}
 -- table b, by its head, its page entries, its slots and its orders' links
 unfoldable pub tableView : Mem → ℕ → Table
 tableView m b = record {
-  limit = m (head b 0);
-  mask = m (head b 1);
-  life = lifeView (m (head b 2)) (m (head b 3));
-  epoch = m (head b 4);
-  size = m (head b 5);
+  limit = m (head b headPageLimit);
+  mask = m (head b headMask);
+  life = lifeView (m (head b headLifecycle)) (m (head b headCursor));
+  epoch = m (head b headEpoch);
+  size = m (head b headPages);
   pages = pageView m b;
   slots = slotIn m b;
   free = freeList m b;
@@ -45,7 +46,7 @@ viewOf sh m = record {
   objects = objectsView sh m;
   frameCount = sh .frames;
   frames = freeFrames m (sh .frames);
-  book = record { rows = rowsView m; capacity = sh .rows; next = m (root 5) };
+  book = record { rows = rowsView m; capacity = sh .rows; next = m (root rootNextId) };
 }
 
 module _ (sh : Shape) (m : Mem) where

@@ -12,16 +12,17 @@ use Rattle.words.specs.Pick.{pick, bool, clash, both}
 use Rattle.words.specs.Words.{Small}
 use Rattle.codec.specs.Codec.{generationLimit}
 use Rattle.model.specs.Base.{bit, nth, occurs}
-use Rattle.model.specs.State.{till, Handle, Slot, Slot.absent, Slot.vacant, Slot.reserved, Slot.transferReserved, Slot.occupied, Page, Lifecycle, Lifecycle.active, Lifecycle.tearingDown, Lifecycle.retired, Class, Class.leaf, Class.rendezvousOnly, Class.never, Stage, Stage.stillNew, Stage.nowActive, Stage.nowRetired, Entry, Entry.moved, Entry.copied, Body, Body.reservation, Body.claim, Body.parcel, Row, State, isAbsent, isVacant, isBusy, generation, maxTables, maxFrames, maxObjects, maxRows, maxLimit, maxSlots, knownFlags}
-use Rattle.model.specs.Storage.{busyIn, busyOf, slotsOf}
+use Rattle.model.specs.State.{till, Handle, Slot, Slot.absent, Slot.vacant, Slot.reserved, Slot.transferReserved, Slot.occupied, Page, Lifecycle, Lifecycle.active, Lifecycle.tearingDown, Lifecycle.retired, Class, Class.leaf, Class.rendezvousOnly, Class.never, Stage, Stage.stillNew, Stage.nowActive, Stage.nowRetired, Entry, Entry.moved, Entry.copied, Body, Body.reservation, Body.claim, Body.parcel, Row, State, isAbsent, isVacant, generation, maxTables, maxFrames, maxObjects, maxRows, maxLimit, maxSlots, knownFlags}
+use Rattle.model.specs.Storage.{busyOf}
 use Rattle.model.specs.Book.{find, movedOf}
-use Rattle.model.specs.Bounds.{slots-max, pages-max, batch-max}
+use Rattle.model.specs.Bounds.{slots-max, pages-max, batch-max, busy-small}
 use Rattle.model.specs.Tests.{bit-true, bit-small}
 use Rattle.model.specs.Counting.{bit-same, sum-le, sum-ones, sum-occurs}
 use Rattle.model.specs.WellFormed.{All, HandleRange, SlotRange, EntryRange, LifeRange, BodyRange, RowRange, IdsRise, isAttached, isReservedBy, isMovingBy, WellFormed}
 use Rattle.layout.specs.declared.Extent.{Extent}
 use Rattle.layout.specs.Regions.{region, Inside}
 use Rattle.layout.specs.Layout.{Addr, Addr.reg, In, layout}
+use Rattle.layout.specs.Sizes.{pageSize, pagesMax, slotsMax, tablesMax, framesMax, batchMax}
 use Rattle.representation.specs.Represents.{linkOf, freeIn, classWord, stageWord}
 use Rattle.representation.specs.Unique.{shapeFor}
 use Rattle.written.specs.Searches.{seek-below, after, first-member, after-member, before-member, rankOf, rank-most, place-most, moved-most}
@@ -59,13 +60,6 @@ fit-at (e ∷ es) (p ∷ ps) h (suc k) x y f i = fit-at es ps (h .1) k x y f i
 -- a list without repetition is no longer than the numbers that it is of
 distinct-length : (n : ℕ) (l : List ℕ) → ((x : ℕ) → 0 < occurs x l → x < n) → ((x : ℕ) → occurs x l ≤ 1) → length l ≤ n
 distinct-length n l h u = omega (arith, sum-occurs n l h, sum-le n (λ i. occurs i l) (λ i. 1) (λ i p. u i), sum-ones n)
-
-busy-in : (f : ℕ → Slot) (k n : ℕ) → busyIn f k n ≤ n
-busy-in f k zero = omega arith
-busy-in f k (suc n) = bool (isBusy (f k)) (λ e. rw e (omega (arith, busy-in f (suc k) n))) (λ e. rw e (omega (arith, busy-in f (suc k) n)))
-
-busy-small : (f : ℕ → Slot) (p : ℕ) → busyOf till f p ≤ 64
-busy-small f p = omega (arith, busy-in f (p * 64) (slotsOf till p))
 
 life-small : (l : Lifecycle) → LifeRange l → (lifeWord l ≤ 2) × (cursorWord l ≤ maxSlots)
 life-small active h = (omega arith, omega arith)
@@ -121,7 +115,7 @@ row-found lo n (x ∷ rs) (suc j) r h e =
 
 module _ (s : State) (w : WellFormed till s) where
   -- what stands in an order is a slot, or a page that the table has had
-  free-in : (b k : ℕ) → 0 < occurs k (s .tables b .free) → k < 16777215
+  free-in : (b k : ℕ) → 0 < occurs k (s .tables b .free) → k < slotsMax
   free-in b k o = let v = bit-true (isVacant (s .tables b .slots k)) (omega (arith, w .orders b .free k)) in
       omega (arith, slot-there s w b k (there-by isVacant (s .tables b .slots k) refl v) .low, slots-max)
 
@@ -131,14 +125,14 @@ module _ (s : State) (w : WellFormed till s) where
   detached-in : (b p : ℕ) → 0 < occurs p (s .tables b .detached) → p < s .tables b .size
   detached-in b p o = ltb-true p (s .tables b .size) (both (ltb p (s .tables b .size)) (not (isAttached (s .tables b) p)) (bit-true _ (omega (arith, w .orders b .detached p))) .0)
 
-  sizes : (b : ℕ) → b < s .tableCount → (s .tables b .size ≤ s .tables b .limit) × (s .tables b .limit ≤ 262144)
+  sizes : (b : ℕ) → b < s .tableCount → (s .tables b .size ≤ s .tables b .limit) × (s .tables b .limit ≤ pagesMax)
   sizes b h = let r = w .ranges .tables b h in (r .size, omega (arith, r .limit .1, pages-max))
 
-  table-few : s .tableCount ≤ 16
+  table-few : s .tableCount ≤ tablesMax
   unfolding maxTables
   table-few = w .ranges .tableCount .1
 
-  frame-few : s .frameCount ≤ 65535
+  frame-few : s .frameCount ≤ framesMax
   unfolding maxFrames
   frame-few = w .ranges .frameCount
 
@@ -179,17 +173,17 @@ module _ (s : State) (w : WellFormed till s) where
         l .1,
         slots-max,
         r .epoch,
-        first-member (s .tables b .free) 16777215 (free-in b),
-        distinct-length 16777215 (s .tables b .free) (free-in b) (λ k. omega (arith, w .orders b .free k, bit-small (isVacant (s .tables b .slots k)))),
+        first-member (s .tables b .free) slotsMax (free-in b),
+        distinct-length slotsMax (s .tables b .free) (free-in b) (λ k. omega (arith, w .orders b .free k, bit-small (isVacant (s .tables b .slots k)))),
         first-member (s .tables b .empty) (s .tables b .size) (empty-in b),
         first-member (s .tables b .detached) (s .tables b .size) (detached-in b),
         entries-few b (omega arith),
       )
 
-  link-small : (b p : ℕ) → b < s .tableCount → p < s .tables b .limit → linkOf (s .tables b .pages p .frame) ≤ 65535
+  link-small : (b p : ℕ) → b < s .tableCount → p < s .tables b .limit → linkOf (s .tables b .pages p .frame) ≤ framesMax
   link-small b p h i = go (s .tables b .pages p .frame) refl
     where
-      go : (x : Option ℕ) → s .tables b .pages p .frame ≡ x → linkOf x ≤ 65535
+      go : (x : Option ℕ) → s .tables b .pages p .frame ≡ x → linkOf x ≤ framesMax
       go none e = omega arith
       go (some f) e = omega (arith, frame-low s (w .frames) b p f h i e, frame-few)
 
@@ -210,7 +204,7 @@ module _ (s : State) (w : WellFormed till s) where
         arith,
         link-small b p h i,
         high-small b p h,
-        busy-small (s .tables b .slots) p,
+        busy-small till (s .tables b .slots) p,
         order-in b p,
         before-member p 0 (s .tables b .empty) (s .tables b .size) (omega arith) (empty-in b),
       )
@@ -239,10 +233,10 @@ module _ (s : State) (w : WellFormed till s) where
   unfolding knownFlags
   handle-fits h r = (omega (arith, r .object, object-few), r .rights, omega (arith, r .flags))
 
-  position-small : (k i : ℕ) → positionIn k (find i (s .book .rows)) ≤ 64
+  position-small : (k i : ℕ) → positionIn k (find i (s .book .rows)) ≤ batchMax
   position-small k i = go (find i (s .book .rows)) refl
     where
-      go : (d : Option Body) → find i (s .book .rows) ≡ d → positionIn k d ≤ 64
+      go : (d : Option Body) → find i (s .book .rows) ≡ d → positionIn k d ≤ batchMax
       go none e = omega arith
       go (some (reservation b ks)) e = omega (arith, place-most k ks, range-of s w i (reservation b ks) e .1 .1, batch-max)
       go (some (claim b es)) e = omega (arith, moved-most k es, range-of s w i (claim b es) e .1 .1, batch-max)
@@ -260,7 +254,7 @@ module _ (s : State) (w : WellFormed till s) where
       go : (x : Slot) → s .tables b .slots k ≡ x → SlotRange s x → Fit (slotWords (s .tables b .free) (s .book .rows) k x)
       go absent e r = tt
       go (vacant g) e r =
-          omega (arith, born (vacant g) e refl, after-member k (s .tables b .free) 16777215 (free-in b), before-member k 0 (s .tables b .free) 16777215 (omega arith) (free-in b))
+          omega (arith, born (vacant g) e refl, after-member k (s .tables b .free) slotsMax (free-in b), before-member k 0 (s .tables b .free) slotsMax (omega arith) (free-in b))
       go (reserved g i) e r = omega (arith, born (reserved g i) e refl, rank-low i, position-small k i)
       go (transferReserved g i) e r = omega (arith, born (transferReserved g i) e refl, rank-low i, position-small k i)
       go (occupied g x) e r = omega (arith, born (occupied g x) e refl, handle-fits x r)
@@ -270,7 +264,7 @@ module _ (s : State) (w : WellFormed till s) where
     where
       go : (x : Option ℕ) → ownerOf s f ≡ x → Fit (cellWords s x j)
       go none e = tt
-      go (some k) e = of-entry (λ b p. Fit (slotOf s b (p * 64 + j))) (λ b p h i. slot-fits b (p * 64 + j) h) k (owner-low f k e)
+      go (some k) e = of-entry (λ b p. Fit (slotOf s b (p * pageSize + j))) (λ b p h i. slot-fits b (p * pageSize + j) h) k (owner-low f k e)
 
   object-fits : (o : ℕ) → o < s .objectCount → Fit (objectWords (s .objects o))
   unfolding maxLimit
@@ -279,13 +273,13 @@ module _ (s : State) (w : WellFormed till s) where
       omega (arith, r .koid .1, r .kind, class-small (x .class), r .supported, bit-small (x .exportable), stage-small (x .stage), w .counts .within o h, r .limit)
 
   -- a slot of an open row
-  reserved-low : (i b k : ℕ) (ks : List ℕ) → find i (s .book .rows) ≡ some (reservation b ks) → 0 < occurs k ks → k < 16777215
+  reserved-low : (i b k : ℕ) (ks : List ℕ) → find i (s .book .rows) ≡ some (reservation b ks) → 0 < occurs k ks → k < slotsMax
   reserved-low i b k ks e o =
       let q : pick (eqb b b) (occurs k ks) 0 ≡ bit (isReservedBy i (s .tables b .slots k)) = rw e at (w .marks .reserved i b k) in
       let p : occurs k ks ≡ bit (isReservedBy i (s .tables b .slots k)) = rw (eq-eqb b b refl) at q in
       omega (arith, slot-there s w b k (there-by (isReservedBy i) (s .tables b .slots k) refl (bit-true _ (omega arith))) .low, slots-max)
 
-  moving-low : (i b k : ℕ) (es : List Entry) → find i (s .book .rows) ≡ some (claim b es) → 0 < occurs k (movedOf es) → k < 16777215
+  moving-low : (i b k : ℕ) (es : List Entry) → find i (s .book .rows) ≡ some (claim b es) → 0 < occurs k (movedOf es) → k < slotsMax
   moving-low i b k es e o =
       let q : pick (eqb b b) (occurs k (movedOf es)) 0 ≡ bit (isMovingBy i (s .tables b .slots k)) = rw e at (w .marks .transferReserved i b k) in
       let p : occurs k (movedOf es) ≡ bit (isMovingBy i (s .tables b .slots k)) = rw (eq-eqb b b refl) at q in

@@ -14,6 +14,8 @@ use Rattle.model.specs.Book.{find, movedOf}
 use Rattle.model.specs.Bounds.{batch-max}
 use Rattle.model.specs.WellFormed.{isReservedBy, isMovingBy, inReservation, inClaim, All, BodyRange, RowRange, Marks, WellFormed}
 use Rattle.layout.specs.Layout.{Mem, row, item}
+use Rattle.layout.specs.Fields.{itemSlot}
+use Rattle.layout.specs.Sizes.{batchMax}
 use Rattle.representation.specs.Represents.{HandleIs, EntryIs, Items, BodyIs, RowsAre}
 use Rattle.written.specs.Searches.{rankOf, rank-found}
 use Rattle.written.specs.Words.{bodyWords, itemWords, entryItem, handleItem, blockWords}
@@ -60,7 +62,7 @@ module _ (s : State) (m : Mem) (shows : Shows s m) (r : ℕ) (x : Row) (h : r < 
   pub row-is : (f : ℕ) → f < 6 → m (row r f) ≡ getD (blockWords 0 x) f 0
   row-is f i = at-row s m shows r f h i ∙ rw e
 
-  pub item-is : (j f : ℕ) → j < 64 → f < 6 → m (item r j f) ≡ getD (itemWords (x .body) j) f 0
+  pub item-is : (j f : ℕ) → j < batchMax → f < 6 → m (item r j f) ≡ getD (itemWords (x .body) j) f 0
   item-is j f l i = at-item s m shows r j f h l i ∙ rw e
 
 -- ---- the elements of a list, by number
@@ -82,18 +84,18 @@ items-are P l f = items-from P 0 l (λ i j a e q. let z : i ≡ j = omega arith 
 module _ (s : State) (m : Mem) (shows : Shows s m) where
   -- one row's body, by its words
   body-is : (r : ℕ) (d : Body) → BodyRange s d → ((f : ℕ) → f < 5 → m (row r (suc f)) ≡ getD (bodyWords d) f 0)
-      → ((j f : ℕ) → j < 64 → f < 6 → m (item r j f) ≡ getD (itemWords d j) f 0) → BodyIs m r d
+      → ((j f : ℕ) → j < batchMax → f < 6 → m (item r j f) ≡ getD (itemWords d j) f 0) → BodyIs m r d
   body-is r (reservation b ks) g a c = (
     a 0 (omega arith),
     a 1 (omega arith),
     a 2 (omega arith),
-    items-are (λ j k. m (item r j 0) ≡ k) ks (λ j k e.
+    items-are (λ j k. m (item r j itemSlot) ≡ k) ks (λ j k e.
         c j 0 (omega (arith, nth-low ks j k e, g .1 .1, batch-max)) (omega arith) ∙ rw e),
   )
   body-is r (claim b es) g a c =
       (a 0 (omega arith), a 1 (omega arith), a 2 (omega arith), items-are (EntryIs m r) es (λ j x e. each j x (omega (arith, nth-low es j x e, g .1 .1, batch-max)) e))
     where
-      each : (j : ℕ) (x : Entry) → j < 64 → nth es j ≡ some x → EntryIs m r j x
+      each : (j : ℕ) (x : Entry) → j < batchMax → nth es j ≡ some x → EntryIs m r j x
       each j (moved k h y) l e =
           let at : (f : ℕ) → f < 6 → m (item r j f) ≡ getD (entryItem (moved k h y)) f 0 = λ f i. c j f l i ∙ rw e in
           (at 0 (omega arith), at 1 (omega arith), (at 2 (omega arith), at 3 (omega arith), at 4 (omega arith)), at 5 (omega arith))
@@ -104,7 +106,7 @@ module _ (s : State) (m : Mem) (shows : Shows s m) where
     a 0 (omega arith),
     a 2 (omega arith),
     items-are (HandleIs m r) hs (λ j h e.
-        let l : j < 64 = omega (arith, nth-low hs j h e, g .0 .1, batch-max) in
+        let l : j < batchMax = omega (arith, nth-low hs j h e, g .0 .1, batch-max) in
         let at : (f : ℕ) → f < 6 → m (item r j f) ≡ getD (handleItem h) f 0 = λ f i. c j f l i ∙ rw e in
         (at 2 (omega arith), at 3 (omega arith), at 4 (omega arith))),
   )

@@ -6,6 +6,7 @@ use lib.ListN.{getD}
 use Rattle.model.specs.Base.{nth}
 use Rattle.model.specs.State.{State}
 use Rattle.layout.specs.Layout.{Addr, Mem, In, in-root, in-head, in-entry, in-owner, in-cell, in-object, in-index, in-rank, in-row, in-item, root, head, entry, owner, group, cell, object, index, rank, row, item}
+use Rattle.layout.specs.Sizes.{pageSize, batchMax}
 use Rattle.representation.specs.Represents.{linkOf, freeIn}
 use Rattle.representation.specs.Unique.{shapeFor}
 use Rattle.written.specs.Words.{entriesBefore, rootWords, headWords, pageAt, pageWords, ownerOf, cellWords, objectWords, wordsOf, blockWords, wordAt}
@@ -46,7 +47,7 @@ module _ (s : State) (m : Mem) (shows : Shows s m) where
   unfolding shapeFor wordAt
   at-thousand g h = shows (group 2 g) (record { xs = omega arith; ys = omega arith; fs = omega arith })
 
-  pub at-cell : (f j i : ℕ) → f < s .frameCount → j < 64 → i < 6 → m (cell f j i) ≡ getD (cellWords s (ownerOf s f) j) i 0
+  pub at-cell : (f j i : ℕ) → f < s .frameCount → j < pageSize → i < 6 → m (cell f j i) ≡ getD (cellWords s (ownerOf s f) j) i 0
   unfolding shapeFor wordAt
   at-cell f j i h k l = shows (cell f j i) (in-cell (shapeFor s) f j i h k l)
 
@@ -66,6 +67,6 @@ module _ (s : State) (m : Mem) (shows : Shows s m) where
   unfolding shapeFor wordAt
   at-row r f h i = shows (row r f) (in-row (shapeFor s) r f h i)
 
-  pub at-item : (r j f : ℕ) → r < s .book .capacity → j < 64 → f < 6 → m (item r j f) ≡ getD (wordsOf (blockWords (suc j)) (nth (s .book .rows) r)) f 0
+  pub at-item : (r j f : ℕ) → r < s .book .capacity → j < batchMax → f < 6 → m (item r j f) ≡ getD (wordsOf (blockWords (suc j)) (nth (s .book .rows) r)) f 0
   unfolding shapeFor wordAt
   at-item r j f h i l = shows (item r j f) (in-item (shapeFor s) r j f h i l)

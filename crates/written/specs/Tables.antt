@@ -16,6 +16,9 @@ use Rattle.model.specs.Bounds.{batch-max}
 use Rattle.model.specs.Tests.{bit-true, bit-small}
 use Rattle.model.specs.WellFormed.{isAttached, WellFormed}
 use Rattle.layout.specs.Layout.{Mem, head, entry, cell, rank, row, item}
+use Rattle.layout.specs.Fields.{headPageLimit, headMask, headLifecycle, headCursor, headEpoch, headPages, headFirstFree, headFreeSlots, headFirstEmpty, headFirstDetached, headFirstEntry, entryNext, entryPrevious, slotTag, slotNextFree, slotPreviousFree, slotPlace, slotPosition, rowId, rowTable, rowLength, itemOperation}
+use Rattle.layout.specs.Values.{operationMove}
+use Rattle.layout.specs.Sizes.{pageSize, batchMax}
 use Rattle.representation.specs.Represents.{entryAt, linkOf, frameOf, wordIn, slotWord, tagged, slotFrom, slotIn, Chain, Linked, LifeIs, TableIs, isMarked}
 use Rattle.written.specs.Searches.{after, before, chained, linked, placeOf, place-found, movedAt, moved-found, rankOf, rank-found}
 use Rattle.written.specs.Words.{entriesBefore, pageAt, lifeWord, cursorWord, orderOf, pageWords, positionIn, slotWords, slotOf, cellWords, bodyWords, itemWords}
@@ -64,14 +67,14 @@ order-detached t p e = rw e
 -- how a marked slot stands in its row
 abbrev pub MarkIs : State → Mem → ℕ → ℕ → ℕ → ℕ → ℕ → Type 0
 MarkIs s m b k tag x i =
-    (x < s .book .capacity) × (m (rank x) < length (s .book .rows)) × (i < m (row x 3)) × (m (row x 2) ≡ b) × (m (item x i (tag - 1)) ≡ k) × (tag ≡ 2 → m (item x i 0) ≡ 0)
+    (x < s .book .capacity) × (m (rank x) < length (s .book .rows)) × (i < m (row x rowLength)) × (m (row x rowTable) ≡ b) × (m (item x i (tag - 1)) ≡ k) × (tag ≡ 2 → m (item x i itemOperation) ≡ operationMove)
 
 -- a slot that stands on a page
 pub record There (t : Table) (k : ℕ) : Type 0 where
   pub frame : ℕ
-  pub has : t .pages (k / 64) .frame ≡ some frame
+  pub has : t .pages (k / pageSize) .frame ≡ some frame
   pub low : k < maxSlots
-  pub page : k / 64 < t .size
+  pub page : k / pageSize < t .size
 
 module _ (s : State) (w : WellFormed till s) where
   -- a page with a frame is one that the table has had
@@ -82,13 +85,13 @@ module _ (s : State) (w : WellFormed till s) where
 
   pub slot-there : (b k : ℕ) → isAbsent (s .tables b .slots k) ≡ false → There (s .tables b) k
   slot-there b k e =
-      let q = both (isAttached (s .tables b) (k / 64)) (ltb k maxSlots) (not-false _ (sym (w .orders b .there k) ∙ e)) in
-      let f = attached-is (s .tables b .pages (k / 64) .frame) (q .0) in
-      record { frame = f .0; has = f .1; low = ltb-true k maxSlots (q .1); page = attached-low b (k / 64) (q .0) }
+      let q = both (isAttached (s .tables b) (k / pageSize)) (ltb k maxSlots) (not-false _ (sym (w .orders b .there k) ∙ e)) in
+      let f = attached-is (s .tables b .pages (k / pageSize) .frame) (q .0) in
+      record { frame = f .0; has = f .1; low = ltb-true k maxSlots (q .1); page = attached-low b (k / pageSize) (q .0) }
 
 module _ (s : State) (w : WellFormed till s) (m : Mem) (shows : Shows s m) (b : ℕ) (h : b < s .tableCount) where
-  first-is : m (head b 10) ≡ entriesBefore s b
-  first-is = at-head s m shows b 10 h (omega arith)
+  first-is : m (head b headFirstEntry) ≡ entriesBefore s b
+  first-is = at-head s m shows b headFirstEntry h (omega arith)
 
   size-limit : (p : ℕ) → p < s .tables b .size → p < s .tables b .limit
   size-limit p l = omega (arith, w .ranges .tables b h .size)
@@ -96,20 +99,20 @@ module _ (s : State) (w : WellFormed till s) (m : Mem) (shows : Shows s m) (b : 
   entry-is : (p f : ℕ) → p < s .tables b .size → f < 5 → m (entry (entryAt m b p) f) ≡ getD (pageWords (s .tables b) p) f 0
   entry-is p f l i = rw first-is (at-entry s m shows b p f h (size-limit p l) i)
 
-  frame-is : (k : ℕ) → frameOf m b k ≡ pick (ltb k maxSlots) (linkOf (s .tables b .pages (k / 64) .frame)) 0
-  frame-is k = ap (λ (z : ℕ). pick (ltb k maxSlots) z 0) (rw (at-head s m shows b 5 h (omega arith)) (bool (ltb (k / 64) (s .tables b .size))
-      (λ e. rw e (entry-is (k / 64) 0 (ltb-true (k / 64) (s .tables b .size) e) (omega arith)))
-      (λ e. rw (e, w .atRest .pages b (k / 64) (ltb-false (k / 64) (s .tables b .size) e)))))
+  frame-is : (k : ℕ) → frameOf m b k ≡ pick (ltb k maxSlots) (linkOf (s .tables b .pages (k / pageSize) .frame)) 0
+  frame-is k = ap (λ (z : ℕ). pick (ltb k maxSlots) z 0) (rw (at-head s m shows b headPages h (omega arith)) (bool (ltb (k / pageSize) (s .tables b .size))
+      (λ e. rw e (entry-is (k / pageSize) 0 (ltb-true (k / pageSize) (s .tables b .size) e) (omega arith)))
+      (λ e. rw (e, w .atRest .pages b (k / pageSize) (ltb-false (k / pageSize) (s .tables b .size) e)))))
 
   -- the words of a slot's cell
-  cell-is : (k f : ℕ) → There (s .tables b) k → f < 6 → (fr : ℕ) → s .tables b .pages (k / 64) .frame ≡ some fr → m (cell fr (k % 64) f) ≡ getD (slotOf s b k) f 0
+  cell-is : (k f : ℕ) → There (s .tables b) k → f < 6 → (fr : ℕ) → s .tables b .pages (k / pageSize) .frame ≡ some fr → m (cell fr (k % pageSize) f) ≡ getD (slotOf s b k) f 0
   cell-is k f t i fr e =
-      let p : k / 64 < s .tables b .limit = size-limit (k / 64) (t .page) in
-      let n : k / 64 * 64 + k % 64 ≡ k = omega arith in
-      at-cell s m shows fr (k % 64) f (frame-low s (w .frames) b (k / 64) fr h p e) (omega arith) i
-      ∙ ap (λ (o : Option ℕ). getD (cellWords s o (k % 64)) f 0) (owner-held s (w .frames) b (k / 64) fr h p e)
-      ∙ ap (λ (c : ℕ). getD (slotOf s c (pageAt s (entriesBefore s b + k / 64) * 64 + k % 64)) f 0) (table-at s b (k / 64) h p)
-      ∙ ap (λ (q : ℕ). getD (slotOf s b (q * 64 + k % 64)) f 0) (page-at s b (k / 64) h p)
+      let p : k / pageSize < s .tables b .limit = size-limit (k / pageSize) (t .page) in
+      let n : k / pageSize * pageSize + k % pageSize ≡ k = omega arith in
+      at-cell s m shows fr (k % pageSize) f (frame-low s (w .frames) b (k / pageSize) fr h p e) (omega arith) i
+      ∙ ap (λ (o : Option ℕ). getD (cellWords s o (k % pageSize)) f 0) (owner-held s (w .frames) b (k / pageSize) fr h p e)
+      ∙ ap (λ (c : ℕ). getD (slotOf s c (pageAt s (entriesBefore s b + k / pageSize) * pageSize + k % pageSize)) f 0) (table-at s b (k / pageSize) h p)
+      ∙ ap (λ (q : ℕ). getD (slotOf s b (q * pageSize + k % pageSize)) f 0) (page-at s b (k / pageSize) h p)
       ∙ ap (λ (j : ℕ). getD (slotOf s b j) f 0) n
 
   -- the frame of a slot that stands on a page
@@ -117,7 +120,7 @@ module _ (s : State) (w : WellFormed till s) (m : Mem) (shows : Shows s m) (b : 
   frame-there k t = frame-is k ∙ rw (lt-ltb k maxSlots (t .low), t .has)
 
   word-there : (k f : ℕ) → There (s .tables b) k → f < 6 → slotWord m b k f ≡ getD (slotOf s b k) f 0
-  word-there k f t i = ap (λ (z : ℕ). wordIn m z (k % 64) f) (frame-there k t) ∙ cell-is k f t i (t .frame) (t .has)
+  word-there k f t i = ap (λ (z : ℕ). wordIn m z (k % pageSize) f) (frame-there k t) ∙ cell-is k f t i (t .frame) (t .has)
 
   slot-word : (k f : ℕ) (x : Slot) → s .tables b .slots k ≡ x → isAbsent x ≡ false → f < 6 → slotWord m b k f ≡ getD (slotWords (s .tables b .free) (s .book .rows) k x) f 0
   slot-word k f x e a i =
@@ -129,13 +132,13 @@ module _ (s : State) (w : WellFormed till s) (m : Mem) (shows : Shows s m) (b : 
       (getD (slotWords (s .tables b .free) (s .book .rows) k x) 2 0) (getD (slotWords (s .tables b .free) (s .book .rows) k x) 3 0) (getD (slotWords (s .tables b .free) (s .book .rows) k x) 4 0)
   slot-tagged k x e a =
       let t = slot-there s w b k (ap isAbsent e ∙ a) in
-      let c : (f : ℕ) → f < 6 → m (cell (t .frame) (k % 64) f) ≡ getD (slotWords (s .tables b .free) (s .book .rows) k x) f 0
+      let c : (f : ℕ) → f < 6 → m (cell (t .frame) (k % pageSize) f) ≡ getD (slotWords (s .tables b .free) (s .book .rows) k x) f 0
       = λ f i. cell-is k f t i (t .frame) (t .has) ∙ ap (λ (y : Slot). getD (slotWords (s .tables b .free) (s .book .rows) k y) f 0) e in
-      ap (λ (z : ℕ). slotFrom m z (k % 64)) (frame-there k t)
+      ap (λ (z : ℕ). slotFrom m z (k % pageSize)) (frame-there k t)
       ∙ rw (c 0 (omega arith), c 1 (omega arith), c 2 (omega arith), c 3 (omega arith), c 4 (omega arith))
 
   -- the row of a mark has its id
-  row-id : (i : ℕ) (d : Body) → find i (s .book .rows) ≡ some d → m (row (rankOf i (s .book .rows)) 0) ≡ i
+  row-id : (i : ℕ) (d : Body) → find i (s .book .rows) ≡ some d → m (row (rankOf i (s .book .rows)) rowId) ≡ i
   row-id i d e =
       let r = rank-found i (s .book .rows) d e in
       row-is s m shows (rankOf i (s .book .rows)) (record { id = i; body = d }) (omega (arith, r .0, w .ranges .rowCount)) (r .1) 0 (omega arith)
@@ -145,8 +148,8 @@ module _ (s : State) (w : WellFormed till s) (m : Mem) (shows : Shows s m) (b : 
     where
       go : (x : Slot) → s .tables b .slots k ≡ x → slotIn m b k ≡ s .tables b .slots k
       go absent e =
-          let q : not (isAttached (s .tables b) (k / 64) && ltb k maxSlots) ≡ true = sym (w .orders b .there k) ∙ ap isAbsent e in
-          ap (λ (z : ℕ). slotFrom m z (k % 64)) (frame-is k ∙ no-link (s .tables b .pages (k / 64) .frame) (ltb k maxSlots) (not-true _ q)) ∙ sym e
+          let q : not (isAttached (s .tables b) (k / pageSize) && ltb k maxSlots) ≡ true = sym (w .orders b .there k) ∙ ap isAbsent e in
+          ap (λ (z : ℕ). slotFrom m z (k % pageSize)) (frame-is k ∙ no-link (s .tables b .pages (k / pageSize) .frame) (ltb k maxSlots) (not-true _ q)) ∙ sym e
       go (vacant g) e = slot-tagged k (vacant g) e refl ∙ sym e
       go (reserved g i) e =
           let f = reserved-in s (w .marks) b k g i e in
@@ -161,8 +164,8 @@ module _ (s : State) (w : WellFormed till s) (m : Mem) (shows : Shows s m) (b : 
   free-there : (k : ℕ) → 0 < occurs k (s .tables b .free) → (g : ℕ) × (s .tables b .slots k ≡ vacant g)
   free-there k o = vacant-there (s .tables b .slots k) (bit-true (isVacant (s .tables b .slots k)) (omega (arith, w .orders b .free k)))
 
-  free-is : Chain (λ k. slotWord m b k 2) (λ k. slotWord m b k 3) (m (head b 6)) 0 (s .tables b .free)
-  free-is = rw (at-head s m shows b 6 h (omega arith)) (chained (λ k. slotWord m b k 2) (λ k. slotWord m b k 3) 0 (s .tables b .free)
+  free-is : Chain (λ k. slotWord m b k slotNextFree) (λ k. slotWord m b k slotPreviousFree) (m (head b headFirstFree)) 0 (s .tables b .free)
+  free-is = rw (at-head s m shows b headFirstFree h (omega arith)) (chained (λ k. slotWord m b k slotNextFree) (λ k. slotWord m b k slotPreviousFree) 0 (s .tables b .free)
       (λ k o. let v = free-there k o in slot-word k 2 (vacant (v .0)) (v .1) refl (omega arith))
       (λ k o. let v = free-there k o in slot-word k 3 (vacant (v .0)) (v .1) refl (omega arith))
       (λ k. omega (arith, w .orders b .free k, bit-small (isVacant (s .tables b .slots k)))))
@@ -172,8 +175,8 @@ module _ (s : State) (w : WellFormed till s) (m : Mem) (shows : Shows s m) (b : 
       let a = both (isAttached (s .tables b) p) (eqb (busyOf till (s .tables b .slots) p) 0) (bit-true _ (omega (arith, w .orders b .empty p))) in
       (a .0, attached-low s w b p (a .0))
 
-  empty-is : Chain (λ p. m (entry (entryAt m b p) 3)) (λ p. m (entry (entryAt m b p) 4)) (m (head b 8)) 0 (s .tables b .empty)
-  empty-is = rw (at-head s m shows b 8 h (omega arith)) (chained (λ p. m (entry (entryAt m b p) 3)) (λ p. m (entry (entryAt m b p) 4)) 0 (s .tables b .empty)
+  empty-is : Chain (λ p. m (entry (entryAt m b p) entryNext)) (λ p. m (entry (entryAt m b p) entryPrevious)) (m (head b headFirstEmpty)) 0 (s .tables b .empty)
+  empty-is = rw (at-head s m shows b headFirstEmpty h (omega arith)) (chained (λ p. m (entry (entryAt m b p) entryNext)) (λ p. m (entry (entryAt m b p) entryPrevious)) 0 (s .tables b .empty)
       (λ p o. let a = empty-there p o in entry-is p 3 (a .1) (omega arith) ∙ ap (after p) (order-empty (s .tables b) p (a .0)))
       (λ p o. let a = empty-there p o in entry-is p 4 (a .1) (omega arith))
       (λ p. omega (arith, w .orders b .empty p, bit-small (isAttached (s .tables b) p && eqb (busyOf till (s .tables b .slots) p) 0))))
@@ -183,9 +186,9 @@ module _ (s : State) (w : WellFormed till s) (m : Mem) (shows : Shows s m) (b : 
       let a = both (ltb p (s .tables b .size)) (not (isAttached (s .tables b) p)) (bit-true _ (omega (arith, w .orders b .detached p))) in
       (not-true _ (a .1), ltb-true p (s .tables b .size) (a .0))
 
-  detached-is : Linked (λ p. m (entry (entryAt m b p) 3)) (m (head b 9)) (s .tables b .detached)
-  detached-is = rw (at-head s m shows b 9 h (omega arith)) (linked (λ p. m (entry (entryAt m b p) 3)) (λ p. before p 0 (s .tables b .detached)) _ 0 (s .tables b .detached)
-      (chained (λ p. m (entry (entryAt m b p) 3)) (λ p. before p 0 (s .tables b .detached)) 0 (s .tables b .detached)
+  detached-is : Linked (λ p. m (entry (entryAt m b p) entryNext)) (m (head b headFirstDetached)) (s .tables b .detached)
+  detached-is = rw (at-head s m shows b headFirstDetached h (omega arith)) (linked (λ p. m (entry (entryAt m b p) entryNext)) (λ p. before p 0 (s .tables b .detached)) _ 0 (s .tables b .detached)
+      (chained (λ p. m (entry (entryAt m b p) entryNext)) (λ p. before p 0 (s .tables b .detached)) 0 (s .tables b .detached)
       (λ p o. let a = detached-there p o in entry-is p 3 (a .1) (omega arith) ∙ ap (after p) (order-detached (s .tables b) p (a .0)))
       (λ p o. refl)
       (λ p. omega (arith, w .orders b .detached p, bit-small (ltb p (s .tables b .size) && not (isAttached (s .tables b) p))))))
@@ -197,29 +200,29 @@ module _ (s : State) (w : WellFormed till s) (m : Mem) (shows : Shows s m) (b : 
 
   pub table-is : TableIs m b (s .tables b)
   table-is = record {
-    limit = at-head s m shows b 0 h (omega arith);
-    mask = at-head s m shows b 1 h (omega arith);
-    life = rw (at-head s m shows b 2 h (omega arith), at-head s m shows b 3 h (omega arith)) (life-is (s .tables b .life));
-    epoch = at-head s m shows b 4 h (omega arith);
-    size = at-head s m shows b 5 h (omega arith);
+    limit = at-head s m shows b headPageLimit h (omega arith);
+    mask = at-head s m shows b headMask h (omega arith);
+    life = rw (at-head s m shows b headLifecycle h (omega arith), at-head s m shows b headCursor h (omega arith)) (life-is (s .tables b .life));
+    epoch = at-head s m shows b headEpoch h (omega arith);
+    size = at-head s m shows b headPages h (omega arith);
     frame = λ p l. entry-is p 0 l (omega arith);
     high = λ p l. entry-is p 1 l (omega arith);
     busy = λ p l a. entry-is p 2 l (omega arith);
     slots = slots-are;
     free = free-is;
-    freeCount = at-head s m shows b 7 h (omega arith);
+    freeCount = at-head s m shows b headFreeSlots h (omega arith);
     empty = empty-is;
     detached = detached-is;
   }
 
   -- ---- marks
 
-  mark-by : (k tag x i : ℕ) → slotWord m b k 0 ≡ tag → slotWord m b k 2 ≡ x → slotWord m b k 3 ≡ i → MarkIs s m b k tag x i
-      → MarkIs s m b k (slotWord m b k 0) (slotWord m b k 2) (slotWord m b k 3)
+  mark-by : (k tag x i : ℕ) → slotWord m b k slotTag ≡ tag → slotWord m b k slotPlace ≡ x → slotWord m b k slotPosition ≡ i → MarkIs s m b k tag x i
+      → MarkIs s m b k (slotWord m b k slotTag) (slotWord m b k slotPlace) (slotWord m b k slotPosition)
   mark-by k tag x i p q r c = rw (p, q, r) c
 
   -- a mark of an open row, by the row's words and its item's
-  mark-at : (k tag i j : ℕ) (d : Body) → find i (s .book .rows) ≡ some d → j < 64 → j < getD (bodyWords d) 2 0 → getD (bodyWords d) 1 0 ≡ b
+  mark-at : (k tag i j : ℕ) (d : Body) → find i (s .book .rows) ≡ some d → j < batchMax → j < getD (bodyWords d) 2 0 → getD (bodyWords d) 1 0 ≡ b
       → getD (itemWords d j) (tag - 1) 0 ≡ k → tag - 1 < 6 → (tag ≡ 2 → getD (itemWords d j) 0 0 ≡ 0) → MarkIs s m b k tag (rankOf i (s .book .rows)) j
   mark-at k tag i j d e l n p q u v =
       let r = rank-found i (s .book .rows) d e in
@@ -233,7 +236,7 @@ module _ (s : State) (w : WellFormed till s) (m : Mem) (shows : Shows s m) (b : 
         λ z. item-is s m shows (rankOf i (s .book .rows)) x c (r .1) j 0 l (omega arith) ∙ v z,
       )
 
-  mark-reserved : (k g i : ℕ) → s .tables b .slots k ≡ reserved g i → MarkIs s m b k (slotWord m b k 0) (slotWord m b k 2) (slotWord m b k 3)
+  mark-reserved : (k g i : ℕ) → s .tables b .slots k ≡ reserved g i → MarkIs s m b k (slotWord m b k slotTag) (slotWord m b k slotPlace) (slotWord m b k slotPosition)
   mark-reserved k g i e =
       let f = reserved-in s (w .marks) b k g i e in
       let p = place-found k (f .0) (f .2) in
@@ -242,7 +245,7 @@ module _ (s : State) (w : WellFormed till s) (m : Mem) (shows : Shows s m) (b : 
       (mark-at k 1 i (placeOf k (f .0)) (reservation b (f .0)) (f .1) (omega (arith, p .0, range-of s w i (reservation b (f .0)) (f .1) .1 .1, batch-max)) (p .0) refl
       (rw (p .1)) (omega arith) (λ z. absurd (omega arith)))
 
-  mark-moving : (k g i : ℕ) → s .tables b .slots k ≡ transferReserved g i → MarkIs s m b k (slotWord m b k 0) (slotWord m b k 2) (slotWord m b k 3)
+  mark-moving : (k g i : ℕ) → s .tables b .slots k ≡ transferReserved g i → MarkIs s m b k (slotWord m b k slotTag) (slotWord m b k slotPlace) (slotWord m b k slotPosition)
   mark-moving k g i e =
       let f = moving-in s (w .marks) b k g i e in
       let p = moved-found k (f .0) (f .2) in
@@ -251,10 +254,10 @@ module _ (s : State) (w : WellFormed till s) (m : Mem) (shows : Shows s m) (b : 
       (mark-at k 2 i (movedAt k (f .0)) (claim b (f .0)) (f .1) (omega (arith, p .0, range-of s w i (claim b (f .0)) (f .1) .1 .1, batch-max)) (p .0) refl
       (rw (p .3)) (omega arith) (λ z. rw (p .3)))
 
-  pub marks-are : (k : ℕ) → isMarked (s .tables b .slots k) ≡ true → MarkIs s m b k (slotWord m b k 0) (slotWord m b k 2) (slotWord m b k 3)
+  pub marks-are : (k : ℕ) → isMarked (s .tables b .slots k) ≡ true → MarkIs s m b k (slotWord m b k slotTag) (slotWord m b k slotPlace) (slotWord m b k slotPosition)
   marks-are k = go (s .tables b .slots k) refl
     where
-      go : (x : Slot) → s .tables b .slots k ≡ x → isMarked x ≡ true → MarkIs s m b k (slotWord m b k 0) (slotWord m b k 2) (slotWord m b k 3)
+      go : (x : Slot) → s .tables b .slots k ≡ x → isMarked x ≡ true → MarkIs s m b k (slotWord m b k slotTag) (slotWord m b k slotPlace) (slotWord m b k slotPosition)
       go absent e q = clash q refl
       go (vacant g) e q = clash q refl
       go (reserved g i) e q = mark-reserved k g i e

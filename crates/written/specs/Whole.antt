@@ -9,6 +9,8 @@ use Rattle.model.specs.Bounds.{pages-max}
 use Rattle.model.specs.WellFormed.{WellFormed}
 use Rattle.layout.specs.Layout.{Mem, total, load}
 use Rattle.layout.specs.ShapeOf.{Permitted, Roots}
+use Rattle.layout.specs.Fields.{headFirstEntry, objectKoid, objectKind, objectClass, objectSupported, objectExportable, objectStage, objectActive, objectLimit}
+use Rattle.layout.specs.Sizes.{pagesMax}
 use Rattle.representation.specs.Represents.{linkOf, FramesAre, ObjectIs, BookIs, Represents, Rep}
 use Rattle.representation.specs.Unique.{shapeFor}
 use Rattle.written.specs.Words.{entriesBefore, wordAt}
@@ -26,7 +28,7 @@ module _ (s : State) (w : WellFormed till s) (m : Mem) (shows : Shows s m) where
   frames-are : FramesAre m s
   frames-are = record {
     held = λ b p f h i e. let l : p < s .tables b .limit = omega (arith, w .ranges .tables b h .size) in
-        at-owner s m shows f (frame-low s (w .frames) b p f h l e) ∙ ap linkOf (owner-held s (w .frames) b p f h l e) ∙ rw (at-head s m shows b 10 h (omega arith));
+        at-owner s m shows f (frame-low s (w .frames) b p f h l e) ∙ ap linkOf (owner-held s (w .frames) b p f h l e) ∙ rw (at-head s m shows b headFirstEntry h (omega arith));
     free = λ f h. at-owner s m shows f (free-low s (w .frames) f h) ∙ ap linkOf (owner-free s (w .frames) f h);
     sixteens = at-sixteen s m shows;
     hundreds = at-hundred s m shows;
@@ -36,14 +38,14 @@ module _ (s : State) (w : WellFormed till s) (m : Mem) (shows : Shows s m) where
 
   object-is : (o : ℕ) → o < s .objectCount → ObjectIs m o (s .objects o)
   object-is o h = record {
-    koid = at-object s m shows o 0 h (omega arith);
-    kind = at-object s m shows o 1 h (omega arith);
-    class = at-object s m shows o 2 h (omega arith);
-    supported = at-object s m shows o 3 h (omega arith);
-    exportable = at-object s m shows o 4 h (omega arith);
-    stage = at-object s m shows o 5 h (omega arith);
-    count = at-object s m shows o 6 h (omega arith);
-    limit = at-object s m shows o 7 h (omega arith);
+    koid = at-object s m shows o objectKoid h (omega arith);
+    kind = at-object s m shows o objectKind h (omega arith);
+    class = at-object s m shows o objectClass h (omega arith);
+    supported = at-object s m shows o objectSupported h (omega arith);
+    exportable = at-object s m shows o objectExportable h (omega arith);
+    stage = at-object s m shows o objectStage h (omega arith);
+    count = at-object s m shows o objectActive h (omega arith);
+    limit = at-object s m shows o objectLimit h (omega arith);
   }
 
   book-is : BookIs m s
@@ -63,7 +65,7 @@ module _ (s : State) (w : WellFormed till s) (m : Mem) (shows : Shows s m) where
     objectCount = refl;
     capacity = refl;
     pageCount = refl;
-    first = λ b h. at-head s m shows b 10 h (omega arith);
+    first = λ b h. at-head s m shows b headFirstEntry h (omega arith);
     tables = table-is s w m shows;
     frames = frames-are;
     objects = object-is;
@@ -82,7 +84,7 @@ module _ (s : State) (w : WellFormed till s) (m : Mem) (shows : Shows s m) where
   }
 
 module _ (s : State) (w : WellFormed till s) where
-  pub pages-between : (n : ℕ) → n ≤ s .tableCount → (n ≤ entriesBefore s n) × (entriesBefore s n ≤ n * 262144)
+  pub pages-between : (n : ℕ) → n ≤ s .tableCount → (n ≤ entriesBefore s n) × (entriesBefore s n ≤ n * pagesMax)
   pages-between zero h = (omega arith, omega arith)
   pages-between (suc n) h = let r = pages-between n (omega arith) in let t = w .ranges .tables n h .limit in
       (omega (arith, r .0, t .0), omega (arith, r .1, t .1, pages-max))

@@ -11,6 +11,8 @@ use Rattle.model.specs.Storage.{busyOf}
 use Rattle.model.specs.WellFormed.{isFrame, isAttached}
 use Rattle.model.specs.Book.{find}
 use Rattle.layout.specs.Layout.{Addr, Addr.reg}
+use Rattle.layout.specs.Values.{formatVersion, tagVacant, tagReserved, tagTransferReserved, tagOccupied, kindReservation, kindClaim, kindParcel, lifeActive, lifeTearingDown, lifeRetired, operationMove, operationCopy}
+use Rattle.layout.specs.Sizes.{pageSize}
 use Rattle.representation.specs.Represents.{linkOf, freeIn, classWord, stageWord}
 use Rattle.written.specs.Searches.{seek, firstOf, after, before, placeOf, movedAt, rankOf}
 
@@ -22,15 +24,15 @@ entriesBefore s b = sum b λ c. s .tables c .limit
 
 abbrev pub rootWords : State → List ℕ
 rootWords s =
-    1 ∷ s .tableCount ∷ s .frameCount ∷ s .objectCount ∷ s .book .capacity ∷ s .book .next ∷ length (s .book .rows) ∷ length (s .frames)
+    formatVersion ∷ s .tableCount ∷ s .frameCount ∷ s .objectCount ∷ s .book .capacity ∷ s .book .next ∷ length (s .book .rows) ∷ length (s .frames)
     ∷ entriesBefore s (s .tableCount) ∷ []
 
 -- ---- table heads
 
 abbrev pub lifeWord : Lifecycle → ℕ
-lifeWord active = 0
-lifeWord (tearingDown c) = 1
-lifeWord retired = 2
+lifeWord active = lifeActive
+lifeWord (tearingDown c) = lifeTearingDown
+lifeWord retired = lifeRetired
 
 abbrev pub cursorWord : Lifecycle → ℕ
 cursorWord active = 0
@@ -77,10 +79,10 @@ positionIn k (some (parcel hs)) = 0
 -- slot k, by the free order and the rows; a row's place is its rank
 abbrev pub slotWords : List ℕ → List Row → ℕ → Slot → List ℕ
 slotWords free rows k absent = []
-slotWords free rows k (vacant g) = 0 ∷ g ∷ after k free ∷ before k 0 free ∷ []
-slotWords free rows k (reserved g i) = 1 ∷ g ∷ rankOf i rows ∷ positionIn k (find i rows) ∷ []
-slotWords free rows k (transferReserved g i) = 2 ∷ g ∷ rankOf i rows ∷ positionIn k (find i rows) ∷ []
-slotWords free rows k (occupied g h) = 3 ∷ g ∷ h .object ∷ h .rights ∷ h .flags ∷ []
+slotWords free rows k (vacant g) = tagVacant ∷ g ∷ after k free ∷ before k 0 free ∷ []
+slotWords free rows k (reserved g i) = tagReserved ∷ g ∷ rankOf i rows ∷ positionIn k (find i rows) ∷ []
+slotWords free rows k (transferReserved g i) = tagTransferReserved ∷ g ∷ rankOf i rows ∷ positionIn k (find i rows) ∷ []
+slotWords free rows k (occupied g h) = tagOccupied ∷ g ∷ h .object ∷ h .rights ∷ h .flags ∷ []
 
 -- slot k of table b
 abbrev pub slotOf : State → ℕ → ℕ → List ℕ
@@ -89,7 +91,7 @@ slotOf s b k = slotWords (s .tables b .free) (s .book .rows) k (s .tables b .slo
 -- slot j of the page of an entry
 abbrev pub cellWords : State → Option ℕ → ℕ → List ℕ
 cellWords s none j = []
-cellWords s (some e) j = slotOf s (tableAt s e) (pageAt s e * 64 + j)
+cellWords s (some e) j = slotOf s (tableAt s e) (pageAt s e * pageSize + j)
 
 -- ---- objects
 
@@ -99,16 +101,16 @@ objectWords x = x .koid ∷ x .kind ∷ classWord (x .class) ∷ x .supported �
 -- ---- rows
 
 abbrev pub bodyWords : Body → List ℕ
-bodyWords (reservation b ks) = 1 ∷ b ∷ length ks ∷ []
-bodyWords (claim b es) = 2 ∷ b ∷ length es ∷ []
-bodyWords (parcel hs) = 3 ∷ 0 ∷ length hs ∷ []
+bodyWords (reservation b ks) = kindReservation ∷ b ∷ length ks ∷ []
+bodyWords (claim b es) = kindClaim ∷ b ∷ length es ∷ []
+bodyWords (parcel hs) = kindParcel ∷ 0 ∷ length hs ∷ []
 
 abbrev pub slotItem : ℕ → List ℕ
 slotItem k = k ∷ []
 
 abbrev pub entryItem : Entry → List ℕ
-entryItem (moved k h r) = 0 ∷ k ∷ h .object ∷ h .rights ∷ h .flags ∷ r ∷ []
-entryItem (copied h) = 1 ∷ 0 ∷ h .object ∷ h .rights ∷ h .flags ∷ []
+entryItem (moved k h r) = operationMove ∷ k ∷ h .object ∷ h .rights ∷ h .flags ∷ r ∷ []
+entryItem (copied h) = operationCopy ∷ 0 ∷ h .object ∷ h .rights ∷ h .flags ∷ []
 
 abbrev pub handleItem : Handle → List ℕ
 handleItem h = 0 ∷ 0 ∷ h .object ∷ h .rights ∷ h .flags ∷ []

@@ -3,13 +3,14 @@ use mathlib.Core.Path.{_≡_, refl}
 use Prim.Native.Nat.{_+_, _≤_}
 use native.Mathlib.Omega.{arith}
 use Rattle.layout.specs.Layout.{load}
+use Rattle.layout.specs.Sizes.{framesMax}
 use Rattle.book.specs.Code.{link-start, link-yes, link-above, link-below, link-end}
 use Rattle.book.specs.Ops.{rowLink, linkFrom}
 use Rattle.book.proofs.row_of.Statement.{statement}
 use Rattle.book.proofs.row_of.Tie as tie
 
 abbrev Inv-loop : tie.InvT-loop
-Inv-loop s sh id rows n₀ i₀ n i = (i + n ≤ 65535) × (rowLink (load s sh) sh id ≡ linkFrom (load s sh) id n i n)
+Inv-loop s sh id rows n₀ i₀ n i = (i + n ≤ framesMax) × (rowLink (load s sh) sh id ≡ linkFrom (load s sh) id n i n)
 
 abbrev μ-loop : tie.MeasureT-loop
 μ-loop s sh id rows n₀ i₀ n i = n

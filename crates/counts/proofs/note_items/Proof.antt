@@ -3,6 +3,7 @@ use Rattle.counts.specs.Code.{turn-more, turn-end}
 use Rattle.counts.specs.Shift.{shifted, unit}
 use Rattle.counts.specs.Found.{gather, item-same}
 use Rattle.layout.specs.Layout.{Mem, item, load}
+use Rattle.layout.specs.Fields.{itemObject}
 use mathlib.Core.List.{[], _∷_}
 use lib.ListN.{length}
 use native.Mathlib.Omega.{arith}
@@ -15,7 +16,7 @@ use Rattle.counts.proofs.note_items.Lts as lts
 use Rattle.counts.proofs.note_item.Reads as note-item-reads
 
 abbrev Inv-loop : tie.InvT-loop
-Inv-loop s₀ sh x n j₀ s j = (j ≤ n) × (length s ≡ length s₀) × (s ≡ shifted s₀ sh unit (gather j (λ i. load s₀ sh (item x i 2) ∷ [])))
+Inv-loop s₀ sh x n j₀ s j = (j ≤ n) × (length s ≡ length s₀) × (s ≡ shifted s₀ sh unit (gather j (λ i. load s₀ sh (item x i itemObject) ∷ [])))
 
 abbrev μ-loop : tie.MeasureT-loop
 μ-loop s₀ sh x n j₀ s j = n - j
@@ -38,7 +39,7 @@ loop-less c = search needs
 
 -- src/lib.rt:119:5
 loop-again : tie.Need-loop-again Inv-loop μ-loop
-loop-again c = (search needs, search needs, turn-more (c .before .before .before .before .before .before .before .args .sh) unit (λ (m : Mem) (k : ℕ). m (item (c .before .before .before .before .before .before .before .args .x) k 2) ∷ []) (λ m n h k. item-same m n h (c .before .before .before .before .before .before .before .args .x) k) (c .before .before .before .before .before .before .before .args .s .now) _ _ _ (c .before .before .before .before .before .loop .inv .2) (c .before .before .note-item .ensures))
+loop-again c = (search needs, search needs, turn-more (c .before .before .before .before .before .before .before .args .sh) unit (λ (m : Mem) (k : ℕ). m (item (c .before .before .before .before .before .before .before .args .x) k itemObject) ∷ []) (λ m n h k. item-same m n h (c .before .before .before .before .before .before .before .args .x) k) (c .before .before .before .before .before .before .before .args .s .now) _ _ _ (c .before .before .before .before .before .loop .inv .2) (c .before .before .note-item .ensures))
 
 -- src/lib.rt:115:1
 same-length : tie.Need-same-length Inv-loop μ-loop
@@ -46,7 +47,7 @@ same-length c = search needs
 
 -- src/lib.rt:115:1
 returns : tie.Need-returns Inv-loop μ-loop
-returns c = turn-end (c .before .before .before .args .sh) unit (λ (m : Mem) (k : ℕ). m (item (c .before .before .before .args .x) k 2) ∷ []) (λ m n h k. item-same m n h (c .before .before .before .args .x) k) (c .before .before .before .args .s .now) _ (c .before .loop .j) (c .before .before .before .args .n) (c .before .loop .inv .2) (omega arith)
+returns c = turn-end (c .before .before .before .args .sh) unit (λ (m : Mem) (k : ℕ). m (item (c .before .before .before .args .x) k itemObject) ∷ []) (λ m n h k. item-same m n h (c .before .before .before .args .x) k) (c .before .before .before .args .s .now) _ (c .before .loop .j) (c .before .before .before .args .n) (c .before .loop .inv .2) (omega arith)
 
 pub note-items-spec : {M : Type 1} → statement M
 note-items-spec =

@@ -6,6 +6,7 @@ use Prim.Native.Nat.{_-_, _≤_}
 use mathlib.Core.Path.{_≡_, refl, ap, _∙_}
 use Rattle.create.proofs.pages_of.Statement.{statement}
 use Rattle.create.proofs.pages_of.Tie as tie
+use Rattle.layout.specs.Sizes.{pagesMax}
 
 abbrev Inv-loop : tie.InvT-loop
 Inv-loop p n sum₀ k₀ sum k = (k ≤ n) × (sum ≡ pageSum p k)
@@ -51,7 +52,7 @@ loop-less c = search needs
 
 -- src/lib.rt:91:5
 loop-again : tie.Need-loop-again Inv-loop μ-loop
-loop-again c = (search needs, pages-more (c .before .before .before .before .before .args .p .now) (c .before .before .before .loop .k) (c .before .before .before .loop .sum) (c .smaller .result) _ (c .before .before .before .loop .inv .1) (c .smaller .ensures ∙ ap (λ (x : ℕ). min x 262144) (c .before .word .ensures)) refl)
+loop-again c = (search needs, pages-more (c .before .before .before .before .before .args .p .now) (c .before .before .before .loop .k) (c .before .before .before .loop .sum) (c .smaller .result) _ (c .before .before .before .loop .inv .1) (c .smaller .ensures ∙ ap (λ (x : ℕ). min x pagesMax) (c .before .word .ensures)) refl)
 
 -- src/lib.rt:86:1
 returns : tie.Need-returns Inv-loop μ-loop

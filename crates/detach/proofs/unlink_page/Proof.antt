@@ -7,9 +7,10 @@ use native.Mathlib.Omega.{arith}
 use Rattle.detach.specs.Code.{slots-low, unlink-start, unlink-more, unlink-end}
 use Rattle.detach.proofs.unlink_page.Statement.{statement}
 use Rattle.detach.proofs.unlink_page.Tie as tie
+use Rattle.layout.specs.Sizes.{pageSize}
 
 abbrev Inv-loop : tie.InvT-loop
-Inv-loop s₀ sh b p n j₀ s j = (j ≤ n) × (length s ≡ length s₀) × (s ≡ unlinkAll s₀ sh b (p * 64) j)
+Inv-loop s₀ sh b p n j₀ s j = (j ≤ n) × (length s ≡ length s₀) × (s ≡ unlinkAll s₀ sh b (p * pageSize) j)
 
 abbrev μ-loop : tie.MeasureT-loop
 μ-loop s₀ sh b p n j₀ s j = n - j

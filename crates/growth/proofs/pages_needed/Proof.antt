@@ -1,6 +1,7 @@
 use borrow.Author.Needs.{needs}
 use Rattle.growth.specs.Words.{countFrom, pagesNeeded}
 use Rattle.layout.specs.Layout.{load}
+use Rattle.layout.specs.Sizes.{batchMax}
 use Prim.Native.Nat.{_-_, _≤_}
 use mathlib.Core.Path.{_≡_}
 use Rattle.growth.specs.Code.{count-start, count-done, count-full, count-more, count-end}
@@ -8,10 +9,10 @@ use Rattle.growth.proofs.pages_needed.Statement.{statement}
 use Rattle.growth.proofs.pages_needed.Tie as tie
 
 abbrev Inv-loop : tie.InvT-loop
-Inv-loop s sh b k e limit need₀ d₀ n₀ c₀ need d n c = (c ≤ 64) × (pagesNeeded (load s sh) b k ≡ countFrom (load s sh) e limit (64 - c) need d n c)
+Inv-loop s sh b k e limit need₀ d₀ n₀ c₀ need d n c = (c ≤ batchMax) × (pagesNeeded (load s sh) b k ≡ countFrom (load s sh) e limit (batchMax - c) need d n c)
 
 abbrev μ-loop : tie.MeasureT-loop
-μ-loop s sh b k e limit need₀ d₀ n₀ c₀ need d n c = 64 - c
+μ-loop s sh b k e limit need₀ d₀ n₀ c₀ need d n c = batchMax - c
 
 -- src/lib.rt:230:9
 head-word-requires : tie.Need-head-word-requires Inv-loop μ-loop

@@ -3,6 +3,7 @@ use Prim.Native.Nat.{_+_, _≤_, _<_}
 use native.Mathlib.Omega.{arith}
 use Rattle.model.specs.State.{maxSlots}
 use Rattle.layout.specs.Layout.{load}
+use Rattle.layout.specs.Sizes.{slotsMax}
 use Rattle.lookup.specs.Scan.{FrameFor}
 use Rattle.lookup.specs.Code.{frame-next}
 use Rattle.lookup.specs.Walks.{Scanning, scan-first, scan-took, scan-past, scan-done}
@@ -11,7 +12,7 @@ use Rattle.lookup.proofs.scan.Tie as tie
 
 abbrev Inv-loop : tie.InvT-loop
 Inv-loop s sh b cursor long start mask entries₀ len₀ fr₀ at₀ left₀ entries len fr at left =
-    (start ≤ at) × (at + left ≤ long) × (long ≤ 16777215) × (len ≤ 8) × (0 < left → FrameFor (load s sh) b at fr) × Scanning (load s sh) b start left₀ entries len at left
+    (start ≤ at) × (at + left ≤ long) × (long ≤ slotsMax) × (len ≤ 8) × (0 < left → FrameFor (load s sh) b at fr) × Scanning (load s sh) b start left₀ entries len at left
 
 abbrev μ-loop : tie.MeasureT-loop
 μ-loop s sh b cursor long start mask entries₀ len₀ fr₀ at₀ left₀ entries len fr at left = left

@@ -2,13 +2,14 @@ use mathlib.Core.Path.{sym, ap}
 use Prim.Native.Nat.{ℕ}
 use native.Mathlib.Omega.{arith}
 use Rattle.layout.specs.Layout.{load}
+use Rattle.layout.specs.Fields.{slotTag}
 use Rattle.representation.specs.Represents.{wordIn}
 use Rattle.lookup.specs.Code.{tag-by}
 use Rattle.lookup.proofs.tag_in.Statement.{statement}
 use Rattle.lookup.proofs.tag_in.Tie as tie
 
 returns : tie.Need-returns
-returns c = ap (λ (x : ℕ). wordIn (load (c .before .before .args .s .now) (c .before .before .args .sh)) x (c .before .before .args .j) 0) (sym (c .if1 .taken))
+returns c = ap (λ (x : ℕ). wordIn (load (c .before .before .args .s .now) (c .before .before .args .sh)) x (c .before .before .args .j) slotTag) (sym (c .if1 .taken))
 
 sub-cell-word : tie.Need-sub-cell-word
 sub-cell-word c = omega arith

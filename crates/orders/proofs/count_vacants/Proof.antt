@@ -3,6 +3,7 @@ use Prim.Native.Nat.{_-_, _*_, _≤_}
 use native.Mathlib.Omega.{arith}
 use borrow.Author.Needs.{needs}
 use Rattle.layout.specs.Layout.{load}
+use Rattle.layout.specs.Sizes.{pageSize}
 use Rattle.orders.specs.Check.{vacants}
 use Rattle.orders.specs.Code.{vacants-few, vacants-start, vacants-more, vacants-end}
 use Rattle.orders.proofs.count_vacants.Statement.{statement}
@@ -12,7 +13,7 @@ use Rattle.orders.proofs.count_vacants.Lts as lts
 use Rattle.orders.proofs.vacants_on.Reads as vacants-on-reads
 
 abbrev Inv-loop : tie.InvT-loop
-Inv-loop s sh n e c₀ p₀ c p = (p ≤ n) × (c ≤ p * 64) × (c ≡ vacants (load s sh) p e)
+Inv-loop s sh n e c₀ p₀ c p = (p ≤ n) × (c ≤ p * pageSize) × (c ≡ vacants (load s sh) p e)
 
 abbrev μ-loop : tie.MeasureT-loop
 μ-loop s sh n e c₀ p₀ c p = n - p

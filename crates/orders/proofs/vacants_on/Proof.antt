@@ -6,7 +6,7 @@ use Rattle.orders.proofs.vacants_on.Statement.{statement}
 use Rattle.orders.proofs.vacants_on.Tie as tie
 use Rattle.orders.proofs.vacants_on.Reads as reads
 use Rattle.orders.proofs.vacants_on.Lts as lts
-use Rattle.orders.proofs.slots_of.Reads as slots-of-reads
+use Rattle.head.proofs.slots_of.Reads as slots-of-reads
 use Rattle.storage.proofs.page_word.Reads as page-word-reads
 
 -- src/lib.rt:29:9
@@ -24,6 +24,10 @@ page-word-requires-2 c κs = tt
 -- src/lib.rt:34:9
 slots-of-requires : tie.Need-slots-of-requires
 slots-of-requires c κs = tt
+
+-- src/lib.rt:35:9
+cast-n : tie.Need-cast-n
+cast-n c = search needs
 
 -- src/lib.rt:35:19
 sub-result : tie.Need-sub-result
@@ -45,6 +49,7 @@ vacants-on-spec =
     returns
     page-word-requires-2
     slots-of-requires
+    cast-n
     sub-result
     returns-2
     returns-3)

@@ -2,6 +2,7 @@
 -- Assumes nothing.
 use borrow.Author.Needs.{needs}
 use Rattle.model.specs.Words.{must}
+use Rattle.format.specs.Fields.{kindField, koidField}
 use Rattle.request.specs.Place.{fieldsAt}
 use Rattle.request.specs.Laws.{three-read}
 use Rattle.transfer.specs.Ops.{consumptionR}
@@ -24,7 +25,7 @@ same-length-2 : tie.Need-same-length-2
 same-length-2 c = search needs
 
 returns : tie.Need-returns
-returns c = three-read (λ x y z. consumptionR (c .before .before .before .before .before .before .before .before .before .before .before .before .args .s .now) (c .before .before .before .before .before .before .before .before .before .before .before .before .args .out .now) (c .before .before .before .before .before .before .before .before .before .before .before .before .args .sh) (c .before .before .before .before .before .before .before .before .before .before .before .before .args .base) x y z (must (fieldsAt (c .before .before .before .before .before .before .before .before .before .before .before .before .args .rq .now) (c .before .before .before .before .before .before .before .before .before .before .before .before .args .at)) 9) (must (fieldsAt (c .before .before .before .before .before .before .before .before .before .before .before .before .args .rq .now) (c .before .before .before .before .before .before .before .before .before .before .before .before .args .at)) 10)) _ _ _ _ _ _ (c .before .before .before .before .before .before .before .before .read-three .ensures) (three-read (λ x y z. consumptionR (c .before .before .before .before .before .before .before .before .before .before .before .before .args .s .now) (c .before .before .before .before .before .before .before .before .before .before .before .before .args .out .now) (c .before .before .before .before .before .before .before .before .before .before .before .before .args .sh) (c .before .before .before .before .before .before .before .before .before .before .before .before .args .base) (c .before .before .before .before .before .before .before .before .read-three .result .a) (c .before .before .before .before .before .before .before .before .read-three .result .b) (c .before .before .before .before .before .before .before .before .read-three .result .c) x y) _ _ _ _ _ _ (c .before .before .before .before .before .before .before .read-three2 .ensures) (c .before .before .before .before .prepare-consumption .ensures))
+returns c = three-read (λ x y z. consumptionR (c .before .before .before .before .before .before .before .before .before .before .before .before .args .s .now) (c .before .before .before .before .before .before .before .before .before .before .before .before .args .out .now) (c .before .before .before .before .before .before .before .before .before .before .before .before .args .sh) (c .before .before .before .before .before .before .before .before .before .before .before .before .args .base) x y z (must (fieldsAt (c .before .before .before .before .before .before .before .before .before .before .before .before .args .rq .now) (c .before .before .before .before .before .before .before .before .before .before .before .before .args .at)) kindField) (must (fieldsAt (c .before .before .before .before .before .before .before .before .before .before .before .before .args .rq .now) (c .before .before .before .before .before .before .before .before .before .before .before .before .args .at)) koidField)) _ _ _ _ _ _ (c .before .before .before .before .before .before .before .before .read-three .ensures) (three-read (λ x y z. consumptionR (c .before .before .before .before .before .before .before .before .before .before .before .before .args .s .now) (c .before .before .before .before .before .before .before .before .before .before .before .before .args .out .now) (c .before .before .before .before .before .before .before .before .before .before .before .before .args .sh) (c .before .before .before .before .before .before .before .before .before .before .before .before .args .base) (c .before .before .before .before .before .before .before .before .read-three .result .a) (c .before .before .before .before .before .before .before .before .read-three .result .b) (c .before .before .before .before .before .before .before .before .read-three .result .c) x y) _ _ _ _ _ _ (c .before .before .before .before .before .before .before .read-three2 .ensures) (c .before .before .before .before .prepare-consumption .ensures))
 
 pub serve-prepare-consumption-spec : {M : Type 1} → statement M
 serve-prepare-consumption-spec =

@@ -17,6 +17,7 @@ use Rattle.structure.proofs.entries_ok.Tie as tie
 use Rattle.structure.proofs.entries_ok.Reads as reads
 use Rattle.structure.proofs.entries_ok.Lts as lts
 use Rattle.layout.proofs.entry_word.Reads as entry-word-reads
+use Rattle.layout.specs.Fields.{entryFrame}
 use Rattle.structure.proofs.entry_ok.Reads as entry-ok-reads
 use Rattle.structure.proofs.present.Reads as present-reads
 
@@ -68,7 +69,7 @@ loop-less c = search needs
 
 -- src/lib.rt:134:5
 loop-again : tie.Need-loop-again Inv-loop μ-loop
-loop-again c = (search needs, all-more (c .before .before .before .before .before .loop .p) (entryTest (load (c .before .before .before .before .before .before .before .args .s .now) (c .before .before .before .before .before .before .before .args .sh)) (c .before .before .before .before .before .before .before .args .sh) (c .before .before .before .before .before .before .before .args .e) (c .before .before .before .before .before .before .before .args .n)) (c .before .before .before .before .before .loop .inv .1) (sym (c .before .before .before .entry-ok .ensures) ∙ not-false _ (c .before .before .if1 .left)), sum-more (λ (k : ℕ). bit (not (eqb ((load (c .before .before .before .before .before .before .before .args .s .now) (c .before .before .before .before .before .before .before .args .sh)) (entry (c .before .before .before .before .before .before .before .args .e + k) 0)) 0))) (c .before .before .before .before .before .loop .p) (c .before .before .before .before .before .loop .count) _ _ (c .before .before .before .before .before .loop .inv .2) (c .present .ensures ∙ ap (λ (x : ℕ). bit (not (eqb x 0))) (c .before .entry-word .ensures)) refl, omega (arith, c .present .ensures, bit-small (not (eqb (c .before .entry-word .result) 0))))
+loop-again c = (search needs, all-more (c .before .before .before .before .before .loop .p) (entryTest (load (c .before .before .before .before .before .before .before .args .s .now) (c .before .before .before .before .before .before .before .args .sh)) (c .before .before .before .before .before .before .before .args .sh) (c .before .before .before .before .before .before .before .args .e) (c .before .before .before .before .before .before .before .args .n)) (c .before .before .before .before .before .loop .inv .1) (sym (c .before .before .before .entry-ok .ensures) ∙ not-false _ (c .before .before .if1 .left)), sum-more (λ (k : ℕ). bit (not (eqb ((load (c .before .before .before .before .before .before .before .args .s .now) (c .before .before .before .before .before .before .before .args .sh)) (entry (c .before .before .before .before .before .before .before .args .e + k) entryFrame)) 0))) (c .before .before .before .before .before .loop .p) (c .before .before .before .before .before .loop .count) _ _ (c .before .before .before .before .before .loop .inv .2) (c .present .ensures ∙ ap (λ (x : ℕ). bit (not (eqb x 0))) (c .before .entry-word .ensures)) refl, omega (arith, c .present .ensures, bit-small (not (eqb (c .before .entry-word .result) 0))))
 
 -- src/lib.rt:142:5
 add-result : tie.Need-add-result Inv-loop μ-loop

@@ -9,9 +9,10 @@ use Rattle.structure.proofs.free_under.Tie as tie
 use Rattle.structure.proofs.free_under.Reads as reads
 use Rattle.structure.proofs.free_under.Lts as lts
 use Rattle.layout.proofs.load.Reads as load-reads
+use Rattle.layout.specs.Sizes.{framesMax}
 
 abbrev Inv-loop : tie.InvT-loop
-Inv-loop s sh level size first region count₀ i₀ count i = (i ≤ 16) × (count ≡ freeFrom (load s sh) (sh .frames) (first * size) (i * size)) × (count ≤ i * 65535)
+Inv-loop s sh level size first region count₀ i₀ count i = (i ≤ 16) × (count ≡ freeFrom (load s sh) (sh .frames) (first * size) (i * size)) × (count ≤ i * framesMax)
 
 abbrev μ-loop : tie.MeasureT-loop
 μ-loop s sh level size first region count₀ i₀ count i = 16 - i

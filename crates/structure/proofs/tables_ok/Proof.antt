@@ -13,10 +13,12 @@ use Rattle.structure.proofs.tables_ok.Tie as tie
 use Rattle.structure.proofs.tables_ok.Reads as reads
 use Rattle.structure.proofs.tables_ok.Lts as lts
 use Rattle.layout.proofs.head_word.Reads as head-word-reads
+use Rattle.layout.specs.Fields.{headPageLimit, headPages, headFirstEntry}
+use Rattle.layout.specs.Sizes.{pagesMax}
 use Rattle.structure.proofs.table_ok.Reads as table-ok-reads
 
 abbrev Inv-loop : tie.InvT-loop
-Inv-loop s sh n count₀ first₀ b₀ count first b = (b ≤ n) × (all b (tableTest (load s sh) sh) ≡ true) × (count ≡ attachedTo (load s sh) b) × (first ≡ limitsTo (load s sh) b) × (count ≤ b * 262144) × (first ≤ b * 262144)
+Inv-loop s sh n count₀ first₀ b₀ count first b = (b ≤ n) × (all b (tableTest (load s sh) sh) ≡ true) × (count ≡ attachedTo (load s sh) b) × (first ≡ limitsTo (load s sh) b) × (count ≤ b * pagesMax) × (first ≤ b * pagesMax)
 
 abbrev μ-loop : tie.MeasureT-loop
 μ-loop s sh n count₀ first₀ b₀ count first b = n - b
@@ -43,7 +45,7 @@ sub-count c = search needs
 
 -- src/lib.rt:205:9
 add-count : tie.Need-add-count Inv-loop μ-loop
-add-count c = let t = tabled (load (c .before .before .before .before .before .args .s .now) (c .before .before .before .before .before .args .sh)) (c .before .before .before .before .before .args .sh) (c .before .before .before .loop .b) (c .before .before .before .loop .first) (c .before .table-ok .result) ((load (c .before .before .before .before .before .args .s .now) (c .before .before .before .before .before .args .sh)) (head (c .before .before .before .loop .b) 0)) (c .before .before .before .loop .inv .3) refl (c .before .table-ok .ensures) (λ (z : c .before .table-ok .result ≡ 0). omega arith) in omega (arith, t .few)
+add-count c = let t = tabled (load (c .before .before .before .before .before .args .s .now) (c .before .before .before .before .before .args .sh)) (c .before .before .before .before .before .args .sh) (c .before .before .before .loop .b) (c .before .before .before .loop .first) (c .before .table-ok .result) ((load (c .before .before .before .before .before .args .s .now) (c .before .before .before .before .before .args .sh)) (head (c .before .before .before .loop .b) headPageLimit)) (c .before .before .before .loop .inv .3) refl (c .before .table-ok .ensures) (λ (z : c .before .table-ok .result ≡ 0). omega arith) in omega (arith, t .few)
 
 -- src/lib.rt:206:43
 cast-head-word : tie.Need-cast-head-word Inv-loop μ-loop
@@ -55,11 +57,11 @@ head-word-requires c κs = tt
 
 -- src/lib.rt:206:18
 cast-first : tie.Need-cast-first Inv-loop μ-loop
-cast-first c = let t = tabled (load (c .before .before .before .before .before .before .args .s .now) (c .before .before .before .before .before .before .args .sh)) (c .before .before .before .before .before .before .args .sh) (c .before .before .before .before .loop .b) (c .before .before .before .before .loop .first) (c .before .before .table-ok .result) ((load (c .before .before .before .before .before .before .args .s .now) (c .before .before .before .before .before .before .args .sh)) (head (c .before .before .before .before .loop .b) 0)) (c .before .before .before .before .loop .inv .3) refl (c .before .before .table-ok .ensures) (λ (z : c .before .before .table-ok .result ≡ 0). omega arith) in omega (arith, t .limits, c .head-word .ensures)
+cast-first c = let t = tabled (load (c .before .before .before .before .before .before .args .s .now) (c .before .before .before .before .before .before .args .sh)) (c .before .before .before .before .before .before .args .sh) (c .before .before .before .before .loop .b) (c .before .before .before .before .loop .first) (c .before .before .table-ok .result) ((load (c .before .before .before .before .before .before .args .s .now) (c .before .before .before .before .before .before .args .sh)) (head (c .before .before .before .before .loop .b) headPageLimit)) (c .before .before .before .before .loop .inv .3) refl (c .before .before .table-ok .ensures) (λ (z : c .before .before .table-ok .result ≡ 0). omega arith) in omega (arith, t .limits, c .head-word .ensures)
 
 -- src/lib.rt:206:9
 add-first : tie.Need-add-first Inv-loop μ-loop
-add-first c = let t = tabled (load (c .before .before .before .before .before .before .args .s .now) (c .before .before .before .before .before .before .args .sh)) (c .before .before .before .before .before .before .args .sh) (c .before .before .before .before .loop .b) (c .before .before .before .before .loop .first) (c .before .before .table-ok .result) ((load (c .before .before .before .before .before .before .args .s .now) (c .before .before .before .before .before .before .args .sh)) (head (c .before .before .before .before .loop .b) 0)) (c .before .before .before .before .loop .inv .3) refl (c .before .before .table-ok .ensures) (λ (z : c .before .before .table-ok .result ≡ 0). omega arith) in omega (arith, t .limits, c .head-word .ensures)
+add-first c = let t = tabled (load (c .before .before .before .before .before .before .args .s .now) (c .before .before .before .before .before .before .args .sh)) (c .before .before .before .before .before .before .args .sh) (c .before .before .before .before .loop .b) (c .before .before .before .before .loop .first) (c .before .before .table-ok .result) ((load (c .before .before .before .before .before .before .args .s .now) (c .before .before .before .before .before .before .args .sh)) (head (c .before .before .before .before .loop .b) headPageLimit)) (c .before .before .before .before .loop .inv .3) refl (c .before .before .table-ok .ensures) (λ (z : c .before .before .table-ok .result ≡ 0). omega arith) in omega (arith, t .limits, c .head-word .ensures)
 
 -- src/lib.rt:207:9
 add-b : tie.Need-add-b Inv-loop μ-loop
@@ -71,7 +73,7 @@ loop-less c = search needs
 
 -- src/lib.rt:200:5
 loop-again : tie.Need-loop-again Inv-loop μ-loop
-loop-again c = let t = tabled (load (c .before .before .before .before .before .before .args .s .now) (c .before .before .before .before .before .before .args .sh)) (c .before .before .before .before .before .before .args .sh) (c .before .before .before .before .loop .b) (c .before .before .before .before .loop .first) (c .before .before .table-ok .result) ((load (c .before .before .before .before .before .before .args .s .now) (c .before .before .before .before .before .before .args .sh)) (head (c .before .before .before .before .loop .b) 0)) (c .before .before .before .before .loop .inv .3) refl (c .before .before .table-ok .ensures) (λ (z : c .before .before .table-ok .result ≡ 0). omega arith) in (search needs, all-more (c .before .before .before .before .loop .b) (tableTest (load (c .before .before .before .before .before .before .args .s .now) (c .before .before .before .before .before .before .args .sh)) (c .before .before .before .before .before .before .args .sh)) (c .before .before .before .before .loop .inv .1) (t .passes), sum-more (λ (k : ℕ). attachedIn (load (c .before .before .before .before .before .before .args .s .now) (c .before .before .before .before .before .before .args .sh)) ((load (c .before .before .before .before .before .before .args .s .now) (c .before .before .before .before .before .before .args .sh)) (head k 10)) ((load (c .before .before .before .before .before .before .args .s .now) (c .before .before .before .before .before .before .args .sh)) (head k 5))) (c .before .before .before .before .loop .b) (c .before .before .before .before .loop .count) _ _ (c .before .before .before .before .loop .inv .2) (t .count) refl, sum-more (λ (k : ℕ). (load (c .before .before .before .before .before .before .args .s .now) (c .before .before .before .before .before .before .args .sh)) (head k 0)) (c .before .before .before .before .loop .b) (c .before .before .before .before .loop .first) _ _ (c .before .before .before .before .loop .inv .3) (c .head-word .ensures) refl, omega (arith, t .few), omega (arith, t .limits, c .head-word .ensures))
+loop-again c = let t = tabled (load (c .before .before .before .before .before .before .args .s .now) (c .before .before .before .before .before .before .args .sh)) (c .before .before .before .before .before .before .args .sh) (c .before .before .before .before .loop .b) (c .before .before .before .before .loop .first) (c .before .before .table-ok .result) ((load (c .before .before .before .before .before .before .args .s .now) (c .before .before .before .before .before .before .args .sh)) (head (c .before .before .before .before .loop .b) headPageLimit)) (c .before .before .before .before .loop .inv .3) refl (c .before .before .table-ok .ensures) (λ (z : c .before .before .table-ok .result ≡ 0). omega arith) in (search needs, all-more (c .before .before .before .before .loop .b) (tableTest (load (c .before .before .before .before .before .before .args .s .now) (c .before .before .before .before .before .before .args .sh)) (c .before .before .before .before .before .before .args .sh)) (c .before .before .before .before .loop .inv .1) (t .passes), sum-more (λ (k : ℕ). attachedIn (load (c .before .before .before .before .before .before .args .s .now) (c .before .before .before .before .before .before .args .sh)) ((load (c .before .before .before .before .before .before .args .s .now) (c .before .before .before .before .before .before .args .sh)) (head k headFirstEntry)) ((load (c .before .before .before .before .before .before .args .s .now) (c .before .before .before .before .before .before .args .sh)) (head k headPages))) (c .before .before .before .before .loop .b) (c .before .before .before .before .loop .count) _ _ (c .before .before .before .before .loop .inv .2) (t .count) refl, sum-more (λ (k : ℕ). (load (c .before .before .before .before .before .before .args .s .now) (c .before .before .before .before .before .before .args .sh)) (head k headPageLimit)) (c .before .before .before .before .loop .b) (c .before .before .before .before .loop .first) _ _ (c .before .before .before .before .loop .inv .3) (c .head-word .ensures) refl, omega (arith, t .few), omega (arith, t .limits, c .head-word .ensures))
 
 -- src/lib.rt:210:9
 returns-2 : tie.Need-returns-2 Inv-loop μ-loop

@@ -1,5 +1,5 @@
 use Rattle.survey.specs.Code.{Further, slot-holds, further-none, further-more}
-use borrow.Author.Tests.{not-true, not-false}
+use borrow.Author.Tests.{not-false}
 use Prim.Native.Nat.{_-_, _≤_}
 use mathlib.Core.Path.{_≡_, refl}
 use lib.ListN.{length}

@@ -6,7 +6,7 @@ use Rattle.survey.proofs.walk_page.Tie as tie
 use Rattle.survey.proofs.walk_page.Reads as reads
 use Rattle.survey.proofs.walk_page.Lts as lts
 use Rattle.storage.proofs.page_word.Reads as page-word-reads
-use Rattle.survey.proofs.slots_of.Reads as slots-of-reads
+use Rattle.head.proofs.slots_of.Reads as slots-of-reads
 use Rattle.survey.proofs.walk_frame.Reads as walk-frame-reads
 
 -- src/lib.rt:114:9
@@ -49,9 +49,13 @@ page-word-requires-3 c κs = tt
 slots-of-requires : tie.Need-slots-of-requires
 slots-of-requires c κs = tt
 
+-- src/lib.rt:124:9
+cast-n : tie.Need-cast-n
+cast-n c = search needs
+
 -- src/lib.rt:124:5
 walk-frame-requires : tie.Need-walk-frame-requires
-walk-frame-requires c κs = ((slots-few (c .before .before .before .before .before .before .before .before .before .before .before .before .args .p) _ (c .slots-of .ensures), c .before .before .before .before .before .before .if2 .left), omega (arith, c .before .before .before .before .before .before .before .before .before .before .before .before .pre))
+walk-frame-requires c κs = ((slots-few (c .before .before .before .before .before .before .before .before .before .before .before .before .args .p) _ (c .before .slots-of .ensures), c .before .before .before .before .before .before .if2 .left), omega (arith, c .before .before .before .before .before .before .before .before .before .before .before .before .pre))
 
 -- src/lib.rt:108:1
 same-length-3 : tie.Need-same-length-3
@@ -59,7 +63,7 @@ same-length-3 c = search needs
 
 -- src/lib.rt:108:1
 returns-3 : tie.Need-returns-3
-returns-3 c = page-some (c .before .before .before .before .before .before .before .before .before .before .before .before .before .before .before .args .s .now) (c .before .before .before .before .before .before .before .before .before .before .before .before .before .before .before .args .sh) (c .before .before .before .before .before .before .before .before .before .before .before .before .before .before .before .args .b) (c .before .before .before .before .before .before .before .before .before .before .before .before .before .before .before .args .life) (c .before .before .before .before .before .before .before .before .before .before .before .before .before .before .before .args .e) (c .before .before .before .before .before .before .before .before .before .before .before .before .before .before .before .args .p) _ (c .before .before .before .before .before .before .before .before .before .before .before .before .page-word .ensures) _ _ _ _ _ (c .before .before .before .before .before .before .before .before .before .before .before .if1 .left) (c .before .before .before .before .before .before .before .before .before .if2 .left) (c .before .before .before .before .before .before .before .page-word2 .ensures) (c .before .before .before .before .before .page-word3 .ensures) (c .before .before .before .slots-of .ensures) (c .before .before .walk-frame .ensures .0) (c .before .before .walk-frame .ensures .1)
+returns-3 c = page-some (c .before .before .before .before .before .before .before .before .before .before .before .before .before .before .before .args .s .now) (c .before .before .before .before .before .before .before .before .before .before .before .before .before .before .before .args .sh) (c .before .before .before .before .before .before .before .before .before .before .before .before .before .before .before .args .b) (c .before .before .before .before .before .before .before .before .before .before .before .before .before .before .before .args .life) (c .before .before .before .before .before .before .before .before .before .before .before .before .before .before .before .args .e) (c .before .before .before .before .before .before .before .before .before .before .before .before .before .before .before .args .p) _ (c .before .before .before .before .before .before .before .before .before .before .before .before .page-word .ensures) _ _ _ _ _ (c .before .before .before .before .before .before .before .before .before .before .before .if1 .left) (c .before .before .before .before .before .before .before .before .before .if2 .left) (c .before .before .before .before .before .before .before .page-word2 .ensures) (c .before .before .before .before .before .page-word3 .ensures) (c .before .before .before .before .slots-of .ensures) (c .before .before .walk-frame .ensures .0) (c .before .before .walk-frame .ensures .1)
 
 pub walk-page-spec : {M : Type 1} → statement M
 walk-page-spec =
@@ -75,6 +79,7 @@ walk-page-spec =
     page-word-requires-2
     page-word-requires-3
     slots-of-requires
+    cast-n
     walk-frame-requires
     same-length-3
     returns-3)

@@ -4,13 +4,14 @@ use native.Mathlib.Omega.{arith}
 use Prim.Native.Nat.{_-_, _≤_}
 use mathlib.Core.Path.{_≡_}
 use Rattle.layout.specs.Layout.{load}
+use Rattle.layout.specs.Sizes.{slotsMax}
 use Rattle.teardown.specs.Ops.{nextLink}
 use Rattle.teardown.specs.Walk.{length-few, next-start, next-page, next-hit, next-miss, next-end}
 use Rattle.teardown.proofs.next_occupied.Statement.{statement}
 use Rattle.teardown.proofs.next_occupied.Tie as tie
 
 abbrev Inv-loop : tie.InvT-loop
-Inv-loop s sh b start length k₀ k = (length ≤ 16777215) × (nextLink (load s sh) b start ≡ linkOf (firstOccupied (slotIn (load s sh) b) k (length - k)))
+Inv-loop s sh b start length k₀ k = (length ≤ slotsMax) × (nextLink (load s sh) b start ≡ linkOf (firstOccupied (slotIn (load s sh) b) k (length - k)))
 
 abbrev μ-loop : tie.MeasureT-loop
 μ-loop s sh b start length k₀ k = length - k
