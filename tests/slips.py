@@ -23,22 +23,22 @@ from scratch import copied
 WORDS = {
     "an epoch that the words need not have": (
         "representation/specs/Represents.antt",
-        "pub epoch : m (head b 4) ≡ t .epoch",
-        "pub epoch : m (head b 4) ≡ m (head b 4)",
+        "pub epoch : m (head b headEpoch) ≡ t .epoch",
+        "pub epoch : m (head b headEpoch) ≡ m (head b headEpoch)",
         "representation",
         "`rep-unique`: one table's words represent its state with any epoch",
     ),
     "a free count one too high": (
         "representation/specs/Represents.antt",
-        "pub freeCount : m (head b 7) ≡ length (t .free)",
-        "pub freeCount : m (head b 7) ≡ suc (length (t .free))",
+        "pub freeCount : m (head b headFreeSlots) ≡ length (t .free)",
+        "pub freeCount : m (head b headFreeSlots) ≡ suc (length (t .free))",
         "create",
         "`Meets`: a created table has no free slot and its count is 0",
     ),
     "a busy count that the words need not have": (
         "representation/specs/Represents.antt",
-        "pub busy : (p : ℕ) → p < t .size → isAttached t p ≡ true → m (entry (entryAt m b p) 2) ≡ busyOf till (t .slots) p",
-        "pub busy : (p : ℕ) → p < t .size → isAttached t p ≡ true → m (entry (entryAt m b p) 2) ≡ m (entry (entryAt m b p) 2)",
+        "pub busy : (p : ℕ) → p < t .size → isAttached t p ≡ true → m (entry (entryAt m b p) entryBusy) ≡ busyOf till (t .slots) p",
+        "pub busy : (p : ℕ) → p < t .size → isAttached t p ≡ true → m (entry (entryAt m b p) entryBusy) ≡ m (entry (entryAt m b p) entryBusy)",
         "structure",
         "completeness of the check: words with any busy count represent a state, and the check refuses them",
     ),
