@@ -13,7 +13,8 @@ use Rattle.layout.specs.Layout.{Mem, total, root, index, row, item, load}
 use Rattle.layout.specs.Fields.{rootUsedRows, rowKind, rowLength, itemObject}
 use Rattle.layout.specs.Sizes.{batchMax}
 use Rattle.counts.specs.Found.{gather, holdsHandles, inRow, inBook, countsB, OffObjects, book-same}
-use Rattle.counts.specs.Shift.{shifted, shifted-append, shifted-off}
+use Rattle.counts.specs.Shift.{unit, shifted, shifted-append, shifted-off}
+use Rattle.counts.specs.Used.{topOf, top-append}
 
 -- claims and parcels, and no other rows
 holds-yes : (g : ℕ) → 2 ≤ g → g ≤ 3 → holdsHandles g ≡ true
@@ -30,14 +31,29 @@ holds-no (suc (suc zero)) a b = absurd (a refl)
 holds-no (suc (suc (suc zero))) a b = absurd (b refl)
 holds-no (suc (suc (suc (suc g)))) a b = rw (ne-eqb (suc (suc (suc (suc g)))) 2 a, ne-eqb (suc (suc (suc (suc g)))) 3 b)
 
-module _ (ws : List ℕ) (sh : Shape) (d : ℕ) where
+module _ (m : Mem) where
   -- `note_row`
-  pub row-no : (x g : ℕ) → g ≡ load ws sh (row x rowKind) → (g ≡ 2 → ⊥) → (g ≡ 3 → ⊥) → ws ≡ shifted ws sh d (inRow (load ws sh) x)
-  row-no x g a p q = let y : holdsHandles (load ws sh (row x rowKind)) ≡ false = ap holdsHandles (sym a) ∙ holds-no g p q in rw y
+  pub row-none : (x g : ℕ) → g ≡ m (row x rowKind) → (g ≡ 2 → ⊥) → (g ≡ 3 → ⊥) → [] ≡ inRow m x
+  row-none x g a p q = let y : holdsHandles (m (row x rowKind)) ≡ false = ap holdsHandles (sym a) ∙ holds-no g p q in rw y
 
-  pub row-yes : (x g c n : ℕ) (vs : List ℕ) → g ≡ load ws sh (row x rowKind) → 2 ≤ g → g ≤ 3 → c ≡ load ws sh (row x rowLength) → n ≡ min c batchMax
-      → vs ≡ shifted ws sh d (gather n (λ j. load ws sh (item x j itemObject) ∷ [])) → vs ≡ shifted ws sh d (inRow (load ws sh) x)
-  row-yes x g c n vs a p q b e k = let y : holdsHandles (load ws sh (row x rowKind)) ≡ true = ap holdsHandles (sym a) ∙ holds-yes g p q in k ∙ rw (y, e, b)
+  pub row-some : (x g c n : ℕ) → g ≡ m (row x rowKind) → 2 ≤ g → g ≤ 3 → c ≡ m (row x rowLength) → n ≡ min c batchMax → gather n (λ j. m (item x j itemObject) ∷ []) ≡ inRow m x
+  row-some x g c n a p q b e = let y : holdsHandles (m (row x rowKind)) ≡ true = ap holdsHandles (sym a) ∙ holds-yes g p q in rw (y, e, b)
+
+  -- `note_rank`
+  pub rank-is : (i x : ℕ) → x ≡ m (index i) → inRow m x ≡ inRow m (m (index i))
+  rank-is i x e = ap (inRow m) e
+
+  -- `note_rows`
+  pub book-is : (sh : Shape) (z n : ℕ) → z ≡ m (root rootUsedRows) → n ≡ min z (sh .rows) → gather n (λ i. inRow m (m (index i))) ≡ inBook m sh
+  book-is sh z n p q = rw (q, p)
+
+-- the handles of a list counted, and how far their objects reach
+abbrev pub Noted : List ℕ → List ℕ → Shape → ℕ → ℕ → List ℕ → Type 0
+Noted ws vs sh t r os = (vs ≡ shifted ws sh unit os) × (r ≡ topOf (sh .objects) t os)
+
+-- of a list that is another
+pub noted-as : (ws vs : List ℕ) (sh : Shape) (t r : ℕ) (xs ys : List ℕ) → xs ≡ ys → Noted ws vs sh t r xs → Noted ws vs sh t r ys
+noted-as ws vs sh t r xs ys e h = (h .0 ∙ ap (λ (l : List ℕ). shifted ws sh unit l) e, h .1 ∙ ap (λ (l : List ℕ). topOf (sh .objects) t l) e)
 
 -- a loop over lists that do not depend on the objects
 module _ (sh : Shape) (d : ℕ) (f : Mem → ℕ → List ℕ) (same : (m n : Mem) → OffObjects m n → (k : ℕ) → f n k ≡ f m k) where
@@ -51,6 +67,19 @@ module _ (sh : Shape) (d : ℕ) (f : Mem → ℕ → List ℕ) (same : (m n : Me
   pub turn-end : (ws vs : List ℕ) (k n : ℕ) → vs ≡ shifted ws sh d (gather k (f (load ws sh))) → k ≡ n → vs ≡ shifted ws sh d (gather n (f (load ws sh)))
   turn-end ws vs k n a e = a ∙ ap (λ (i : ℕ). shifted ws sh d (gather i (f (load ws sh)))) e
 
+-- the same loop over rows or items, which tells how far their objects reach
+module _ (sh : Shape) (f : Mem → ℕ → List ℕ) (same : (m n : Mem) → OffObjects m n → (k : ℕ) → f n k ≡ f m k) where
+  pub noted-more : (ws vs us : List ℕ) (t u r k : ℕ) → Noted ws vs sh t u (gather k (f (load ws sh))) → Noted vs us sh u r (f (load vs sh) k) → Noted ws us sh t r (gather (k + 1) (f (load ws sh)))
+  noted-more ws vs us t u r k a b =
+      let os : List ℕ = gather k (f (load ws sh)) in
+      let e : f (load vs sh) k ≡ f (load ws sh) k = rw (a .0) (same (load ws sh) (load (shifted ws sh unit os) sh) (shifted-off ws sh unit os) k) in (
+        turn-more sh unit f same ws vs us k (a .0) (b .0),
+        b .1 ∙ ap (λ (l : List ℕ). topOf (sh .objects) u l) e ∙ ap (λ (v : ℕ). topOf (sh .objects) v (f (load ws sh) k)) (a .1) ∙ sym (top-append (sh .objects) t os (f (load ws sh) k)) ∙ rw add-one,
+      )
+
+  pub noted-end : (ws vs : List ℕ) (t r k n : ℕ) → Noted ws vs sh t r (gather k (f (load ws sh))) → k ≡ n → Noted ws vs sh t r (gather n (f (load ws sh)))
+  noted-end ws vs t r k n a e = noted-as ws vs sh t r (gather k (f (load ws sh))) (gather n (f (load ws sh))) (ap (λ (i : ℕ). gather i (f (load ws sh))) e) a
+
 -- the handles of a list, then the rows
 pub rows-by : (ws vs us : List ℕ) (sh : Shape) (d : ℕ) (os : List ℕ) → vs ≡ shifted ws sh d os → us ≡ shifted vs sh d (inBook (load vs sh) sh) → us ≡ shifted ws sh d (os ++ inBook (load ws sh) sh)
 rows-by ws vs us sh d os a b =
@@ -60,13 +89,3 @@ rows-by ws vs us sh d os a b =
 -- the answer: there are words enough, and the counts are right
 unfoldable pub countsIn : List ℕ → Shape → Bool
 countsIn ws sh = leb (total sh) (length ws) && countsB (load ws sh) sh
-
--- what the walks over a table and over the rows leave
-module _ (ws : List ℕ) (sh : Shape) (d : ℕ) where
-  pub book-by : (z n : ℕ) (vs : List ℕ) → z ≡ load ws sh (root rootUsedRows) → n ≡ min z (sh .rows)
-      → vs ≡ shifted ws sh d (gather n (λ i. inRow (load ws sh) (load ws sh (index i)))) → vs ≡ shifted ws sh d (inBook (load ws sh) sh)
-  book-by z n vs p q k = k ∙ rw (q, p)
-
-  -- `note_rank`
-  pub rank-by : (i x : ℕ) (vs : List ℕ) → x ≡ load ws sh (index i) → vs ≡ shifted ws sh d (inRow (load ws sh) x) → vs ≡ shifted ws sh d (inRow (load ws sh) (load ws sh (index i)))
-  rank-by i x vs e k = k ∙ ap (λ (y : ℕ). shifted ws sh d (inRow (load ws sh) y)) e

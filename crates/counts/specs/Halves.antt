@@ -9,9 +9,9 @@ use lib.ListN.{length, getD, set, length-set, length-append}
 use lib.Seq.{getD-set-same, set-out, set-getD}
 use lib.Dec.{eqb, ltb}
 use borrow.Author.Tests.{ne-eqb, eqb-true, eqb-false, ltb-true, ltb-false}
-use Rattle.words.specs.Pick.{bool, pick-has}
+use Rattle.words.specs.Pick.{bool, clash, pick-has}
 use Rattle.words.specs.Words.{get-past}
-use Rattle.words.specs.All.{all, all-same}
+use Rattle.words.specs.All.{all, all-at, all-yes, all-same}
 use Rattle.model.specs.Base.{bit, occurs}
 use Rattle.model.specs.State.{till, maxSlots}
 use Rattle.model.specs.Storage.{slotsOf}
@@ -32,9 +32,6 @@ halfB c = eqb (c % 4294967296) (c / 4294967296)
 abbrev pub halvesTo : Mem → ℕ → Bool
 halvesTo m n = all n λ o. halfB (m (object o objectActive))
 
-unfoldable pub halvesB : Mem → Shape → Bool
-halvesB m sh = halvesTo m (sh .objects)
-
 -- the count of object o with its lower half alone
 unfoldable pub lowerW : List ℕ → Shape → ℕ → List ℕ
 lowerW ws sh o = save ws sh (object o objectActive) (load ws sh (object o objectActive) % 4294967296)
@@ -43,9 +40,6 @@ lowerW ws sh o = save ws sh (object o objectActive) (load ws sh (object o object
 unfoldable pub lowered : List ℕ → Shape → ℕ → List ℕ
 lowered ws sh zero = ws
 lowered ws sh (suc n) = lowerW (lowered ws sh n) sh n
-
-unfoldable pub settledW : List ℕ → Shape → List ℕ
-settledW ws sh = lowered ws sh (sh .objects)
 
 -- every object's count is below 2^32
 abbrev pub Low : List ℕ → Shape → Type 0
@@ -149,22 +143,37 @@ module _ (sh : Shape) where
   shifted-past ws [] i h = refl
   shifted-past ws (x ∷ os) i h = shifted-past (shiftW ws sh unit x) os i h ∙ shift-past ws x i h
 
+  -- an object that no handle of the list is of
+  shifted-none : (ws : List ℕ) (os : List ℕ) (o : ℕ) → occurs o os ≡ 0 → load (shifted ws sh unit os) sh (object o objectActive) ≡ load ws sh (object o objectActive)
+  shifted-none ws [] o h = refl
+  shifted-none ws (x ∷ os) o h = bool (eqb o x)
+      (λ e. let z : 1 + occurs o os ≡ 0 = rw e at h in absurd (omega arith))
+      (λ e. let z : 0 + occurs o os ≡ 0 = rw e at h in shifted-none (shiftW ws sh unit x) os o (omega (arith, z)) ∙ shift-other ws x (object o objectActive) (count-apart x o (eqb-false o x e)))
+
+-- every object that a handle of the list is of is among the first n
+abbrev pub Within : Shape → ℕ → List ℕ → Type 0
+Within sh n os = (o : ℕ) → o < sh .objects → 1 ≤ occurs o os → o < n
+
+within-none : (sh : Shape) (n : ℕ) (os : List ℕ) → Within sh n os → (o : ℕ) → o < sh .objects → n ≤ o → occurs o os ≡ 0
+within-none sh n os h o l k = bool (eqb (occurs o os) 0) (λ e. eqb-true (occurs o os) 0 e) (λ e. absurd (omega (arith, k, h o l (omega (arith, eqb-false (occurs o os) 0 e)))))
+
 -- EVERY WORD IS AS IT WAS, whichever handles were counted
-pub settled-kept : (ws : List ℕ) (sh : Shape) (os : List ℕ) → Low ws sh → settledW (shifted ws sh unit os) sh ≡ ws
-unfolding settledW
-settled-kept ws sh os low = loads-same (lowered vs sh n) ws sh (length-lowered vs sh n ∙ length-shifted ws sh unit os) (fun-ext at)
+pub settled-kept : (ws : List ℕ) (sh : Shape) (os : List ℕ) (n : ℕ) → Low ws sh → Within sh n os → lowered (shifted ws sh unit os) sh n ≡ ws
+settled-kept ws sh os n low within = loads-same (lowered vs sh n) ws sh (length-lowered vs sh n ∙ length-shifted ws sh unit os) (fun-ext at)
     (λ i h. lowered-past vs sh n i h ∙ shifted-past sh ws os i h)
   where
     vs : List ℕ
     vs = shifted ws sh unit os
 
-    n : ℕ
-    n = sh .objects
+    among : (x : ℕ) → x < sh .objects → load (lowered vs sh n) sh (object x objectActive) ≡ load ws sh (object x objectActive)
+    among x l = bool (ltb x n)
+        (λ e. lowered-own vs sh n x (ltb-true x n e) ∙ shifted-low sh ws os x ∙ omega (arith, low x l))
+        (λ e. let k : n ≤ x = ltb-false x n e in lowered-later vs sh n x k ∙ shifted-none sh ws os x (within-none sh n os within x l k))
 
     count : (x : ℕ) → load (lowered vs sh n) sh (object x objectActive) ≡ load ws sh (object x objectActive)
-    count x = bool (ltb x n)
-        (λ e. let l : x < n = ltb-true x n e in lowered-own vs sh n x l ∙ shifted-low sh ws os x ∙ omega (arith, low x l))
-        (λ e. let o : isIn sh (object x objectActive) ≡ false = in-no sh (object x objectActive) (λ i. omega (arith, i .xs, ltb-false x n e)) in
+    count x = bool (ltb x (sh .objects))
+        (λ e. among x (ltb-true x (sh .objects) e))
+        (λ e. let o : isIn sh (object x objectActive) ≡ false = in-no sh (object x objectActive) (λ i. omega (arith, i .xs, ltb-false x (sh .objects) e)) in
         load-out (lowered vs sh n) sh (object x objectActive) o ∙ sym (load-out ws sh (object x objectActive) o))
 
     rest : (a : Addr) → ((o : ℕ) → same (object o objectActive) a ≡ false) → load (lowered vs sh n) sh a ≡ load ws sh a
@@ -242,11 +251,23 @@ module _ (sh : Shape) (o : ℕ) (l : o < sh .objects) where
 
 -- THE COUNTS ARE RIGHT exactly if the halves are equal with every handle counted
 pub halves-counts : (ws : List ℕ) (sh : Shape) → total sh ≤ length ws → Low ws sh → sh .tables < 256 → sh .rows < 65536
-    → halvesB (load (shifted ws sh unit (found (load ws sh) sh)) sh) sh ≡ countsB (load ws sh) sh
-unfolding halvesB countsB handles
+    → halvesTo (load (shifted ws sh unit (found (load ws sh) sh)) sh) (sh .objects) ≡ countsB (load ws sh) sh
+unfolding countsB handles
 halves-counts ws sh room low a b = let os : List ℕ = found (load ws sh) sh in
     all-same (sh .objects) _ _ (λ o l. let c : ℕ = load ws sh (object o objectActive) in let h : c < 4294967296 = low o l in
     ap halfB (shifted-count sh o l ws os room (omega (arith, h))) ∙ half-is c (occurs o os) h (omega (arith, occurs-length o os, found-length (load ws sh) sh a b)))
+
+-- a test that every number from n on passes
+all-less : (n k : ℕ) (p : ℕ → Bool) → n ≤ k → ((i : ℕ) → n ≤ i → i < k → p i ≡ true) → all n p ≡ all k p
+all-less n k p h f = bool (all n p)
+    (λ e. e ∙ sym (all-yes k p (λ i l. bool (ltb i n) (λ d. all-at n p e i (ltb-true i n d)) (λ d. f i (ltb-false i n d) l))))
+    (λ e. bool (all k p) (λ d. clash (all-yes n p (λ i l. all-at k p d i (omega arith))) e) (λ d. e ∙ sym d))
+
+-- an object that has no count and no handle has equal halves
+pub halves-few : (ws : List ℕ) (sh : Shape) (os : List ℕ) (n : ℕ) → n ≤ sh .objects → Within sh n os → ((o : ℕ) → n ≤ o → o < sh .objects → load ws sh (object o objectActive) ≡ 0)
+    → halvesTo (load (shifted ws sh unit os) sh) n ≡ halvesTo (load (shifted ws sh unit os) sh) (sh .objects)
+halves-few ws sh os n h within none = all-less n (sh .objects) _ h
+    (λ o k l. ap halfB (shifted-none sh ws os o (within-none sh n os within o l k) ∙ none o k l))
 
 -- ---- what the functions' bodies go by
 
@@ -284,10 +305,8 @@ module _ (ws : List ℕ) (sh : Shape) where
       let d : t ≡ halfB (load ws sh (object o objectActive)) = q ∙ ap (λ (w : List ℕ). halfB (load w sh (object o objectActive))) a ∙ ap halfB (lowered-later ws sh o o (omega arith)) in
       rw add-one (b ∙ rw (p, d))
 
-  pub words-end : (o : ℕ) (vs : List ℕ) → vs ≡ lowered ws sh o → o ≡ sh .objects → vs ≡ settledW ws sh
-  unfolding settledW
-  words-end o vs a e = a ∙ ap (lowered ws sh) e
+  pub words-end : (o n : ℕ) (vs : List ℕ) → vs ≡ lowered ws sh o → o ≡ n → vs ≡ lowered ws sh n
+  words-end o n vs a e = a ∙ ap (lowered ws sh) e
 
-  pub halves-end : (o : ℕ) (r : Bool) → r ≡ halvesTo (load ws sh) o → o ≡ sh .objects → r ≡ halvesB (load ws sh) sh
-  unfolding halvesB
-  halves-end o r a e = a ∙ ap (halvesTo (load ws sh)) e
+  pub halves-end : (o n : ℕ) (r : Bool) → r ≡ halvesTo (load ws sh) o → o ≡ n → r ≡ halvesTo (load ws sh) n
+  halves-end o n r a e = a ∙ ap (halvesTo (load ws sh)) e

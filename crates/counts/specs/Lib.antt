@@ -4,4 +4,5 @@ pub mod Code
 pub mod Handles
 pub mod Decide
 pub mod Objects
+pub mod Used
 pub mod Halves

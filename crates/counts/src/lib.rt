@@ -1,7 +1,8 @@
 // The part of the state check that looks at objects: their fields, and their counts.
 //
 // The counts are checked with no memory beside the state's: every handle is counted in the upper half of its object's count word, which is 0 where the
-// fields are in range; then the halves are compared, and the lower ones are left. Whichever handles were counted, every word is then as it was.
+// fields are in range; then the halves are compared, and the lower ones are left. Whichever handles were counted, every word is then as it was. Only the objects
+// up to the last that has a count are gone over again, or up to the last that a row has a handle of.
 // Bounds that are taken here again hold where the parts before have passed; they make each contract true of any words.
 ghost use mathlib.Core.Path.{_≡_};
 ghost use mathlib.Core.Bool.{_&&_, _||_};
@@ -9,12 +10,14 @@ ghost use mathlib.Core.List.{[], _∷_};
 ghost use Prim.Native.Nat.{_≤_, _<_};
 ghost use lib.Dec.{eqb};
 ghost use lib.ListN.{length};
+ghost use Rattle.words.specs.Pick.{pick};
 ghost use Rattle.layout.specs.Layout.{objectsAt, total, load as loadAt, object, index, item};
 ghost use Rattle.layout.specs.Fields.{objectActive, itemObject};
 ghost use Rattle.counts.specs.Found.{gather, inRow, inBook};
 ghost use Rattle.counts.specs.Shift.{plus, shiftW, shifted, unit};
-ghost use Rattle.counts.specs.Objects.{fields, objectB, objectsB};
-ghost use Rattle.counts.specs.Halves.{halfB, halvesB, lowerW, settledW};
+ghost use Rattle.counts.specs.Objects.{fields, objectB};
+ghost use Rattle.counts.specs.Used.{raise, topOf, objectsRead};
+ghost use Rattle.counts.specs.Halves.{halfB, halvesTo, lowerW, lowered};
 use layout::Shape;
 use layout::field;
 use layout::place;
@@ -23,6 +26,12 @@ use layout::value;
 
 // One more in the upper half of a word.
 const UNIT: u64 = 4294967296;
+
+// What the objects' fields say: one is out of range, or how many objects there are up to the last that has a count.
+pub enum ObjectsRead {
+    Bad,
+    Used(u64),
+}
 
 // Whether a number is one of two.
 fn either(x: u64, a: u64, b: u64) -> bool
@@ -83,21 +92,31 @@ fn object_ok(s: &[u64], sh: Shape, first: u64, o: u64) -> bool
     )
 }
 
-// Whether the fields of every object are in range.
-pub fn check_objects(s: &[u64], sh: Shape) -> bool
+// The one where a count is 0, else the other.
+fn by_count(count: u64, none: u64, some: u64) -> u64
+    ensures { λ r. ⌜ r ≡ pick (eqb count 0) none some ⌝ }
+{
+    if count == 0 { none } else { some }
+}
+
+// Whether the fields of every object are in range, and how many objects may have handles.
+pub fn check_objects(s: &[u64], sh: Shape) -> ObjectsRead
     requires { ⌜ total sh ≤ length (now s) ⌝ }
-    ensures { λ r. ⌜ r ≡ objectsB (loadAt (now (s .entry)) sh) sh ⌝ }
+    ensures { λ r. ⌜ r ≡ objectsRead (loadAt (now (s .entry)) sh) sh ⌝ }
 {
     let first = layout::region_of(sh, layout::OBJECT).low;
     let n = sh.objects as u64;
+    let mut used: u64 = 0;
     let mut o: u64 = 0;
     while o < n {
         if !object_ok(s, sh, first, o) {
-            return false;
+            return ObjectsRead::Bad;
         }
+        let at = (first + o * size::OBJECT_SIZE + field::OBJECT_ACTIVE) as usize;
         o += 1;
+        used = by_count(s[at], used, o);
     }
-    true
+    ObjectsRead::Used(used)
 }
 
 // A word with one more in its upper half: past the largest it starts again.
@@ -127,60 +146,83 @@ pub fn note_handle(s: &mut [u64], sh: Shape, o: u64)
     s[at] = added(s[at]);
 }
 
-// For item j of the row in place x.
-fn note_item(s: &mut [u64], sh: Shape, x: u64, j: u64)
-    ensures { λ _. ⌜ now (s .exit) ≡ shifted (now (s .entry)) sh unit (loadAt (now (s .entry)) sh (item x j itemObject) ∷ []) ⌝ }
+// So many objects, the first ones, or as many more as it takes for o to be among them, if it is one of n.
+fn raised(top: u64, n: u64, o: u64) -> u64
+    ensures { λ r. ⌜ r ≡ raise n top o ⌝ }
+{
+    if o < top {
+        return top;
+    }
+    if o < n {
+        return o + 1;
+    }
+    top
+}
+
+// Counts the handle of item j of the row in place x. The objects that may have a handle counted: so many as before, or up to that handle's.
+fn note_item(s: &mut [u64], sh: Shape, x: u64, j: u64, top: u64) -> u64
+    ensures noted { λ _. ⌜ now (s .exit) ≡ shifted (now (s .entry)) sh unit (loadAt (now (s .entry)) sh (item x j itemObject) ∷ []) ⌝ }
+    ensures reached { λ r. ⌜ r ≡ topOf (sh .objects) top (loadAt (now (s .entry)) sh (item x j itemObject) ∷ []) ⌝ }
 {
     let o = layout::item_word(s, sh, x, j, field::ITEM_OBJECT);
     note_count(s, sh, o);
+    raised(top, sh.objects as u64, o)
 }
 
-// For the first n items of the row in place x.
-fn note_items(s: &mut [u64], sh: Shape, x: u64, n: u64)
-    ensures { λ _. ⌜ now (s .exit) ≡ shifted (now (s .entry)) sh unit (gather n (λ j. loadAt (now (s .entry)) sh (item x j itemObject) ∷ [])) ⌝ }
+// The same of the first n items of the row in place x.
+fn note_items(s: &mut [u64], sh: Shape, x: u64, n: u64, top: u64) -> u64
+    ensures noted { λ _. ⌜ now (s .exit) ≡ shifted (now (s .entry)) sh unit (gather n (λ j. loadAt (now (s .entry)) sh (item x j itemObject) ∷ [])) ⌝ }
+    ensures reached { λ r. ⌜ r ≡ topOf (sh .objects) top (gather n (λ j. loadAt (now (s .entry)) sh (item x j itemObject) ∷ [])) ⌝ }
 {
+    let mut t = top;
     let mut j: u64 = 0;
     while j < n {
-        note_item(s, sh, x, j);
+        t = note_item(s, sh, x, j, t);
         j += 1;
     }
+    t
 }
 
-// For the row in place x, if it is a claim or a parcel.
-fn note_row(s: &mut [u64], sh: Shape, x: u64)
-    ensures { λ _. ⌜ now (s .exit) ≡ shifted (now (s .entry)) sh unit (inRow (loadAt (now (s .entry)) sh) x) ⌝ }
+// The same of the row in place x, if it is a claim or a parcel.
+fn note_row(s: &mut [u64], sh: Shape, x: u64, top: u64) -> u64
+    ensures noted { λ _. ⌜ now (s .exit) ≡ shifted (now (s .entry)) sh unit (inRow (loadAt (now (s .entry)) sh) x) ⌝ }
+    ensures reached { λ r. ⌜ r ≡ topOf (sh .objects) top (inRow (loadAt (now (s .entry)) sh) x) ⌝ }
 {
     let kind = layout::row_word(s, sh, x, field::ROW_KIND);
     if kind < value::KIND_CLAIM {
-        return;
+        return top;
     }
     if kind > value::KIND_PARCEL {
-        return;
+        return top;
     }
     let count = layout::row_word(s, sh, x, field::ROW_LENGTH);
     let n = words::smaller(count, size::BATCH_MAX);
-    note_items(s, sh, x, n);
+    note_items(s, sh, x, n, top)
 }
 
-// For the row of rank i.
-fn note_rank(s: &mut [u64], sh: Shape, i: u64)
-    ensures { λ _. ⌜ now (s .exit) ≡ shifted (now (s .entry)) sh unit (inRow (loadAt (now (s .entry)) sh) (loadAt (now (s .entry)) sh (index i))) ⌝ }
+// The same of the row of rank i.
+fn note_rank(s: &mut [u64], sh: Shape, i: u64, top: u64) -> u64
+    ensures noted { λ _. ⌜ now (s .exit) ≡ shifted (now (s .entry)) sh unit (inRow (loadAt (now (s .entry)) sh) (loadAt (now (s .entry)) sh (index i))) ⌝ }
+    ensures reached { λ r. ⌜ r ≡ topOf (sh .objects) top (inRow (loadAt (now (s .entry)) sh) (loadAt (now (s .entry)) sh (index i))) ⌝ }
 {
     let x = layout::index_word(s, sh, i);
-    note_row(s, sh, x);
+    note_row(s, sh, x, top)
 }
 
-// For the rows in use.
-pub fn note_rows(s: &mut [u64], sh: Shape)
-    ensures { λ _. ⌜ now (s .exit) ≡ shifted (now (s .entry)) sh unit (inBook (loadAt (now (s .entry)) sh) sh) ⌝ }
+// The same of the rows in use.
+pub fn note_rows(s: &mut [u64], sh: Shape, top: u64) -> u64
+    ensures noted { λ _. ⌜ now (s .exit) ≡ shifted (now (s .entry)) sh unit (inBook (loadAt (now (s .entry)) sh) sh) ⌝ }
+    ensures reached { λ r. ⌜ r ≡ topOf (sh .objects) top (inBook (loadAt (now (s .entry)) sh) sh) ⌝ }
 {
     let used = layout::root_word(s, sh, field::ROOT_USED_ROWS);
     let n = words::smaller(used, sh.rows as u64);
+    let mut t = top;
     let mut i: u64 = 0;
     while i < n {
-        note_rank(s, sh, i);
+        t = note_rank(s, sh, i, t);
         i += 1;
     }
+    t
 }
 
 // Whether both are so; both are known, so that nothing is left out.
@@ -207,14 +249,13 @@ fn settle_one(s: &mut [u64], sh: Shape, first: u64, o: u64) -> bool
     words::eq(low, c / UNIT)
 }
 
-// Leaves the lower half of each object's count. Whether every upper half was equal.
-pub fn settle(s: &mut [u64], sh: Shape) -> bool
-    requires { ⌜ total sh ≤ length (now s) ⌝ }
-    ensures words { λ _. ⌜ now (s .exit) ≡ settledW (now (s .entry)) sh ⌝ }
-    ensures answer { λ r. ⌜ r ≡ halvesB (loadAt (now (s .entry)) sh) sh ⌝ }
+// Leaves the lower half of the count of each of the first n objects. Whether every upper half was equal.
+pub fn settle(s: &mut [u64], sh: Shape, n: u64) -> bool
+    requires { ⌜ (total sh ≤ length (now s)) × (n ≤ sh .objects) ⌝ }
+    ensures words { λ _. ⌜ now (s .exit) ≡ lowered (now (s .entry)) sh n ⌝ }
+    ensures answer { λ r. ⌜ r ≡ halvesTo (loadAt (now (s .entry)) sh) n ⌝ }
 {
     let first = layout::region_of(sh, layout::OBJECT).low;
-    let n = sh.objects as u64;
     let mut equal = true;
     let mut o: u64 = 0;
     while o < n {

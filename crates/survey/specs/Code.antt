@@ -46,36 +46,31 @@ cell-place n sh f j e at q h k z = let p = in-place (region (layout sh) 7) f j 0
 pub cell-lent : (sh : Shape) (f j : ℕ) (e : Extent) → e ≡ region (layout sh) 7 → f < sh .frames → j < pageSize → e .low + (f * pageSize + j) * slotSize + slotSize ≤ total sh
 cell-lent sh f j e q h k = rw q (omega arith)
 
-module _ (m : Mem) (sh : Shape) (b k life bound high : ℕ) (c : CellWords) (t : Bool) (eb : bound ≡ boundOf (sh .objects) life) (ec : t ≡ slotC bound high c) where
-  et : t ≡ slotC (boundOf (sh .objects) life) high c
-  et = ec ∙ ap (λ (x : ℕ). slotC x high c) eb
-
-  pub slot-bad : t ≡ false → false ≡ cellB m sh b k life high c
+module _ (m : Mem) (sh : Shape) (b k bound high : ℕ) (c : CellWords) (t : Bool) (et : t ≡ slotC bound high c) where
+  pub slot-bad : t ≡ false → false ≡ cellB m sh b k bound high c
   unfolding cellB
   slot-bad z = rw (sym et ∙ z)
 
-  pub slot-vacant : t ≡ true → c .tag ≡ 0 → true ≡ cellB m sh b k life high c
+  pub slot-vacant : t ≡ true → c .tag ≡ 0 → true ≡ cellB m sh b k bound high c
   unfolding cellB
   slot-vacant z h = rw (sym et ∙ z, le-ltb 0 (c .tag) (omega arith))
 
-  pub slot-held : t ≡ true → (c .tag ≡ 0 → ⊥) → 3 ≤ c .tag → true ≡ cellB m sh b k life high c
+  pub slot-held : t ≡ true → (c .tag ≡ 0 → ⊥) → 3 ≤ c .tag → true ≡ cellB m sh b k bound high c
   unfolding cellB
   slot-held z n h = rw (sym et ∙ z, lt-ltb 0 (c .tag) (omega arith), le-ltb (c .tag) 3 h)
 
-  pub slot-marked : (r : Bool) → t ≡ true → (c .tag ≡ 0 → ⊥) → c .tag < 3 → r ≡ markB m sh b k (c .tag) (c .object) (c .rights) → r ≡ cellB m sh b k life high c
+  pub slot-marked : (r : Bool) → t ≡ true → (c .tag ≡ 0 → ⊥) → c .tag < 3 → r ≡ markB m sh b k (c .tag) (c .object) (c .rights) → r ≡ cellB m sh b k bound high c
   unfolding cellB
   slot-marked r z n h q = rw (sym et ∙ z, lt-ltb 0 (c .tag) (omega arith), lt-ltb (c .tag) 3 h) q
 
--- an occupied slot that passes holds a handle of one of the objects
-pub slot-holds : (m : Mem) (sh : Shape) (b k life high : ℕ) (c : CellWords) (t : Bool) → t ≡ cellB m sh b k life high c → t ≡ true → c .tag ≡ 3 → c .object < sh .objects
+-- an occupied slot that passes holds a handle of an object below the bound
+pub slot-holds : (m : Mem) (sh : Shape) (b k bound high : ℕ) (c : CellWords) (t : Bool) → t ≡ cellB m sh b k bound high c → t ≡ true → c .tag ≡ 3 → c .object < bound
 unfolding cellB slotC handleC
-slot-holds m sh b k life high c t e y h =
-    let bound : ℕ = boundOf (sh .objects) life in
+slot-holds m sh b k bound high c t e y h =
     let a = both (slotC bound high c) (markedB m sh b k c) (sym e ∙ y) .0 in
     let g = both (leb 1 (c .generation)) (leb (c .generation) high && pick (eqb (c .tag) 3) (handleC bound c) true) (both (leb (c .tag) 3) _ a .1) .1 in
     let d : handleC bound c ≡ true = rw (eq-eqb (c .tag) 3 h) at (both (leb (c .generation) high) (pick (eqb (c .tag) 3) (handleC bound c) true) g .1) in
-    let l = ltb-true (c .object) bound (both (ltb (c .object) bound) (leb (c .flags) 3) d .0) in
-    omega (arith, l, pick-has (λ (x : ℕ). x ≤ sh .objects) (eqb life 2) 0 (sh .objects) (λ q. omega arith) (λ q. omega arith))
+    ltb-true (c .object) bound (both (ltb (c .object) bound) (leb (c .flags) 3) d .0)
 
 -- `note_slot`
 pub note-yes : (ws vs : List ℕ) (sh : Shape) (c : CellWords) → c .tag ≡ 3 → vs ≡ shiftW ws sh unit (c .object) → vs ≡ shifted ws sh unit (heldIn c)
@@ -92,35 +87,35 @@ module _ (ws vs : List ℕ) (sh : Shape) (os : List ℕ) (ev : vs ≡ shifted ws
   pub cell-left : (f j : ℕ) (c : CellWords) → c ≡ cellAt (load vs sh) f j → c ≡ cellAt (load ws sh) f j
   cell-left f j c e = e ∙ cell-same (load ws sh) (load vs sh) off f j
 
-  pub slot-left : (b p life high f j k : ℕ) (c : CellWords) (r : Bool) → k ≡ p * pageSize + j → c ≡ cellAt (load vs sh) f j → r ≡ cellB (load vs sh) sh b k life high c
-      → r ≡ slotAt (load ws sh) sh b p life high f j
-  slot-left b p life high f j k c r ek ec q = q ∙ test-same (load ws sh) (load vs sh) off sh b k life high c ∙ rw (ek, cell-left f j c ec)
+  pub slot-left : (b p bound high f j k : ℕ) (c : CellWords) (r : Bool) → k ≡ p * pageSize + j → c ≡ cellAt (load vs sh) f j → r ≡ cellB (load vs sh) sh b k bound high c
+      → r ≡ slotAt (load ws sh) sh b p bound high f j
+  slot-left b p bound high f j k c r ek ec q = q ∙ test-same (load ws sh) (load vs sh) off sh b k bound high c ∙ rw (ek, cell-left f j c ec)
 
-module _ (m : Mem) (sh : Shape) (b p life high f n w : ℕ) where
-  pub slots-stop : (j : ℕ) (r : Bool) → j < n → r ≡ slotAt m sh b p life high f j → r ≡ false → false ≡ frameB m sh b p life high f n w
+module _ (m : Mem) (sh : Shape) (b p bound high f n w : ℕ) where
+  pub slots-stop : (j : ℕ) (r : Bool) → j < n → r ≡ slotAt m sh b p bound high f j → r ≡ false → false ≡ frameB m sh b p bound high f n w
   unfolding frameB
-  slots-stop j r h q e = rw (all-stop n (slotAt m sh b p life high f) j h (sym q ∙ e))
+  slots-stop j r h q e = rw (all-stop n (slotAt m sh b p bound high f) j h (sym q ∙ e))
 
-  pub slots-more : (j : ℕ) (r : Bool) → all j (slotAt m sh b p life high f) ≡ true → r ≡ slotAt m sh b p life high f j → r ≡ true → all (j + 1) (slotAt m sh b p life high f) ≡ true
-  slots-more j r a q e = all-more j (slotAt m sh b p life high f) a (sym q ∙ e)
+  pub slots-more : (j : ℕ) (r : Bool) → all j (slotAt m sh b p bound high f) ≡ true → r ≡ slotAt m sh b p bound high f j → r ≡ true → all (j + 1) (slotAt m sh b p bound high f) ≡ true
+  slots-more j r a q e = all-more j (slotAt m sh b p bound high f) a (sym q ∙ e)
 
-  pub slots-end : (j count : ℕ) → all j (slotAt m sh b p life high f) ≡ true → count ≡ busyCells m f j → j ≡ n → eqb count w ≡ frameB m sh b p life high f n w
+  pub slots-end : (j count : ℕ) → all j (slotAt m sh b p bound high f) ≡ true → count ≡ busyCells m f j → j ≡ n → eqb count w ≡ frameB m sh b p bound high f n w
   unfolding frameB
-  slots-end j count e q z = let a : all n (slotAt m sh b p life high f) ≡ true = rw z at e in let d : count ≡ busyCells m f n = rw z at q in rw (a, d)
+  slots-end j count e q z = let a : all n (slotAt m sh b p bound high f) ≡ true = rw z at e in let d : count ≡ busyCells m f n = rw z at q in rw (a, d)
 
 -- the handles counted, up to a slot that fails or to the end
 module _ (ws vs : List ℕ) (sh : Shape) (f j : ℕ) (ev : vs ≡ shifted ws sh unit (gather j (inCell (load ws sh) f))) where
   pub noted-more : (us : List ℕ) (c : CellWords) → c ≡ cellAt (load vs sh) f j → us ≡ shifted vs sh unit (heldIn c) → us ≡ shifted ws sh unit (gather (j + 1) (inCell (load ws sh) f))
   noted-more us c ec e = turn-more sh unit (λ (m : Mem) (k : ℕ). inCell m f k) (λ m n h k. in-cell-same m n h f k) ws vs us j ev (e ∙ ap (λ (d : CellWords). shifted vs sh unit (heldIn d)) ec)
 
-  module _ (b p life high n : ℕ) (y : all j (slotAt (load ws sh) sh b p life high f) ≡ true) where
-    pub noted-stop : (r : Bool) → j < n → r ≡ slotAt (load ws sh) sh b p life high f j → r ≡ false → vs ≡ shifted ws sh unit (frameFound (load ws sh) sh b p life high f n)
+  module _ (b p bound high n : ℕ) (y : all j (slotAt (load ws sh) sh b p bound high f) ≡ true) where
+    pub noted-stop : (r : Bool) → j < n → r ≡ slotAt (load ws sh) sh b p bound high f j → r ≡ false → vs ≡ shifted ws sh unit (frameFound (load ws sh) sh b p bound high f n)
     unfolding frameFound
-    noted-stop r h q d = ev ∙ rw (passed-stop n (slotAt (load ws sh) sh b p life high f) j h y (sym q ∙ d))
+    noted-stop r h q d = ev ∙ rw (passed-stop n (slotAt (load ws sh) sh b p bound high f) j h y (sym q ∙ d))
 
-    pub noted-end : j ≡ n → vs ≡ shifted ws sh unit (frameFound (load ws sh) sh b p life high f n)
+    pub noted-end : j ≡ n → vs ≡ shifted ws sh unit (frameFound (load ws sh) sh b p bound high f n)
     unfolding frameFound
-    noted-end e = ev ∙ rw (← e) (rw (passed-all j (slotAt (load ws sh) sh b p life high f) y))
+    noted-end e = ev ∙ rw (← e) (rw (passed-all j (slotAt (load ws sh) sh b p bound high f) y))
 
 -- one more slot may be busy
 pub busy-more : (m : Mem) (f j x v y : ℕ) (c : CellWords) → x ≡ busyCells m f j → c ≡ cellAt m f j → v ≡ bit (not (eqb (c .tag) 0)) → y ≡ x + v → y ≡ busyCells m f (j + 1)
@@ -128,78 +123,78 @@ busy-more m f j x v y c e ec q z = sum-more (λ i. bit (not (eqb (m (cell f i sl
 
 -- what the walk over a frame has done up to slot j: the handles counted, the slots tested, the busy ones counted
 abbrev pub Done : List ℕ → List ℕ → Shape → ℕ → ℕ → ℕ → ℕ → ℕ → ℕ → ℕ → Type 0
-Done ws vs sh b p life high f j count =
-    (vs ≡ shifted ws sh unit (gather j (inCell (load ws sh) f))) × (all j (slotAt (load ws sh) sh b p life high f) ≡ true) × (count ≡ busyCells (load ws sh) f j)
+Done ws vs sh b p bound high f j count =
+    (vs ≡ shifted ws sh unit (gather j (inCell (load ws sh) f))) × (all j (slotAt (load ws sh) sh b p bound high f) ≡ true) × (count ≡ busyCells (load ws sh) f j)
 
 -- from vs to us it goes on from slot j to slot k, all of which are busy
 unfoldable pub Further : List ℕ → List ℕ → Shape → ℕ → ℕ → ℕ → ℕ → ℕ → ℕ → ℕ → Type 0
-Further vs us sh b p life high f j k = (ws : List ℕ) (count : ℕ) → Done ws vs sh b p life high f j count → Done ws us sh b p life high f k (count + (k - j))
+Further vs us sh b p bound high f j k = (ws : List ℕ) (count : ℕ) → Done ws vs sh b p bound high f j count → Done ws us sh b p bound high f k (count + (k - j))
 
 -- one slot more
-pub done-more : (ws vs us : List ℕ) (sh : Shape) (b p life high f j k x v y : ℕ) (c : CellWords) (r : Bool) → Done ws vs sh b p life high f j x → c ≡ cellAt (load vs sh) f j → k ≡ p * pageSize + j
-    → r ≡ cellB (load vs sh) sh b k life high c → r ≡ true → us ≡ shifted vs sh unit (heldIn c) → v ≡ bit (not (eqb (c .tag) 0)) → y ≡ x + v → Done ws us sh b p life high f (j + 1) y
-done-more ws vs us sh b p life high f j k x v y c r d ec ek et z e ev ey = (
+pub done-more : (ws vs us : List ℕ) (sh : Shape) (b p bound high f j k x v y : ℕ) (c : CellWords) (r : Bool) → Done ws vs sh b p bound high f j x → c ≡ cellAt (load vs sh) f j → k ≡ p * pageSize + j
+    → r ≡ cellB (load vs sh) sh b k bound high c → r ≡ true → us ≡ shifted vs sh unit (heldIn c) → v ≡ bit (not (eqb (c .tag) 0)) → y ≡ x + v → Done ws us sh b p bound high f (j + 1) y
+done-more ws vs us sh b p bound high f j k x v y c r d ec ek et z e ev ey = (
   noted-more ws vs sh f j (d .0) us c ec e,
-  slots-more (load ws sh) sh b p life high f 0 0 j r (d .1) (slot-left ws vs sh (gather j (inCell (load ws sh) f)) (d .0) b p life high f j k c r ek ec et) z,
+  slots-more (load ws sh) sh b p bound high f 0 0 j r (d .1) (slot-left ws vs sh (gather j (inCell (load ws sh) f)) (d .0) b p bound high f j k c r ek ec et) z,
   busy-more (load ws sh) f j x v y c (d .2) (cell-left ws vs sh (gather j (inCell (load ws sh) f)) (d .0) f j c ec) ev ey,
 )
 
-module _ (vs : List ℕ) (sh : Shape) (b p life high f j : ℕ) where
-  pub further-none : Further vs vs sh b p life high f j j
+module _ (vs : List ℕ) (sh : Shape) (b p bound high f j : ℕ) where
+  pub further-none : Further vs vs sh b p bound high f j j
   unfolding Further
   further-none ws count d = let e : count + (j - j) ≡ count = omega arith in rw e d
 
-  pub further-more : (us zs : List ℕ) (i k : ℕ) (c : CellWords) (r : Bool) → j ≤ k → Further vs us sh b p life high f j k → c ≡ cellAt (load us sh) f k → i ≡ p * pageSize + k
-      → r ≡ cellB (load us sh) sh b i life high c → r ≡ true → c .tag ≡ 3 → zs ≡ shifted us sh unit (heldIn c) → Further vs zs sh b p life high f j (k + 1)
+  pub further-more : (us zs : List ℕ) (i k : ℕ) (c : CellWords) (r : Bool) → j ≤ k → Further vs us sh b p bound high f j k → c ≡ cellAt (load us sh) f k → i ≡ p * pageSize + k
+      → r ≡ cellB (load us sh) sh b i bound high c → r ≡ true → c .tag ≡ 3 → zs ≡ shifted us sh unit (heldIn c) → Further vs zs sh b p bound high f j (k + 1)
   unfolding Further
   further-more us zs i k c r l g ec ei et z h e ws count d =
-      done-more ws us zs sh b p life high f k i (count + (k - j)) 1 (count + (k + 1 - j)) c r (g ws count d) ec ei et z e (rw h) (omega arith)
+      done-more ws us zs sh b p bound high f k i (count + (k - j)) 1 (count + (k + 1 - j)) c r (g ws count d) ec ei et z e (rw h) (omega arith)
 
-  pub further-by : (us ws : List ℕ) (k x y : ℕ) → Further vs us sh b p life high f j k → Done ws vs sh b p life high f j x → y ≡ x + (k - j) → Done ws us sh b p life high f k y
+  pub further-by : (us ws : List ℕ) (k x y : ℕ) → Further vs us sh b p bound high f j k → Done ws vs sh b p bound high f j x → y ≡ x + (k - j) → Done ws us sh b p bound high f k y
   unfolding Further
   further-by us ws k x y g d e = rw e (g ws x d)
 
 -- ---- a page
 
-module _ (ws : List ℕ) (sh : Shape) (b life e p l : ℕ) (el : l ≡ load ws sh (entry (e + p) entryFrame)) where
+module _ (ws : List ℕ) (sh : Shape) (b bound e p l : ℕ) (el : l ≡ load ws sh (entry (e + p) entryFrame)) where
   -- what stands on the link, in both definitions
   test : ℕ → Bool
-  test k = onFrame k (λ f. ltb f (sh .frames) && frameB (load ws sh) sh b p life (load ws sh (entry (e + p) entryHigh)) f (slotsOf till p) (load ws sh (entry (e + p) entryBusy)))
+  test k = onFrame k (λ f. ltb f (sh .frames) && frameB (load ws sh) sh b p bound (load ws sh (entry (e + p) entryHigh)) f (slotsOf till p) (load ws sh (entry (e + p) entryBusy)))
 
   list : ℕ → List ℕ
-  list k = onLink k (λ f. pick (ltb f (sh .frames)) (frameFound (load ws sh) sh b p life (load ws sh (entry (e + p) entryHigh)) f (slotsOf till p)) [])
+  list k = onLink k (λ f. pick (ltb f (sh .frames)) (frameFound (load ws sh) sh b p bound (load ws sh (entry (e + p) entryHigh)) f (slotsOf till p)) [])
 
-  by-test : (r : Bool) → r ≡ test l → r ≡ pageB (load ws sh) sh b life e p
+  by-test : (r : Bool) → r ≡ test l → r ≡ pageB (load ws sh) sh b bound e p
   unfolding pageB test
   by-test r q = q ∙ ap test el
 
-  by-list : (vs : List ℕ) → vs ≡ shifted ws sh unit (list l) → vs ≡ shifted ws sh unit (pageFound (load ws sh) sh b life e p)
+  by-list : (vs : List ℕ) → vs ≡ shifted ws sh unit (list l) → vs ≡ shifted ws sh unit (pageFound (load ws sh) sh b bound e p)
   unfolding pageFound list
   by-list vs q = q ∙ ap (λ (k : ℕ). shifted ws sh unit (list k)) el
 
-  pub page-none : l ≡ 0 → (ws ≡ shifted ws sh unit (pageFound (load ws sh) sh b life e p)) × (true ≡ pageB (load ws sh) sh b life e p)
+  pub page-none : l ≡ 0 → (ws ≡ shifted ws sh unit (pageFound (load ws sh) sh b bound e p)) × (true ≡ pageB (load ws sh) sh b bound e p)
   unfolding test list
   page-none z = (by-list ws (ap (λ (k : ℕ). shifted ws sh unit (list k)) (sym z)), by-test true (ap test (sym z)))
 
   link-is : (l ≡ 0 → ⊥) → l ≡ suc (l - 1)
   link-is h = omega (arith, h)
 
-  pub page-far : (l ≡ 0 → ⊥) → sh .frames ≤ l - 1 → (ws ≡ shifted ws sh unit (pageFound (load ws sh) sh b life e p)) × (false ≡ pageB (load ws sh) sh b life e p)
+  pub page-far : (l ≡ 0 → ⊥) → sh .frames ≤ l - 1 → (ws ≡ shifted ws sh unit (pageFound (load ws sh) sh b bound e p)) × (false ≡ pageB (load ws sh) sh b bound e p)
   unfolding test list
   page-far h k = let g = le-ltb (l - 1) (sh .frames) k in
       (by-list ws (rw (link-is h, g)), by-test false (rw (link-is h, g)))
 
-  listed : (f : ℕ) → f < sh .frames → shifted ws sh unit (frameFound (load ws sh) sh b p life (load ws sh (entry (e + p) entryHigh)) f (slotsOf till p)) ≡ shifted ws sh unit (list (suc f))
+  listed : (f : ℕ) → f < sh .frames → shifted ws sh unit (frameFound (load ws sh) sh b p bound (load ws sh (entry (e + p) entryHigh)) f (slotsOf till p)) ≡ shifted ws sh unit (list (suc f))
   unfolding list
   listed f i = rw (lt-ltb f (sh .frames) i)
 
-  tested : (f : ℕ) → f < sh .frames → frameB (load ws sh) sh b p life (load ws sh (entry (e + p) entryHigh)) f (slotsOf till p) (load ws sh (entry (e + p) entryBusy)) ≡ test (suc f)
+  tested : (f : ℕ) → f < sh .frames → frameB (load ws sh) sh b p bound (load ws sh (entry (e + p) entryHigh)) f (slotsOf till p) (load ws sh (entry (e + p) entryBusy)) ≡ test (suc f)
   unfolding test
   tested f i = rw (lt-ltb f (sh .frames) i)
 
   pub page-some : (high busy n : ℕ) (vs : List ℕ) (r : Bool) → (l ≡ 0 → ⊥) → l - 1 < sh .frames → high ≡ load ws sh (entry (e + p) entryHigh) → busy ≡ load ws sh (entry (e + p) entryBusy) → n ≡ slotsOf till p
-      → vs ≡ shifted ws sh unit (frameFound (load ws sh) sh b p life high (l - 1) n) → r ≡ frameB (load ws sh) sh b p life high (l - 1) n busy
-      → (vs ≡ shifted ws sh unit (pageFound (load ws sh) sh b life e p)) × (r ≡ pageB (load ws sh) sh b life e p)
+      → vs ≡ shifted ws sh unit (frameFound (load ws sh) sh b p bound high (l - 1) n) → r ≡ frameB (load ws sh) sh b p bound high (l - 1) n busy
+      → (vs ≡ shifted ws sh unit (pageFound (load ws sh) sh b bound e p)) × (r ≡ pageB (load ws sh) sh b bound e p)
   page-some high busy n vs r h k eh eb en q t = (
     by-list vs (q ∙ rw (eh, en) (listed (l - 1) k) ∙ ap (λ (i : ℕ). shifted ws sh unit (list i)) (sym (link-is h))),
     by-test r (t ∙ rw (eh, eb, en) (tested (l - 1) k) ∙ ap test (sym (link-is h))),
@@ -220,16 +215,20 @@ module _ (sh : Shape) (d : ℕ) (P : Mem → ℕ → Bool) (same : (m n : Mem) �
   pub test-end : (ws : List ℕ) (k n : ℕ) (ok : Bool) → ok ≡ all k (P (load ws sh)) → k ≡ n → ok ≡ all n (P (load ws sh))
   test-end ws k n ok a e = a ∙ ap (λ (i : ℕ). all i (P (load ws sh))) e
 
-pub table-by : (m : Mem) (sh : Shape) (b life z e n : ℕ) (ok : Bool) → life ≡ m (head b headLifecycle) → z ≡ m (head b headPages) → e ≡ m (head b headFirstEntry) → n ≡ min z (sh .pages)
-    → ok ≡ all n (pageB m sh b life e) → ok ≡ tableB m sh b
+pub table-by : (m : Mem) (sh : Shape) (u b life z e k n : ℕ) (ok : Bool) → life ≡ m (head b headLifecycle) → z ≡ m (head b headPages) → e ≡ m (head b headFirstEntry) → k ≡ boundOf u life → n ≡ min z (sh .pages)
+    → ok ≡ all n (pageB m sh b k e) → ok ≡ tableB m sh u b
 unfolding tableB
-table-by m sh b life z e n ok el ez ee en q = q ∙ rw (en, el, ez, ee)
+table-by m sh u b life z e k n ok el ez ee ek en q = q ∙ rw (en, ek, el, ez, ee)
 
-pub survey-by : (m : Mem) (sh : Shape) (ok : Bool) → ok ≡ all (sh .tables) (tableB m sh) → ok ≡ surveyB m sh
+-- a table's bound is one of the state's
+pub bound-few : (u life k n : ℕ) → k ≡ boundOf u life → u ≤ n → k ≤ n
+bound-few u life k n e h = rw e (pick-has (λ (x : ℕ). x ≤ n) (eqb life 2) 0 u (λ q. omega arith) (λ q. h))
+
+pub survey-by : (m : Mem) (sh : Shape) (u : ℕ) (ok : Bool) → ok ≡ all (sh .tables) (tableB m sh u) → ok ≡ surveyB m sh u
 unfolding surveyB
-survey-by m sh ok q = q
+survey-by m sh u ok q = q
 
-pub found-by : (ws : List ℕ) (sh : Shape) (b life z e n : ℕ) (vs : List ℕ) → life ≡ load ws sh (head b headLifecycle) → z ≡ load ws sh (head b headPages) → e ≡ load ws sh (head b headFirstEntry) → n ≡ min z (sh .pages)
-    → vs ≡ shifted ws sh unit (gather n (pageFound (load ws sh) sh b life e)) → vs ≡ shifted ws sh unit (tableFound (load ws sh) sh b)
+pub found-by : (ws : List ℕ) (sh : Shape) (u b life z e k n : ℕ) (vs : List ℕ) → life ≡ load ws sh (head b headLifecycle) → z ≡ load ws sh (head b headPages) → e ≡ load ws sh (head b headFirstEntry) → k ≡ boundOf u life → n ≡ min z (sh .pages)
+    → vs ≡ shifted ws sh unit (gather n (pageFound (load ws sh) sh b k e)) → vs ≡ shifted ws sh unit (tableFound (load ws sh) sh u b)
 unfolding tableFound
-found-by ws sh b life z e n vs el ez ee en q = q ∙ rw (en, el, ez, ee)
+found-by ws sh u b life z e k n vs el ez ee ek en q = q ∙ rw (en, ek, el, ez, ee)

@@ -25,17 +25,17 @@ use Rattle.counts.specs.Found.{gather, isOccupied, onLink, inCell, OffObjects, 
 abbrev pub markedB : Mem → Shape → ℕ → ℕ → CellWords → Bool
 markedB m sh b k c = pick (isMark (c .tag)) (markB m sh b k (c .tag) (c .object) (c .rights)) true
 
--- slot k of table b by its words
+-- slot k of table b by its words: its handle is of an object below a bound
 unfoldable pub cellB : Mem → Shape → ℕ → ℕ → ℕ → ℕ → CellWords → Bool
-cellB m sh b k life high c = slotC (boundOf (sh .objects) life) high c && markedB m sh b k c
+cellB m sh b k bound high c = slotC bound high c && markedB m sh b k c
 
 -- slot j of page p of table b, in frame f
 abbrev pub slotAt : Mem → Shape → ℕ → ℕ → ℕ → ℕ → ℕ → ℕ → Bool
-slotAt m sh b p life high f j = cellB m sh b (p * pageSize + j) life high (cellAt m f j)
+slotAt m sh b p bound high f j = cellB m sh b (p * pageSize + j) bound high (cellAt m f j)
 
 -- the first n of them, of which w are busy
 unfoldable pub frameB : Mem → Shape → ℕ → ℕ → ℕ → ℕ → ℕ → ℕ → ℕ → Bool
-frameB m sh b p life high f n w = all n (slotAt m sh b p life high f) && eqb (busyCells m f n) w
+frameB m sh b p bound high f n w = all n (slotAt m sh b p bound high f) && eqb (busyCells m f n) w
 
 -- a frame that is given as a link: none, or one of the state's
 abbrev pub onFrame : ℕ → (ℕ → Bool) → Bool
@@ -44,15 +44,15 @@ onFrame (suc f) t = t f
 
 -- page p of table b, whose first entry is e
 unfoldable pub pageB : Mem → Shape → ℕ → ℕ → ℕ → ℕ → Bool
-pageB m sh b life e p = onFrame (m (entry (e + p) entryFrame)) (λ f. ltb f (sh .frames) && frameB m sh b p life (m (entry (e + p) entryHigh)) f (slotsOf till p) (m (entry (e + p) entryBusy)))
+pageB m sh b bound e p = onFrame (m (entry (e + p) entryFrame)) (λ f. ltb f (sh .frames) && frameB m sh b p bound (m (entry (e + p) entryHigh)) f (slotsOf till p) (m (entry (e + p) entryBusy)))
 
--- the pages that table b has had; there are no more than the state has entries
-unfoldable pub tableB : Mem → Shape → ℕ → Bool
-tableB m sh b = all (min (m (head b headPages)) (sh .pages)) (pageB m sh b (m (head b headLifecycle)) (m (head b headFirstEntry)))
+-- the pages that table b has had, whose handles are of the first u objects; there are no more than the state has entries
+unfoldable pub tableB : Mem → Shape → ℕ → ℕ → Bool
+tableB m sh u b = all (min (m (head b headPages)) (sh .pages)) (pageB m sh b (boundOf u (m (head b headLifecycle))) (m (head b headFirstEntry)))
 
 -- ALL SLOTS
-unfoldable pub surveyB : Mem → Shape → Bool
-surveyB m sh = all (sh .tables) (tableB m sh)
+unfoldable pub surveyB : Mem → Shape → ℕ → Bool
+surveyB m sh u = all (sh .tables) (tableB m sh u)
 
 -- ---- the handles that are counted: of each page those before the first slot that fails
 
@@ -78,13 +78,13 @@ passed-stop (suc n) P j h e d = rw (all-stop (suc n) P j h d) (bool (eqb j n)
     (λ q. passed-stop n P j (omega (arith, eqb-false j n q)) e d))
 
 unfoldable pub frameFound : Mem → Shape → ℕ → ℕ → ℕ → ℕ → ℕ → ℕ → List ℕ
-frameFound m sh b p life high f n = gather (passed n (slotAt m sh b p life high f)) (inCell m f)
+frameFound m sh b p bound high f n = gather (passed n (slotAt m sh b p bound high f)) (inCell m f)
 
 unfoldable pub pageFound : Mem → Shape → ℕ → ℕ → ℕ → ℕ → List ℕ
-pageFound m sh b life e p = onLink (m (entry (e + p) entryFrame)) (λ f. pick (ltb f (sh .frames)) (frameFound m sh b p life (m (entry (e + p) entryHigh)) f (slotsOf till p)) [])
+pageFound m sh b bound e p = onLink (m (entry (e + p) entryFrame)) (λ f. pick (ltb f (sh .frames)) (frameFound m sh b p bound (m (entry (e + p) entryHigh)) f (slotsOf till p)) [])
 
-unfoldable pub tableFound : Mem → Shape → ℕ → List ℕ
-tableFound m sh b = gather (min (m (head b headPages)) (sh .pages)) (pageFound m sh b (m (head b headLifecycle)) (m (head b headFirstEntry)))
+unfoldable pub tableFound : Mem → Shape → ℕ → ℕ → List ℕ
+tableFound m sh u b = gather (min (m (head b headPages)) (sh .pages)) (pageFound m sh b (boundOf u (m (head b headLifecycle))) (m (head b headFirstEntry)))
 
 -- ---- the walk does not look at objects
 
@@ -93,22 +93,22 @@ module _ (m n : Mem) (h : OffObjects m n) where
   cell-same f j = ap (λ (u : Mem). cellAt u f j) (hide-same m n h)
 
   module _ (sh : Shape) (b : ℕ) where
-    pub test-same : (k life high : ℕ) (c : CellWords) → cellB n sh b k life high c ≡ cellB m sh b k life high c
+    pub test-same : (k bound high : ℕ) (c : CellWords) → cellB n sh b k bound high c ≡ cellB m sh b k bound high c
     unfolding cellB markB hitB
-    test-same k life high c = ap (λ (u : Mem). cellB u sh b k life high c) (hide-same m n h)
+    test-same k bound high c = ap (λ (u : Mem). cellB u sh b k bound high c) (hide-same m n h)
 
-    pub page-same : (life e p : ℕ) → pageB n sh b life e p ≡ pageB m sh b life e p
+    pub page-same : (bound e p : ℕ) → pageB n sh b bound e p ≡ pageB m sh b bound e p
     unfolding pageB frameB cellB markB hitB
-    page-same life e p = ap (λ (u : Mem). pageB u sh b life e p) (hide-same m n h)
+    page-same bound e p = ap (λ (u : Mem). pageB u sh b bound e p) (hide-same m n h)
 
-    pub table-same : tableB n sh b ≡ tableB m sh b
+    pub table-same : (u : ℕ) → tableB n sh u b ≡ tableB m sh u b
     unfolding tableB pageB frameB cellB markB hitB
-    table-same = ap (λ (u : Mem). tableB u sh b) (hide-same m n h)
+    table-same u = ap (λ (w : Mem). tableB w sh u b) (hide-same m n h)
 
-    pub page-found-same : (life e p : ℕ) → pageFound n sh b life e p ≡ pageFound m sh b life e p
+    pub page-found-same : (bound e p : ℕ) → pageFound n sh b bound e p ≡ pageFound m sh b bound e p
     unfolding pageFound frameFound cellB markB hitB
-    page-found-same life e p = ap (λ (u : Mem). pageFound u sh b life e p) (hide-same m n h)
+    page-found-same bound e p = ap (λ (u : Mem). pageFound u sh b bound e p) (hide-same m n h)
 
-    pub table-found-same : tableFound n sh b ≡ tableFound m sh b
+    pub table-found-same : (u : ℕ) → tableFound n sh u b ≡ tableFound m sh u b
     unfolding tableFound pageFound frameFound cellB markB hitB
-    table-found-same = ap (λ (u : Mem). tableFound u sh b) (hide-same m n h)
+    table-found-same u = ap (λ (w : Mem). tableFound w sh u b) (hide-same m n h)

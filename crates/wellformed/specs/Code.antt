@@ -2,26 +2,32 @@
 use mathlib.Core.Path.{_≡_, refl, sym, ap, _∙_}
 use mathlib.Core.Bool.{Bool, true, false, _&&_, and-false}
 use mathlib.Core.List.{List, _++_}
-use Prim.Native.Nat.{ℕ, _≤_, _<_}
+use Prim.Native.Nat.{ℕ, _+_, _≤_, _<_}
 use native.Mathlib.Omega.{arith}
 use lib.ListN.{length}
-use borrow.Author.Tests.{lt-leb}
-use Rattle.words.specs.Pick.{bool, both}
+use lib.Dec.{eqb, ltb}
+use borrow.Author.Tests.{lt-leb, eqb-true, eqb-false, ltb-true, ltb-false}
+use Rattle.words.specs.Pick.{bool, clash, both}
 use Rattle.words.specs.All.{all}
+use Rattle.model.specs.Base.{occurs}
+use Rattle.model.specs.Counting.{occurs-append}
 use Rattle.layout.specs.declared.Shape.{Shape}
 use Rattle.layout.specs.Layout.{Mem, total, load}
 use Rattle.structure.specs.Checks.{outlineB}
 use Rattle.structure.specs.Split.{slotsIn, structure-split}
 use Rattle.orders.specs.Check.{ordersB}
 use Rattle.ledger.specs.Ledger.{marksB, bookB, ledger-split}
-use Rattle.counts.specs.Found.{gather, inBook, found}
-use Rattle.counts.specs.Shift.{unit, shifted}
+use Rattle.counts.specs.declared.ObjectsRead.{ObjectsRead}
+use Rattle.counts.specs.declared.ObjectsRead.the-variants.{Bad, Used}
+use Rattle.counts.specs.Found.{gather, inTable, inBook, found, handles, countsB, book-same}
+use Rattle.counts.specs.Shift.{unit, shifted, shifted-off}
 use Rattle.counts.specs.Objects.{objectsB}
-use Rattle.counts.specs.Halves.{Low, halvesB, settledW, objects-low, settled-kept, halves-counts}
-use Rattle.counts.specs.Code.{countsIn, rows-by}
-use Rattle.counts.specs.Decide.{counts-in}
+use Rattle.counts.specs.Used.{usedTo, used-few, used-none, readIf, objectsRead, topOf, top-least, top-most, top-has}
+use Rattle.counts.specs.Halves.{Low, Within, halvesTo, lowered, objects-low, settled-kept, halves-few, halves-counts}
+use Rattle.counts.specs.Code.{Noted, countsIn, rows-by}
+use Rattle.counts.specs.Decide.{counts-sound, counts-in}
 use Rattle.survey.specs.Walk.{surveyB, tableFound}
-use Rattle.survey.specs.Whole.{survey-whole, survey-found}
+use Rattle.survey.specs.Whole.{survey-whole, survey-found, survey-among, survey-other}
 use Rattle.wellformed.specs.Whole.{partsB, wellB}
 
 -- the parts that write nothing, in the order in which they are tried
@@ -54,11 +60,28 @@ module _ (m : Mem) (sh : Shape) (a : Bool) (ea : a ≡ outlineB m sh) where
           (and-next (ordersB m sh) (bookB m sh && objectsB m sh) b false eb yb
           (and-stop (bookB m sh) (objectsB m sh) c ec d))
 
-      pub quiet-all : (r : Bool) → c ≡ true → r ≡ objectsB m sh → r ≡ quietB m sh
+      quiet-last : c ≡ true → objectsB m sh ≡ quietB m sh
       unfolding quietB
-      quiet-all r yc q = and-next (outlineB m sh) (ordersB m sh && (bookB m sh && objectsB m sh)) a r ea ya
-          (and-next (ordersB m sh) (bookB m sh && objectsB m sh) b r eb yb
-          (and-next (bookB m sh) (objectsB m sh) c r ec yc q))
+      quiet-last yc = and-next (outlineB m sh) (ordersB m sh && (bookB m sh && objectsB m sh)) a (objectsB m sh) ea ya
+          (and-next (ordersB m sh) (bookB m sh && objectsB m sh) b (objectsB m sh) eb yb
+          (and-next (bookB m sh) (objectsB m sh) c (objectsB m sh) ec yc refl))
+
+      pub quiet-all : (r : ObjectsRead) → c ≡ true → r ≡ objectsRead m sh → r ≡ readIf (quietB m sh) (usedTo m (sh .objects))
+      unfolding objectsRead
+      quiet-all r yc q = q ∙ ap (λ (x : Bool). readIf x (usedTo m (sh .objects))) (quiet-last yc)
+
+-- a part that fails
+pub read-no : (b : Bool) (n : ℕ) → false ≡ b → Bad ≡ readIf b n
+read-no b n e = ap (λ (x : Bool). readIf x n) e
+
+-- what an answer tells
+read-bad : (b : Bool) (n : ℕ) → readIf b n ≡ Bad → b ≡ false
+read-bad true n e = let y : _≡_ {A = ℕ} 0 1 = cc in absurd (omega arith)
+read-bad false n e = refl
+
+pub read-used : (b : Bool) (n k : ℕ) (x : ObjectsRead) → x ≡ readIf b n → x ≡ Used k → (b ≡ true) × (k ≡ n)
+read-used true n k x p q = let e : Used n ≡ Used k = sym p ∙ q in (refl, cc)
+read-used false n k x p q = let e : Bad ≡ Used k = sym p ∙ q in let y : _≡_ {A = ℕ} 0 1 = cc in absurd (omega arith)
 
 -- the parts are these, the slots and the marks
 parts-order : (a s o b k j : Bool) → ((a && s) && (o && ((b && k) && j))) ≡ ((a && (o && (b && j))) && (s && k))
@@ -95,47 +118,91 @@ module _ (ws : List ℕ) (sh : Shape) where
   unfolding wellB countsIn
   too-short n t a b h = rw (lt-leb (total sh) (length ws) (omega arith)) (sym (and-false (partsB (load ws sh) sh)))
 
-  module _ (a : Bool) (ea : a ≡ quietB (load ws sh) sh) where
-    pub no-parts : a ≡ false → false ≡ wellB ws sh
-    unfolding wellB
-    no-parts d = rw (parts-split (load ws sh) sh, sym ea ∙ d)
+  pub no-parts : (x : ObjectsRead) → x ≡ readIf (quietB (load ws sh) sh) (usedTo (load ws sh) (sh .objects)) → x ≡ Bad → false ≡ wellB ws sh
+  unfolding wellB
+  no-parts x e d = rw (parts-split (load ws sh) sh, read-bad (quietB (load ws sh) sh) (usedTo (load ws sh) (sh .objects)) (sym e ∙ d))
 
-    module _ (y : a ≡ true) (vs us : List ℕ) (ev : vs ≡ shifted ws sh unit (gather (sh .tables) (tableFound (load ws sh) sh))) (eu : us ≡ shifted vs sh unit (inBook (load vs sh) sh)) where
-      quiet : quietB (load ws sh) sh ≡ true
-      quiet = sym ea ∙ y
+  -- `check_handles`
+  module _ (quiet : quietB (load ws sh) sh ≡ true) (u : ℕ) (eu : u ≡ usedTo (load ws sh) (sh .objects)) (vs us : List ℕ) (t : ℕ) (ev : vs ≡ shifted ws sh unit (gather (sh .tables) (tableFound (load ws sh) sh u)))
+      (en : Noted vs us sh u t (inBook (load vs sh) sh)) where
+    low : Low ws sh
+    low = objects-low ws sh (quiet-objects (load ws sh) sh quiet)
 
-      low : Low ws sh
-      low = objects-low ws sh (quiet-objects (load ws sh) sh quiet)
+    -- the handles that were counted, those of the slots first
+    slots : List ℕ
+    slots = gather (sh .tables) (tableFound (load ws sh) sh u)
 
-      -- the handles that were counted
-      counted : List ℕ
-      counted = gather (sh .tables) (tableFound (load ws sh) sh) ++ inBook (load ws sh) sh
+    all-counted : us ≡ shifted ws sh unit (slots ++ inBook (load ws sh) sh)
+    unfolding slots
+    all-counted = rows-by ws vs us sh unit (gather (sh .tables) (tableFound (load ws sh) sh u)) ev (en .0)
 
-      all-counted : us ≡ shifted ws sh unit counted
-      unfolding counted
-      all-counted = rows-by ws vs us sh unit (gather (sh .tables) (tableFound (load ws sh) sh)) ev eu
+    -- how far their objects reach
+    top-is : t ≡ topOf (sh .objects) u (inBook (load ws sh) sh)
+    top-is = en .1 ∙ ap (λ (os : List ℕ). topOf (sh .objects) u os)
+        (ap (λ (w : List ℕ). inBook (load w sh) sh) ev ∙ book-same (load ws sh) (load (shifted ws sh unit os) sh) (shifted-off ws sh unit os) sh)
+      where
+        os : List ℕ
+        os = gather (sh .tables) (tableFound (load ws sh) sh u)
 
-      -- every word is as it was
-      pub check-kept : (ts : List ℕ) → ts ≡ settledW us sh → ts ≡ ws
-      check-kept ts et = et ∙ ap (λ (w : List ℕ). settledW w sh) all-counted ∙ settled-kept ws sh counted low
+    used-in : u ≤ sh .objects
+    used-in = rw eu (used-few (load ws sh) (sh .objects))
 
-      -- and the answer is right: where a slot fails it is no, else every handle was counted
-      pub check-answer : (n t : ℕ) (s c r : Bool) → n ≡ length ws → t ≡ total sh → t ≤ n → sh .tables < 256 → sh .rows < 65536
-          → s ≡ surveyB (load ws sh) sh → c ≡ halvesB (load us sh) sh → r ≡ (s && c) → r ≡ wellB ws sh
-      unfolding wellB counted
-      check-answer n t s c r en et h l k es ec er = er ∙ bool (surveyB (load ws sh) sh)
-          (λ v. let room : total sh ≤ length ws = omega arith in
-          let q : us ≡ shifted ws sh unit (found (load ws sh) sh) = all-counted ∙ ap (λ (os : List ℕ). shifted ws sh unit (os ++ inBook (load ws sh) sh)) (survey-found (load ws sh) sh v) in
-          let d : c ≡ countsIn ws sh = ec ∙ ap (λ (w : List ℕ). halvesB (load w sh) sh) q ∙ halves-counts ws sh room low l k ∙ sym (counts-in ws sh room) in
-          rw (es, d, parts))
-          (λ v. rw (es, parts, v))
-        where
-          parts : partsB (load ws sh) sh ≡ surveyB (load ws sh) sh
-          parts = parts-split (load ws sh) sh ∙ rw quiet (survey-whole (load ws sh) sh (quiet-outline (load ws sh) sh quiet))
+    used-below : u ≤ t
+    used-below = rw top-is (top-least (sh .objects) u (inBook (load ws sh) sh))
 
--- the answer's two branches
-pub and-yes : (s c : Bool) → s ≡ true → c ≡ (s && c)
-and-yes s c e = rw e
+    pub top-in : t ≤ sh .objects
+    top-in = rw top-is (top-most (sh .objects) u (inBook (load ws sh) sh) used-in)
 
-pub and-no : (s c : Bool) → s ≡ false → s ≡ (s && c)
-and-no s c e = rw e
+    within : Within sh t (slots ++ inBook (load ws sh) sh)
+    unfolding slots
+    within o l h = bool (eqb (occurs o (inBook (load ws sh) sh)) 0)
+        (λ e. omega (
+          arith,
+          used-below,
+          survey-among (load ws sh) sh u o (omega (arith, h, occurs-append o (gather (sh .tables) (tableFound (load ws sh) sh u)) (inBook (load ws sh) sh), eqb-true (occurs o (inBook (load ws sh) sh)) 0 e)),
+        ))
+        (λ e. rw top-is (top-has (sh .objects) u (inBook (load ws sh) sh) o (omega (arith, eqb-false (occurs o (inBook (load ws sh) sh)) 0 e)) l))
+
+    -- every word is as it was
+    pub check-kept : (ts : List ℕ) → ts ≡ lowered us sh t → ts ≡ ws
+    check-kept ts et = et ∙ ap (λ (w : List ℕ). lowered w sh t) all-counted ∙ settled-kept ws sh (slots ++ inBook (load ws sh) sh) t low within
+
+    -- the parts are the slots' test for all objects
+    parts : partsB (load ws sh) sh ≡ surveyB (load ws sh) sh (sh .objects)
+    parts = parts-split (load ws sh) sh ∙ rw quiet (survey-whole (load ws sh) sh (quiet-outline (load ws sh) sh quiet))
+
+    module _ (room : total sh ≤ length ws) where
+      -- the slots pass for the used objects: then for all, every handle was counted, and the objects beyond have none
+      slots-pass : sh .tables < 256 → sh .rows < 65536 → surveyB (load ws sh) sh u ≡ true → halvesTo (load us sh) t ≡ wellB ws sh
+      unfolding wellB slots
+      slots-pass l k y =
+          let all-objects : surveyB (load ws sh) sh (sh .objects) ≡ true = survey-other (load ws sh) sh u (sh .objects) y (λ o h i. omega (arith, i, used-in)) in
+          let e : us ≡ shifted ws sh unit (slots ++ inBook (load ws sh) sh) = all-counted in
+          let f : slots ++ inBook (load ws sh) sh ≡ found (load ws sh) sh = ap (λ (os : List ℕ). os ++ inBook (load ws sh) sh) (survey-found (load ws sh) sh u y) in
+          ap (λ (w : List ℕ). halvesTo (load w sh) t) e
+          ∙ halves-few ws sh (slots ++ inBook (load ws sh) sh) t top-in within (λ o h i. used-none (load ws sh) (sh .objects) o (omega (arith, sym eu, used-below, h)) i)
+          ∙ ap (λ (os : List ℕ). halvesTo (load (shifted ws sh unit os) sh) (sh .objects)) f
+          ∙ halves-counts ws sh room low l k
+          ∙ sym (counts-in ws sh room)
+          ∙ sym (rw (parts, all-objects))
+
+      -- they do where the state is well formed: an object that a slot has a handle of has a count
+      slots-right : wellB ws sh ≡ true → surveyB (load ws sh) sh u ≡ true
+      unfolding wellB handles
+      slots-right y =
+          let a = both (partsB (load ws sh) sh) (countsIn ws sh) y in
+          let c : countsB (load ws sh) sh ≡ true = sym (counts-in ws sh room) ∙ a .1 in
+          survey-other (load ws sh) sh (sh .objects) u (sym parts ∙ a .0)
+          (λ o h l. bool (ltb o u) (λ e. ltb-true o u e) (λ e. absurd (omega (
+            arith,
+            h,
+            used-none (load ws sh) (sh .objects) o (omega (arith, sym eu, ltb-false o u e)) l,
+            counts-sound (load ws sh) sh c o l,
+            occurs-append o (gather (sh .tables) (inTable (load ws sh) sh)) (inBook (load ws sh) sh),
+          ))))
+
+      -- and the answer is right
+      pub check-answer : (s c r : Bool) → sh .tables < 256 → sh .rows < 65536 → s ≡ surveyB (load ws sh) sh u → c ≡ halvesTo (load us sh) t → r ≡ (s && c) → r ≡ wellB ws sh
+      check-answer s c r l k es ec er = er ∙ bool (surveyB (load ws sh) sh u)
+          (λ y. rw (es ∙ y) (ec ∙ slots-pass l k y))
+          (λ y. rw (es ∙ y) (bool (wellB ws sh) (λ d. clash (slots-right d) y) (λ d. sym d)))
