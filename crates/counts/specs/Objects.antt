@@ -8,7 +8,7 @@ use lib.ListN.{getD}
 use lib.Dec.{eqb, leb}
 use borrow.Author.Tests.{eq-eqb, ne-eqb, eqb-true, eqb-false, le-leb, leb-true}
 use Rattle.words.specs.Pick.{bool, clash, both}
-use Rattle.words.specs.All.{all, all-at, all-yes, all-more, all-stop, all-end}
+use Rattle.words.specs.All.{all, all-at, all-yes, all-more, all-stop}
 use Rattle.model.specs.Base.{bit}
 use Rattle.model.specs.State.{till, Class, Class.leaf, Class.rendezvousOnly, Class.never, Stage, Stage.stillNew, Stage.nowActive, Stage.nowRetired, Object, State, maxLimit}
 use Rattle.model.specs.Create.{classOf}
@@ -245,7 +245,3 @@ module _ (m : Mem) (sh : Shape) where
 
   pub objects-more : (o : ℕ) (t : Bool) → all o (objectB m) ≡ true → t ≡ objectB m o → t ≡ true → all (o + 1) (objectB m) ≡ true
   objects-more o t h e d = all-more o (objectB m) h (sym e ∙ d)
-
-  pub objects-end : (o : ℕ) → all o (objectB m) ≡ true → sh .objects ≤ o → true ≡ objectsB m sh
-  unfolding objectsB
-  objects-end o h l = sym (all-end (sh .objects) o (objectB m) h l)

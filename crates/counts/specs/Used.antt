@@ -1,53 +1,84 @@
 -- How many objects, the first ones, may have a handle counted: those up to the last that has a count, and up to the last that a row has a handle of. Assumes nothing.
 use mathlib.Core.Path.{_≡_, refl, sym, ap, _∙_}
-use mathlib.Core.Bool.{Bool, true, false}
+use mathlib.Core.Bool.{Bool, true, false, _&&_}
 use mathlib.Core.List.{List, [], _∷_, _++_}
-use Prim.Native.Nat.{ℕ, zero, suc, _+_, _*_, _≤_, _<_}
+use Prim.Native.Nat.{ℕ, zero, suc, _+_, _-_, _≤_, _<_}
 use native.Mathlib.Omega.{arith}
 use native.Mathlib.Numerals.{add-one}
-use lib.ListN.{getD}
 use lib.Dec.{eqb, ltb}
-use borrow.Author.Tests.{eqb-true, eqb-false, lt-ltb, le-ltb, ltb-true, ltb-false}
-use Rattle.words.specs.Pick.{pick, pick-has, bool}
-use Rattle.words.specs.All.{all}
+use borrow.Author.Tests.{ne-eqb, eqb-true, eqb-false, lt-ltb, le-ltb, ltb-true, ltb-false}
+use Rattle.words.specs.Pick.{pick, pick-has, bool, both}
+use Rattle.words.specs.All.{all, all-at, all-yes}
 use Rattle.model.specs.Base.{occurs}
 use Rattle.model.specs.Counting.{occurs-append}
 use Rattle.layout.specs.declared.Shape.{Shape}
-use Rattle.layout.specs.Layout.{Mem, objectsAt, object, load}
+use Rattle.layout.specs.Layout.{Mem, object}
 use Rattle.layout.specs.Fields.{objectActive}
 use Rattle.counts.specs.declared.ObjectsRead.{ObjectsRead}
 use Rattle.counts.specs.declared.ObjectsRead.the-variants.{Bad, Used}
 use Rattle.counts.specs.Found.{gather}
-use Rattle.counts.specs.Shift.{object-load}
-use Rattle.counts.specs.Objects.{objectB, objectsB, objects-stop, objects-end}
+use Rattle.counts.specs.Objects.{objectB, objectsB, objects-stop}
 
 -- ---- those that have a count
 
--- of the first n objects, up to the last that has one
+-- an object that has none, with fields in range
+unfoldable pub idleB : Mem → ℕ → Bool
+idleB m o = eqb (m (object o objectActive)) 0 && objectB m o
+
+-- of the first n objects, up to the last that is not such a one
 unfoldable pub usedTo : Mem → ℕ → ℕ
 usedTo m zero = zero
-usedTo m (suc n) = pick (eqb (m (object n objectActive)) 0) (usedTo m n) (suc n)
+usedTo m (suc n) = pick (idleB m n) (usedTo m n) (suc n)
 
 module _ (m : Mem) where
-  pub used-nil : 0 ≡ usedTo m 0
-  unfolding usedTo
-  used-nil = refl
-
   pub used-few : (n : ℕ) → usedTo m n ≤ n
   unfolding usedTo
   used-few zero = omega arith
-  used-few (suc n) = pick-has (λ (u : ℕ). u ≤ suc n) (eqb (m (object n objectActive)) 0) (usedTo m n) (suc n) (λ e. omega (arith, used-few n)) (λ e. omega arith)
+  used-few (suc n) = pick-has (λ (u : ℕ). u ≤ suc n) (idleB m n) (usedTo m n) (suc n) (λ e. omega (arith, used-few n)) (λ e. omega arith)
 
-  -- the others have none
-  pub used-none : (n o : ℕ) → usedTo m n ≤ o → o < n → m (object o objectActive) ≡ 0
+  -- the others are
+  used-rest : (n o : ℕ) → usedTo m n ≤ o → o < n → idleB m o ≡ true
   unfolding usedTo
-  used-none zero o h l = absurd (omega arith)
-  used-none (suc n) o h l = bool (eqb (m (object n objectActive)) 0)
-      (λ e. let k : usedTo m n ≤ o = rw e at h in
-      bool (eqb o n)
-      (λ q. rw (eqb-true o n q) (eqb-true (m (object n objectActive)) 0 e))
-      (λ q. used-none n o k (omega (arith, eqb-false o n q))))
+  used-rest zero o h l = absurd (omega arith)
+  used-rest (suc n) o h l = bool (idleB m n)
+      (λ e. let k : usedTo m n ≤ o = rw e at h in bool (eqb o n) (λ q. rw (eqb-true o n q) e) (λ q. used-rest n o k (omega (arith, eqb-false o n q))))
       (λ e. let k : suc n ≤ o = rw e at h in absurd (omega arith))
+
+  pub used-none : (n o : ℕ) → usedTo m n ≤ o → o < n → m (object o objectActive) ≡ 0
+  unfolding idleB
+  used-none n o h l = eqb-true (m (object o objectActive)) 0 (both (eqb (m (object o objectActive)) 0) (objectB m o) (used-rest n o h l) .0)
+
+  used-fits : (n o : ℕ) → usedTo m n ≤ o → o < n → objectB m o ≡ true
+  unfolding idleB
+  used-fits n o h l = both (eqb (m (object o objectActive)) 0) (objectB m o) (used-rest n o h l) .1
+
+  -- `idle_ok`
+  pub idle-no : (o c : ℕ) → c ≡ m (object o objectActive) → (c ≡ 0 → ⊥) → false ≡ idleB m o
+  unfolding idleB
+  idle-no o c e h = rw (ne-eqb (m (object o objectActive)) 0 (λ q. h (e ∙ q)))
+
+  pub idle-is : (o c : ℕ) (r : Bool) → c ≡ m (object o objectActive) → c ≡ 0 → r ≡ objectB m o → r ≡ idleB m o
+  unfolding idleB
+  idle-is o c r e h q = rw (sym e ∙ h) q
+
+  used-yes : (k : ℕ) → idleB m k ≡ true → usedTo m k ≡ usedTo m (suc k)
+  unfolding usedTo
+  used-yes k q = rw q
+
+  used-no : (k : ℕ) → idleB m k ≡ false → suc k ≡ usedTo m (suc k)
+  unfolding usedTo
+  used-no k q = rw q
+
+  -- `used_objects`
+  pub used-stop : (n : ℕ) (t : Bool) → 0 < n → t ≡ idleB m (n - 1) → t ≡ false → n ≡ usedTo m n
+  used-stop n t h e d = let z : n ≡ suc (n - 1) = omega arith in z ∙ used-no (n - 1) (sym e ∙ d) ∙ ap (usedTo m) (sym z)
+
+  pub used-less : (n : ℕ) (t : Bool) → 0 < n → t ≡ idleB m (n - 1) → t ≡ true → usedTo m (n - 1) ≡ usedTo m n
+  used-less n t h e d = let z : n ≡ suc (n - 1) = omega arith in used-yes (n - 1) (sym e ∙ d) ∙ ap (usedTo m) (sym z)
+
+  pub used-all : (n : ℕ) → n ≡ 0 → 0 ≡ usedTo m n
+  unfolding usedTo
+  used-all n e = rw e
 
 -- a number of used objects, where a test has passed
 abbrev pub readIf : Bool → ℕ → ObjectsRead
@@ -57,19 +88,17 @@ readIf b n = pick b (Used n) Bad
 unfoldable pub objectsRead : Mem → Shape → ObjectsRead
 objectsRead m sh = readIf (objectsB m sh) (usedTo m (sh .objects))
 
-module _ (m : Mem) (sh : Shape) where
-  pub used-bad : (o : ℕ) (t : Bool) → o < sh .objects → t ≡ objectB m o → t ≡ false → Bad ≡ objectsRead m sh
+module _ (m : Mem) (sh : Shape) (n : ℕ) (e : n ≡ usedTo m (sh .objects)) where
+  pub used-bad : (o : ℕ) (t : Bool) → o < n → t ≡ objectB m o → t ≡ false → Bad ≡ objectsRead m sh
   unfolding objectsRead
-  used-bad o t l e d = rw (← objects-stop m sh o t l e d)
+  used-bad o t l q d = rw (← objects-stop m sh o t (omega (arith, e, used-few m (sh .objects))) q d)
 
-  pub used-end : (o u : ℕ) → all o (objectB m) ≡ true → o ≡ sh .objects → u ≡ usedTo m o → Used u ≡ objectsRead m sh
-  unfolding objectsRead
-  used-end o u h e q = rw (← objects-end m sh o h (omega (arith, e)), ← e, ← q)
-
--- one object more, whose count stands in a word
-pub used-more : (ws : List ℕ) (sh : Shape) (first o i u r : ℕ) → first ≡ objectsAt sh → o < sh .objects → i ≡ first + o * 8 + 6 → u ≡ usedTo (load ws sh) o → r ≡ pick (eqb (getD ws i 0) 0) u (o + 1) → r ≡ usedTo (load ws sh) (o + 1)
-unfolding usedTo
-used-more ws sh first o i u r h l e q p = rw add-one (p ∙ rw (object-load ws sh first o h l i 6 (omega arith) e, q, add-one))
+  pub used-end : (o : ℕ) → all o (objectB m) ≡ true → n ≤ o → Used n ≡ objectsRead m sh
+  unfolding objectsRead objectsB
+  used-end o h l = rw (all-yes (sh .objects) (objectB m) each, ← e)
+    where
+      each : (i : ℕ) → i < sh .objects → objectB m i ≡ true
+      each i k = bool (ltb i n) (λ q. all-at o (objectB m) h i (omega (arith, ltb-true i n q))) (λ q. used-fits m (sh .objects) i (omega (arith, e, ltb-false i n q)) k)
 
 -- ---- those that a list has a handle of
 

@@ -10,13 +10,12 @@ ghost use mathlib.Core.List.{[], _∷_};
 ghost use Prim.Native.Nat.{_≤_, _<_};
 ghost use lib.Dec.{eqb};
 ghost use lib.ListN.{length};
-ghost use Rattle.words.specs.Pick.{pick};
 ghost use Rattle.layout.specs.Layout.{objectsAt, total, load as loadAt, object, index, item};
 ghost use Rattle.layout.specs.Fields.{objectActive, itemObject};
 ghost use Rattle.counts.specs.Found.{gather, inRow, inBook};
 ghost use Rattle.counts.specs.Shift.{plus, shiftW, shifted, unit};
 ghost use Rattle.counts.specs.Objects.{fields, objectB};
-ghost use Rattle.counts.specs.Used.{raise, topOf, objectsRead};
+ghost use Rattle.counts.specs.Used.{idleB, usedTo, objectsRead, raise, topOf};
 ghost use Rattle.counts.specs.Halves.{halfB, halvesTo, lowerW, lowered};
 use layout::Shape;
 use layout::field;
@@ -92,11 +91,33 @@ fn object_ok(s: &[u64], sh: Shape, first: u64, o: u64) -> bool
     )
 }
 
-// The one where a count is 0, else the other.
-fn by_count(count: u64, none: u64, some: u64) -> u64
-    ensures { λ r. ⌜ r ≡ pick (eqb count 0) none some ⌝ }
+// Whether object o has no count and its fields are in range.
+fn idle_ok(s: &[u64], sh: Shape, first: u64, o: u64) -> bool
+    requires { ⌜ (first ≡ objectsAt sh) × (o < sh .objects) ⌝ }
+    requires { ⌜ total sh ≤ length (now s) ⌝ }
+    ensures { λ r. ⌜ r ≡ idleB (loadAt (now (s .entry)) sh) o ⌝ }
 {
-    if count == 0 { none } else { some }
+    let at = (first + o * size::OBJECT_SIZE + field::OBJECT_ACTIVE) as usize;
+    if s[at] != 0 {
+        return false;
+    }
+    object_ok(s, sh, first, o)
+}
+
+// How many objects are left without those at the end that have no count and whose fields are in range.
+fn used_objects(s: &[u64], sh: Shape, first: u64) -> u64
+    requires { ⌜ first ≡ objectsAt sh ⌝ }
+    requires { ⌜ total sh ≤ length (now s) ⌝ }
+    ensures { λ r. ⌜ r ≡ usedTo (loadAt (now (s .entry)) sh) (sh .objects) ⌝ }
+{
+    let mut n = sh.objects as u64;
+    while 0 < n {
+        if !idle_ok(s, sh, first, n - 1) {
+            return n;
+        }
+        n -= 1;
+    }
+    0
 }
 
 // Whether the fields of every object are in range, and how many objects may have handles.
@@ -105,18 +126,15 @@ pub fn check_objects(s: &[u64], sh: Shape) -> ObjectsRead
     ensures { λ r. ⌜ r ≡ objectsRead (loadAt (now (s .entry)) sh) sh ⌝ }
 {
     let first = layout::region_of(sh, layout::OBJECT).low;
-    let n = sh.objects as u64;
-    let mut used: u64 = 0;
+    let n = used_objects(s, sh, first);
     let mut o: u64 = 0;
     while o < n {
         if !object_ok(s, sh, first, o) {
             return ObjectsRead::Bad;
         }
-        let at = (first + o * size::OBJECT_SIZE + field::OBJECT_ACTIVE) as usize;
         o += 1;
-        used = by_count(s[at], used, o);
     }
-    ObjectsRead::Used(used)
+    ObjectsRead::Used(n)
 }
 
 // A word with one more in its upper half: past the largest it starts again.
