@@ -12,9 +12,8 @@ use Rattle.model.specs.Base.{nth, occurs}
 use Rattle.model.specs.State.{Body, Row}
 use Rattle.model.specs.Book.{find, dropId, swapId}
 use Rattle.model.specs.WellFormed.{IdsRise}
-use Rattle.model.specs.Counting.{bit-same}
+use Rattle.model.specs.Counting.{bit-same, nth-occurs}
 use Rattle.model.specs.Tests.{some-same}
-use Rattle.storage.specs.Order.{occurs-head}
 
 module _ {A : Type 0} where
   pub nothing {ℓ} : {C : Type ℓ} (a : A) → none ≡ some a → C
@@ -55,11 +54,6 @@ module _ {A : Type 0} where
   take-more (suc n) (x ∷ l) a e = ap (λ (t : List A). x ∷ t) (take-more n l a e)
 
 -- ---- numbers in a list
-
-pub nth-occurs : (l : List ℕ) (j k : ℕ) → nth l j ≡ some k → 0 < occurs k l
-nth-occurs [] j k e = nothing k e
-nth-occurs (x ∷ l) zero k e = rw (some-same x k e) (occurs-head k l)
-nth-occurs (x ∷ l) (suc j) k e = omega (arith, nth-occurs l j k e)
 
 -- a number that stands once stands in one place
 pub nth-once : (l : List ℕ) (i j k : ℕ) → occurs k l ≤ 1 → nth l i ≡ some k → nth l j ≡ some k → i ≡ j

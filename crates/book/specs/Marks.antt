@@ -12,6 +12,7 @@ use Rattle.model.specs.State.{Handle, Slot, Slot.absent, Slot.vacant, Slot.rese
 use Rattle.model.specs.Book.{movedOf}
 use Rattle.model.specs.WellFormed.{Marks, isReservedBy}
 use Rattle.model.specs.Tests.{nth-some, some-same}
+use Rattle.model.specs.Counting.{nth-occurs}
 use Rattle.invariant.specs.Marks.{isBy, inRow, Marked, keys-reservation, owns, both-marks}
 use Rattle.layout.specs.declared.Shape.{Shape}
 use Rattle.layout.specs.Layout.{Mem, cell, rank, row, item}
@@ -22,7 +23,7 @@ use Rattle.representation.specs.Represents.{wordIn, frameOf, slotWord, tagged, 
 use Rattle.representation.specs.Told.{tagOf}
 use Rattle.storage.specs.Order.{occurs-head}
 use Rattle.storage.specs.Reps.{Names}
-use Rattle.book.specs.Lists.{nothing, nth-below, nth-occurs, nth-once, ids-apart}
+use Rattle.book.specs.Lists.{nothing, nth-below, nth-once, ids-apart}
 use Rattle.book.specs.Places.{ranked, rank-one, row-of, item-of}
 use Rattle.book.specs.Find.{Fits, RowAt, indexed, at-find}
 

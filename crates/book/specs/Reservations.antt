@@ -18,6 +18,7 @@ use Rattle.model.specs.Change.{withTable}
 use Rattle.model.specs.Book.{dropRow, swapRow}
 use Rattle.model.specs.WellFormed.{WellFormed}
 use Rattle.model.specs.Sums.{member-in}
+use Rattle.model.specs.Counting.{nth-occurs}
 use Rattle.invariant.specs.BookLemmas.{found-range}
 use Rattle.invariant.specs.Marks.{mark-busy}
 use Rattle.invariant.specs.Pointwise.{vacateAll-slots}
@@ -26,7 +27,7 @@ use Rattle.layout.specs.Layout.{load}
 use Rattle.layout.specs.Fields.{slotPosition}
 use Rattle.representation.specs.Represents.{slotWord, isMarked}
 use Rattle.storage.specs.Reps.{Held}
-use Rattle.book.specs.Lists.{nth-drop, nth-occurs, occurs-drop}
+use Rattle.book.specs.Lists.{nth-drop, occurs-drop}
 use Rattle.book.specs.Ops.{closeW, shrinkW, vacateItemsW}
 use Rattle.book.specs.Find.{Fits, fits-of, RowAt, at-find}
 use Rattle.book.specs.Close.{close-held}

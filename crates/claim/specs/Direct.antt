@@ -32,7 +32,7 @@ use Rattle.layout.specs.declared.Shape.{Shape}
 use Rattle.layout.specs.Layout.{load}
 use Rattle.representation.specs.Represents.{isMarked, Rep}
 use Rattle.storage.specs.Reps.{Held}
-use Rattle.book.specs.Lists.{nth-occurs}
+use Rattle.model.specs.Counting.{nth-occurs}
 use Rattle.book.specs.Ops.{closeW}
 use Rattle.book.specs.Find.{Fits, fits-of, RowAt}
 use Rattle.book.specs.Marks.{Unnamed, unnamed, named-reservation}

@@ -10,7 +10,7 @@ use borrow.Author.Tests.{eq-eqb, ne-eqb, eqb-true, eqb-false, le-leb, leb-true}
 use Rattle.words.specs.Pick.{bool, clash, both}
 use Rattle.words.specs.All.{all, all-at, all-yes, all-more, all-stop}
 use Rattle.model.specs.Base.{bit}
-use Rattle.model.specs.State.{till, Class, Class.leaf, Class.rendezvousOnly, Class.never, Stage, Stage.stillNew, Stage.nowActive, Stage.nowRetired, Object, State, maxLimit}
+use Rattle.model.specs.State.{till, Stage, Stage.stillNew, Stage.nowActive, Stage.nowRetired, Object, State, maxLimit}
 use Rattle.model.specs.Create.{classOf}
 use Rattle.model.specs.WellFormed.{ObjectRange, StageCount, WellFormed}
 use Rattle.model.specs.Tests.{bit-small}
@@ -19,6 +19,7 @@ use Rattle.layout.specs.Layout.{Addr.reg, Mem, objectsAt, object, load}
 use Rattle.layout.specs.Fields.{objectKoid, objectKind, objectClass, objectSupported, objectExportable, objectStage, objectActive, objectLimit}
 use Rattle.layout.specs.Values.{stageNew, stageActive, stageRetired, classNever}
 use Rattle.representation.specs.Represents.{classWord, stageWord, ObjectIs, Represents}
+use Rattle.representation.specs.Told.{class-small}
 use Rattle.counts.specs.Shift.{object-load}
 
 -- "a new object has count 0, an active one more": of a stage's word and a count
@@ -156,11 +157,6 @@ module _ (m : Mem) (o : ℕ) (f : ObjectFits m o) where
   from-staged = stage-count (m (object o objectStage)) (m (object o objectActive)) (f .staged)
 
 -- ---- and back: the words of a well-formed state's object fit
-
-class-small : (c : Class) → classWord c ≤ 2
-class-small leaf = omega arith
-class-small rendezvousOnly = omega arith
-class-small never = omega arith
 
 stage-fits : (g : Stage) (n : ℕ) → StageCount g n → stageB (stageWord g) n ≡ true
 stage-fits stillNew n h = eq-eqb n 0 h

@@ -8,10 +8,8 @@ use native.Mathlib.Omega.{arith}
 use native.Mathlib.Nat.{mod-lt}
 use lib.ListN.{length}
 use lib.Dec.{eqb}
-use borrow.Author.Tests.{eq-eqb, eqb-true}
-use Rattle.words.specs.Pick.{bool}
-use Rattle.model.specs.Base.{put}
-use Rattle.model.specs.State.{till, Table, State}
+use borrow.Author.Tests.{eq-eqb}
+use Rattle.model.specs.State.{till, State}
 use Rattle.model.specs.Storage.{advance}
 use Rattle.model.specs.Change.{withTable}
 use Rattle.invariant.specs.Orders.{recast}
@@ -22,7 +20,7 @@ use Rattle.layout.specs.Sizes.{pageSize}
 use Rattle.representation.specs.Represents.{wordIn, frameOf, slotWord, TableIs, FramesAre}
 use Rattle.storage.specs.Sight.{Spot, Spot.hd, Spot.pg, Spot.sl, look, Put.toHead, put₁}
 use Rattle.storage.specs.Slots.{Seen, see, unsee}
-use Rattle.storage.specs.Whole.{fit-of}
+use Rattle.storage.specs.Whole.{fit-of, put-like}
 use Rattle.storage.specs.Reps.{Held}
 use Rattle.frames.specs.Paged.{Alone, paged-write}
 use Rattle.frames.specs.Whole.{placed-paged, held-paged-marks}
@@ -78,12 +76,9 @@ module _ (ws : List ℕ) (sh : Shape) (s : State) (h : Held ws sh s) (b : ℕ) (
   table-is : TableIs n b (advance (s .tables b))
   table-is = unsee (load ws sh) n b (advance (s .tables b)) (λ r. refl) (rw shows seen)
 
-  put-like : {A : Type 0} (F : Table → A) → F (advance (s .tables b)) ≡ F (s .tables b) → (c : ℕ) → F (put (s .tables) b (advance (s .tables b)) c) ≡ F (s .tables c)
-  put-like F e c = bool (eqb c b) (λ q. rw (q, eqb-true c b q) e) (λ q. rw q)
-
   frames-are : FramesAre n (withTable s b (advance (s .tables b)))
   frames-are = let q = h .reps .memory .frames in record {
-    held = λ c p f k i e. q .held c p f k (rw (put-like (λ t. t .size) refl c) at i) (sym (put-like (λ t. t .pages p .frame) refl c) ∙ e);
+    held = λ c p f k i e. q .held c p f k (rw (put-like (λ t. t .size) (s .tables) b (advance (s .tables b)) refl c) at i) (sym (put-like (λ t. t .pages p .frame) (s .tables) b (advance (s .tables b)) refl c) ∙ e);
     free = q .free;
     sixteens = q .sixteens;
     hundreds = q .hundreds;

@@ -2,13 +2,14 @@
 use mathlib.Core.Path.{_≡_, refl, sym, ap, _∙_}
 use mathlib.Core.Bool.{not}
 use mathlib.Core.List.{List, [], _∷_, _++_}
+use mathlib.Core.Option.{some}
 use Prim.Native.Nat.{ℕ, zero, suc, _+_, _-_, _≤_, _<_}
 use native.Mathlib.Omega.{arith}
 use lib.ListN.{length}
 use lib.Dec.{eqb, ltb}
 use borrow.Author.Tests.{eq-eqb, ne-eqb, eqb-true, eqb-false, lt-ltb, le-ltb, ltb-true, ltb-false}
-use Rattle.model.specs.Base.{bit, occurs, sum}
-use Rattle.model.specs.Tests.{bool, zero-or}
+use Rattle.model.specs.Base.{bit, nth, occurs, sum}
+use Rattle.model.specs.Tests.{bool, apart, zero-or}
 use Rattle.model.specs.Sums.{sum-equal, sum-zero, sum-add}
 
 pub bit-same : (x y : ℕ) → x ≡ y → bit (eqb x y) ≡ 1
@@ -16,6 +17,12 @@ bit-same x y e = rw (eq-eqb x y e)
 
 pub bit-other : (x y : ℕ) → (x ≡ y → ⊥) → bit (eqb x y) ≡ 0
 bit-other x y e = rw (ne-eqb x y e)
+
+-- a number at a place of a list stands in it
+pub nth-occurs : (l : List ℕ) (j k : ℕ) → nth l j ≡ some k → 0 < occurs k l
+nth-occurs [] j k e = apart (cc)
+nth-occurs (x ∷ l) zero k e = let q : x ≡ k = cc in omega (arith, bit-same k x (sym q))
+nth-occurs (x ∷ l) (suc j) k e = omega (arith, nth-occurs l j k e)
 
 pub sum-le : (n : ℕ) (f g : ℕ → ℕ) → ((j : ℕ) → j < n → f j ≤ g j) → sum n f ≤ sum n g
 sum-le zero f g h = omega arith

@@ -27,6 +27,11 @@ abbrev pub unless_refuse_then_ : Bool → ℕ → Decision → Decision
 unless_refuse_then_ true n d = d
 unless_refuse_then_ false n d = refusal n
 
+infixr 5 when_refuse_then_
+-- the other way round: refuse with the number if the test holds, else go on
+abbrev pub when_refuse_then_ : Bool → ℕ → Decision → Decision
+when_refuse_then_ b n d = unless not b refuse n then d
+
 infixr 5 unless_leaving_answering_then_
 -- not a refusal: go on if the test holds, else leave the state and answer
 abbrev pub unless_leaving_answering_then_ : Bool → State → Answer → Decision → Decision

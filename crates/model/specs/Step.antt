@@ -1,5 +1,9 @@
 -- What each request does: its checks in the order that document 01 prints under "Orders", with their numbers; its effect; its answer.
-use mathlib.Core.Bool.{not}
+--
+-- Letters: s a state, b a table's number and t the table, o an object's number and x the object, v a handle value, k the number of its slot, h its handle, g a
+-- generation, r rights, f flags, n a count, i and j ids (i of the row that a request names first), c a cursor or the number of a second table, ks slots, es a
+-- claim's entries, hs handles, is ids, ps pages, qs a transfer's items. The words between (`table .. of`, `unless .. refuse`, `leave .. answer`) are defined in
+-- Decision.antt, Lookup.antt and Effect.antt.
 use mathlib.Core.List.{List, [], _∷_, map}
 use mathlib.Core.Option.{Option, none, some}
 use Prim.Native.Nat.{ℕ, _+_, _-_, min}
@@ -8,7 +12,7 @@ use lib.Dec.{eqb, ltb}
 use Rattle.authority.specs.Rights.{contains, duplicateRight}
 use Rattle.codec.specs.Codec.{encode, nextGeneration}
 use Rattle.model.specs.Base.{pick, isSome, atMost, insert}
-use Rattle.model.specs.State.{Sizes, Handle, Slot.reserved, Slot.transferReserved, Slot.occupied, Lifecycle, Lifecycle.active, Lifecycle.tearingDown, Lifecycle.retired, Table, Object, Entry, Entry.moved, Entry.copied, Body.reservation, Body.claim, Body.parcel, State}
+use Rattle.model.specs.State.{Sizes, Handle, Slot.reserved, Slot.transferReserved, Slot.occupied, Lifecycle.tearingDown, Lifecycle.retired, Table, Entry, Entry.moved, Entry.copied, Body.reservation, Body.claim, Body.parcel, State}
 use Rattle.model.specs.State.{generation, isActive, maxBatch, knownFlags}
 use Rattle.model.specs.Storage.{place, keep, keepAll, vacate, vacateAll, takeFree, pagesFor, grow, detach, lengthOf, firstOccupied, Walk, walk}
 use Rattle.model.specs.Request.{Route, Item, SnapshotPage}
@@ -18,7 +22,7 @@ use Rattle.model.specs.Change.{withLife}
 use Rattle.model.specs.Objects.{isNowActive, isNowRetired, limitReached, activated, raise, retiredByOwner, infoFor, withRights}
 use Rattle.model.specs.Book.{spendId, freeRow, idLeft, anyOpen, movedOf, copiesOf, sentOf}
 use Rattle.model.specs.Effect.{_settingTable_to_, _settingFrames_, _changing_by_, _raising_, _releasing_, _opening_, _ending_, _endingAll_, _turning_into_}
-use Rattle.model.specs.Decision.{Decision, Decision.refusal, Decision.refusalAfterId, Decision.accept, leave_answer_, unless_leaving_answering_then_, unless_refuse_then_, given_refuse_then_, table_of_refuse_then_, object_of_refuse_then_}
+use Rattle.model.specs.Decision.{Decision, Decision.refusal, Decision.refusalAfterId, Decision.accept, leave_answer_, unless_leaving_answering_then_, unless_refuse_then_, when_refuse_then_, given_refuse_then_, table_of_refuse_then_, object_of_refuse_then_}
 use Rattle.model.specs.Decision.{reservationRow_of_refuse_then_, claimRow_of_refuse_then_, parcelRow_of_refuse_then_, refuseAfterId_then_, teardownCursor_refuse_then_, handlesOf, distinct}
 use Rattle.model.specs.Lookup.{handle_of_refuse_orBusy_then_, valueAt, handleOr, snapshotAt}
 use Rattle.model.specs.Transfer.{itemsFault, copiesFault, entryFor}
@@ -37,16 +41,16 @@ module _ (z : Sizes) where
   restoreAll (copied h ∷ es) t = restoreAll es t
 
   -- "New object: 1, 6, 7, activation, 12". "Activation refuses 6 not exportable, 9 retired, 10 active, 11 limit reached, in that order"
-  unfoldable pub newObjectOf : State → ℕ → ℕ → ℕ → Decision
+  unfoldable pub newObjectOf : State → (objectNumber rights flags : ℕ) → Decision
   newObjectOf s o r f =
       object o of s refuse 18 then λ x.
       unless freeRow s refuse 1 then
       unless contains (x .supported) r refuse 6 then
       unless contains knownFlags f refuse 7 then
       unless x .exportable refuse 6 then
-      unless not (isNowRetired (x .stage)) refuse 9 then
-      unless not (isNowActive (x .stage)) refuse 10 then
-      unless not (limitReached x) refuse 11 then
+      when isNowRetired (x .stage) refuse 9 then
+      when isNowActive (x .stage) refuse 10 then
+      when limitReached x refuse 11 then
       unless idLeft s refuse 12 then
       leave s
       changing o by activated
@@ -54,7 +58,7 @@ module _ (z : Sizes) where
       answer opened (s .book .next)
 
   -- "Duplicate: 16, 1, 2 or 3, 5, 9, 11, 12"
-  unfoldable pub duplicateOf : State → ℕ → ℕ → ℕ → Decision
+  unfoldable pub duplicateOf : State → (tableNumber value rights : ℕ) → Decision
   duplicateOf s b v r =
       table b of s refuse 18 then λ t.
       unless isActive (t .life) refuse 16 then
@@ -62,8 +66,8 @@ module _ (z : Sizes) where
       handle v of t refuse 2 orBusy 3 then λ k h.
       unless contains (h .rights) duplicateRight refuse 5 then
       unless contains (h .rights) r refuse 5 then
-      unless not (isNowRetired (s .objects (h .object) .stage)) refuse 9 then
-      unless not (limitReached (s .objects (h .object))) refuse 11 then
+      when isNowRetired (s .objects (h .object) .stage) refuse 9 then
+      when limitReached (s .objects (h .object)) refuse 11 then
       unless idLeft s refuse 12 then
       leave s
       changing h .object by raise
@@ -71,7 +75,7 @@ module _ (z : Sizes) where
       answer opened (s .book .next)
 
   -- "A parcel can be released, its counts with it"
-  unfoldable pub releaseParcelOf : State → ℕ → Decision
+  unfoldable pub releaseParcelOf : State → (id : ℕ) → Decision
   releaseParcelOf s i =
       parcelRow i of s refuse 18 then λ hs.
       leave s
@@ -80,7 +84,7 @@ module _ (z : Sizes) where
       answer done
 
   -- "Its owner may retire it by a request accepted in any state"
-  unfoldable pub retireObjectOf : State → ℕ → Decision
+  unfoldable pub retireObjectOf : State → (objectNumber : ℕ) → Decision
   retireObjectOf s o =
       object o of s refuse 18 then λ x.
       leave s
@@ -88,7 +92,7 @@ module _ (z : Sizes) where
       answer done
 
   -- "Reserve: 16, 17, 13, 15, 1, 12"
-  unfoldable pub reserveOf : State → ℕ → ℕ → Decision
+  unfoldable pub reserveOf : State → (tableNumber count : ℕ) → Decision
   reserveOf s b n =
       table b of s refuse 18 then λ t.
       unless isActive (t .life) refuse 16 then
@@ -108,7 +112,7 @@ module _ (z : Sizes) where
       answer batch i (map (valueAt grown) ks)
 
   -- "trim to 0 or above the batch": 18
-  unfoldable pub trimOf : State → ℕ → ℕ → Decision
+  unfoldable pub trimOf : State → (id count : ℕ) → Decision
   trimOf s i n =
       reservationRow i of s refuse 18 then λ b ks.
       unless ltb 0 n refuse 18 then
@@ -119,7 +123,7 @@ module _ (z : Sizes) where
       answer done
 
   -- a reservation ends: its slots fall vacant
-  unfoldable pub abortOf : State → ℕ → Decision
+  unfoldable pub abortOf : State → (id : ℕ) → Decision
   abortOf s i =
       reservationRow i of s refuse 18 then λ b ks.
       leave s
@@ -128,7 +132,7 @@ module _ (z : Sizes) where
       answer done
 
   -- "Publish names a reservation and one or more parcels, whose handles in order fill its slots"; "row named twice; lengths differ": 18
-  unfoldable pub publishOf : State → ℕ → List ℕ → Decision
+  unfoldable pub publishOf : State → (id : ℕ) → (parcels : List ℕ) → Decision
   publishOf s i is =
       reservationRow i of s refuse 18 then λ b ks.
       given handlesOf is (s .book .rows) refuse 18 then λ hs.
@@ -140,15 +144,15 @@ module _ (z : Sizes) where
       answer done
 
   -- "`get_info`, close, `replace`: 16, 2 or 3, then 5 (`replace`)"
-  unfoldable pub getInfoOf : State → ℕ → ℕ → Decision
+  unfoldable pub getInfoOf : State → (tableNumber value : ℕ) → Decision
   getInfoOf s b v =
       table b of s refuse 18 then λ t.
       unless isActive (t .life) refuse 16 then
       handle v of t refuse 2 orBusy 3 then λ k h.
       leave s answer infoOf (infoFor s h)
 
-  -- "Closing answers the handle's info and releases its count"
-  unfoldable pub closeOf : State → ℕ → ℕ → Decision
+  -- "`get_info`, close, `replace`: 16, 2 or 3, then 5 (`replace`)". "Closing answers the handle's info and releases its count"
+  unfoldable pub closeOf : State → (tableNumber value : ℕ) → Decision
   closeOf s b v =
       table b of s refuse 18 then λ t.
       unless isActive (t .life) refuse 16 then
@@ -158,7 +162,8 @@ module _ (z : Sizes) where
       releasing (h ∷ [])
       answer infoOf (infoFor s h)
 
-  unfoldable pub replaceOf : State → ℕ → ℕ → ℕ → Decision
+  -- "`get_info`, close, `replace`: 16, 2 or 3, then 5 (`replace`)": the same slot, the next generation, the handle with other rights
+  unfoldable pub replaceOf : State → (tableNumber value rights : ℕ) → Decision
   replaceOf s b v r =
       table b of s refuse 18 then λ t.
       unless isActive (t .life) refuse 16 then
@@ -170,7 +175,7 @@ module _ (z : Sizes) where
       answer renewed (encode (t .mask) k g)
 
   -- "Resolve: 16, 2 or 3, 5, 4"
-  unfoldable pub resolveOf : State → ℕ → ℕ → ℕ → ℕ → Decision
+  unfoldable pub resolveOf : State → (tableNumber value rights kind : ℕ) → Decision
   resolveOf s b v r kind =
       table b of s refuse 18 then λ t.
       unless isActive (t .life) refuse 16 then
@@ -191,7 +196,7 @@ module _ (z : Sizes) where
       }
 
   -- 16 as in the Rust: document 01's orders leave it out
-  unfoldable pub scanHandlesOf : State → ℕ → ℕ → Decision
+  unfoldable pub scanHandlesOf : State → (tableNumber cursor : ℕ) → Decision
   scanHandlesOf s b c =
       table b of s refuse 18 then λ t.
       unless isActive (t .life) refuse 16 then
@@ -199,7 +204,7 @@ module _ (z : Sizes) where
 
   -- "Transfer: 16, 17, 13, 1, 12; then item by item 2 (twice), 2 or 3 (lookup), 5 (rights), 8 (kind), 5 (object), 8 (route), 4; then
   -- copies 9, 11": the numbers of items and copies stand in `itemChecks` and `copyChecks`
-  unfoldable pub prepareTransferOf : State → ℕ → Route → Option ℕ → Option ℕ → List Item → Decision
+  unfoldable pub prepareTransferOf : State → (tableNumber : ℕ) → Route → (forbiddenObject forbiddenKind : Option ℕ) → List Item → Decision
   prepareTransferOf s b route bannedObject bannedKind qs =
       table b of s refuse 18 then λ t.
       unless isActive (t .life) refuse 16 then
@@ -218,7 +223,7 @@ module _ (z : Sizes) where
       answer opened i
 
   -- "Consumption: 16, 1, 2 or 3, 5, 4, 2, 12"
-  unfoldable pub prepareConsumptionOf : State → ℕ → ℕ → ℕ → ℕ → ℕ → Decision
+  unfoldable pub prepareConsumptionOf : State → (tableNumber value rights kind koid : ℕ) → Decision
   prepareConsumptionOf s b v r kind koid =
       table b of s refuse 18 then λ t.
       unless isActive (t .life) refuse 16 then
@@ -235,7 +240,7 @@ module _ (z : Sizes) where
       answer opened i
 
   -- a claim ends: its slots hold their handles again, its copies are released
-  unfoldable pub rollbackOf : State → ℕ → Decision
+  unfoldable pub rollbackOf : State → (id : ℕ) → Decision
   rollbackOf s i =
       claimRow i of s refuse 18 then λ b es.
       leave s
@@ -245,7 +250,7 @@ module _ (z : Sizes) where
       answer done
 
   -- "Commit turns a claim's row into a parcel of the same id"
-  unfoldable pub commitOf : State → ℕ → Decision
+  unfoldable pub commitOf : State → (id : ℕ) → Decision
   commitOf s i =
       claimRow i of s refuse 18 then λ b es.
       leave s
@@ -254,7 +259,7 @@ module _ (z : Sizes) where
       answer done
 
   -- a claim's handles straight into a reservation, of one table or two
-  unfoldable pub directCommitOf : State → ℕ → ℕ → Decision
+  unfoldable pub directCommitOf : State → (id destination : ℕ) → Decision
   directCommitOf s i j =
       claimRow i of s refuse 18 then λ b es.
       reservationRow j of s refuse 18 then λ c ks.
@@ -267,7 +272,7 @@ module _ (z : Sizes) where
       answer done
 
   -- a claim rolled back, then a reservation aborted, of one table or two
-  unfoldable pub directRollbackOf : State → ℕ → ℕ → Decision
+  unfoldable pub directRollbackOf : State → (id destination : ℕ) → Decision
   directRollbackOf s i j =
       claimRow i of s refuse 18 then λ b es.
       reservationRow j of s refuse 18 then λ c ks.
@@ -283,6 +288,7 @@ module _ (z : Sizes) where
   abbrev pub nextOccupied : Table → ℕ → Option ℕ
   nextOccupied t c = firstOccupied (t .slots) c (lengthOf z t - c)
 
+  -- what was found is removed: its slot falls vacant as in closing, its count is released. The cursor is left behind it, or at 0 at the end of the walk
   abbrev pub removeAt : State → ℕ → Table → Option ℕ → Decision
   removeAt s b t none = leave s answer removed none 0
   removeAt s b t (some j) =
@@ -293,22 +299,23 @@ module _ (z : Sizes) where
 
   -- "On an inactive table `remove_stopping_owner` and `take_empty_page` answer "none", not a refusal; so do the end of a walk and a table
   -- with no empty page". "The cursor of `remove_stopping_owner` is a request field, and the answer gives it as left"
-  unfoldable pub removeStoppingOwnerOf : State → ℕ → ℕ → Decision
+  unfoldable pub removeStoppingOwnerOf : State → (tableNumber cursor : ℕ) → Decision
   removeStoppingOwnerOf s b c =
       table b of s refuse 18 then λ t.
       unless isActive (t .life) leaving s answering removed none c then
       removeAt s b t (nextOccupied t c)
 
   -- "Teardown start: 16, 14"
-  unfoldable pub teardownStartOf : State → ℕ → Decision
+  unfoldable pub teardownStartOf : State → (tableNumber : ℕ) → Decision
   teardownStartOf s b =
       table b of s refuse 18 then λ t.
       unless isActive (t .life) refuse 16 then
-      unless not (anyOpen b (s .book .rows)) refuse 14 then
+      when anyOpen b (s .book .rows) refuse 14 then
       leave s
       settingTable b to withLife t (tearingDown 0)
       answer done
 
+  -- the same in a teardown, whose cursor stands in the table; the end of the walk leaves it
   abbrev pub tearAt : State → ℕ → Table → Option ℕ → Decision
   tearAt s b t none = leave s answer closed none
   tearAt s b t (some k) =
@@ -318,18 +325,18 @@ module _ (z : Sizes) where
       answer closed (some (infoFor s (handleOr (t .slots k))))
 
   -- "teardown step out of turn": 18
-  unfoldable pub teardownStepOf : State → ℕ → Decision
+  unfoldable pub teardownStepOf : State → (tableNumber : ℕ) → Decision
   teardownStepOf s b =
       table b of s refuse 18 then λ t.
       teardownCursor t .life refuse 18 then λ c.
       tearAt s b t (nextOccupied t c)
 
   -- "finish with an occupied slot": 18, and out of turn as a step
-  unfoldable pub teardownFinishOf : State → ℕ → Decision
+  unfoldable pub teardownFinishOf : State → (tableNumber : ℕ) → Decision
   teardownFinishOf s b =
       table b of s refuse 18 then λ t.
       teardownCursor t .life refuse 18 then λ c.
-      unless not (isSome (nextOccupied t 0)) refuse 18 then
+      when isSome (nextOccupied t 0) refuse 18 then
       leave s
       settingTable b to withLife t retired
       answer done
@@ -339,6 +346,7 @@ module _ (z : Sizes) where
   returned none fs = fs
   returned (some f) fs = insert f fs
 
+  -- the first page of the empty pages' order is detached
   abbrev pub takeAt : State → ℕ → Table → List ℕ → Decision
   takeAt s b t [] = leave s answer taken none
   takeAt s b t (p ∷ ps) =
@@ -347,12 +355,14 @@ module _ (z : Sizes) where
       settingFrames returned (t .pages p .frame) (s .frames)
       answer taken (some p)
 
-  unfoldable pub takeEmptyPageOf : State → ℕ → Decision
+  -- "take_empty_page": "none" on an inactive table and on one with no empty page (quoted above)
+  unfoldable pub takeEmptyPageOf : State → (tableNumber : ℕ) → Decision
   takeEmptyPageOf s b =
       table b of s refuse 18 then λ t.
       unless isActive (t .life) leaving s answering taken none then
       takeAt s b t (t .empty)
 
+  -- each request by its definition
   unfoldable pub decide : State → Request → Decision
   decide s (newObject o r f) = newObjectOf s o r f
   decide s (duplicate b v r) = duplicateOf s b v r

@@ -3,14 +3,14 @@ use mathlib.Core.Bool.{Bool, true, false, _&&_}
 use mathlib.Core.List.{List, [], _∷_, _++_, map}
 use mathlib.Core.Option.{Option, none, some}
 use Prim.Native.Nat.{ℕ, zero, suc, _+_, _*_, _/_, _%_}
-use lib.ListN.{length, getD, take, drop}
+use lib.ListN.{length, getD, drop}
 use lib.Dec.{eqb, ltb}
 use Rattle.authority.specs.Rights.{contains}
 use Rattle.format.specs.Format.{musts, mays, transferItemMust, transferItemMay, parcelItemMust, parcelItemMay, fieldKinds, fieldFits, fieldCount, answerWords}
 use Rattle.format.specs.Fields.{opField, tableField, objectField, countField, valueField, rightsField, flagsField, idField, destinationField, kindField, koidField, cursorField, routeField, offeredRightsField, offeredKindField, expectedKindField, forbiddenObjectField, forbiddenKindField, anOp, anOperation, zeroWord}
 use Rattle.model.specs.Base.{pick, bit, isSome, orElse, nth}
 use Rattle.model.specs.State.{Sizes, State}
-use Rattle.model.specs.Request.{Route, Route.buffered, Route.rendezvous, Route.stagedStartup, Operation, Operation.asMove, Operation.asCopy, Item, Info, Snapshot, SnapshotPage}
+use Rattle.model.specs.Request.{Route, Route.buffered, Route.rendezvous, Route.stagedStartup, Operation, Operation.asMove, Operation.asCopy, Item, Info, Snapshot}
 use Rattle.model.specs.Request.{Answer, Answer.refused, Answer.done, Answer.opened, Answer.batch, Answer.infoOf, Answer.resolved, Answer.renewed, Answer.scanned, Answer.removed, Answer.closed, Answer.taken}
 use Rattle.model.specs.Request.{Request, Request.newObject, Request.duplicate, Request.releaseParcel, Request.retireObject, Request.reserve, Request.trim, Request.abort, Request.publish, Request.getInfo, Request.resolve, Request.replace, Request.close, Request.scanHandles, Request.prepareTransfer, Request.prepareConsumption, Request.rollback, Request.commit, Request.directCommit, Request.directRollback, Request.removeStoppingOwner, Request.teardownStart, Request.teardownStep, Request.teardownFinish, Request.takeEmptyPage}
 use Rattle.model.specs.Step.{run}
@@ -47,7 +47,7 @@ readFields (suc n) map ws =
 -- "too wide or a koid of 0; unknown op, route or operation": each word fits the kind of its field
 abbrev pub fitAll : List ℕ → Fields → Bool
 fitAll ks [] = true
-fitAll [] (f ∷ fs) = true
+fitAll [] (f ∷ fs) = false
 fitAll (k ∷ ks) (none ∷ fs) = fitAll ks fs
 fitAll (k ∷ ks) (some w ∷ fs) = fieldFits k w && fitAll ks fs
 

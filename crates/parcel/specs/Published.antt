@@ -30,7 +30,7 @@ use Rattle.layout.specs.Sizes.{batchMax}
 use Rattle.representation.specs.Represents.{isMarked, Rep}
 use Rattle.storage.specs.Reps.{Held, held-of}
 use Rattle.book.specs.Ops.{rowLink, reservationLink, closeW}
-use Rattle.book.specs.Lists.{nth-occurs}
+use Rattle.model.specs.Counting.{nth-occurs}
 use Rattle.book.specs.Find.{Fits, fits-of, RowAt}
 use Rattle.book.specs.Marks.{Unnamed, unnamed, named-reservation, named-parcel}
 use Rattle.book.specs.Fades.{Fades, fades-rows, named-fades, unnamed-fades, fits-drop}

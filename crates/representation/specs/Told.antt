@@ -3,13 +3,13 @@ use mathlib.Core.Path.{_≡_, refl}
 use mathlib.Core.Bool.{Bool, true, false}
 use mathlib.Core.List.{List}
 use mathlib.Core.Option.{Option, none, some}
-use Prim.Native.Nat.{ℕ, suc, _+_, _*_, _/_, _^_, _<_}
+use Prim.Native.Nat.{ℕ, suc, _+_, _*_, _/_, _^_, _≤_, _<_}
 use native.Mathlib.Omega.{arith}
 use lib.Dec.{eqb}
 use borrow.Author.Tests.{eq-eqb, ne-eqb, lt-ltb}
 use Rattle.words.specs.Pick.{clash}
 use Rattle.words.specs.Words.{Small}
-use Rattle.model.specs.State.{till, Lifecycle, Lifecycle.active, Lifecycle.tearingDown, Lifecycle.retired, isActive, Slot, Slot.absent, Slot.vacant, Slot.reserved, Slot.transferReserved, Slot.occupied, isVacant, Stage, Stage.stillNew, Stage.nowActive, Stage.nowRetired, maxSlots}
+use Rattle.model.specs.State.{till, Lifecycle, Lifecycle.active, Lifecycle.tearingDown, Lifecycle.retired, isActive, Slot, Slot.absent, Slot.vacant, Slot.reserved, Slot.transferReserved, Slot.occupied, isVacant, Class, Class.leaf, Class.rendezvousOnly, Class.never, Stage, Stage.stillNew, Stage.nowActive, Stage.nowRetired, maxSlots}
 use Rattle.model.specs.Objects.{isNowRetired}
 use Rattle.model.specs.Storage.{slotsOf}
 use Rattle.layout.specs.declared.Shape.{Shape}
@@ -17,7 +17,7 @@ use Rattle.layout.specs.Layout.{Addr, Mem, head, entry, load}
 use Rattle.layout.specs.Fields.{headPages, entryFrame}
 use Rattle.layout.specs.Values.{tagReserved, tagTransferReserved, stageRetired}
 use Rattle.layout.specs.Sizes.{pageSize}
-use Rattle.representation.specs.Represents.{entryAt, linkOf, frameOf, LifeIs, stageWord, isMarked}
+use Rattle.representation.specs.Represents.{entryAt, linkOf, frameOf, LifeIs, classWord, stageWord, isMarked}
 
 pub link-some : (x : Option ℕ) (f : ℕ) → linkOf x ≡ suc f → x ≡ some f
 link-some none f e = absurd (omega arith)
@@ -34,6 +34,11 @@ marked-full (vacant g) e = clash e refl
 marked-full (reserved g i) e = refl
 marked-full (transferReserved g i) e = refl
 marked-full (occupied g h) e = refl
+
+pub class-small : (c : Class) → classWord c ≤ 2
+class-small leaf = omega arith
+class-small rendezvousOnly = omega arith
+class-small never = omega arith
 
 pub life-tells : (w c : ℕ) (l : Lifecycle) → LifeIs w c l → eqb w 0 ≡ isActive l
 life-tells w c active e = eq-eqb w 0 e

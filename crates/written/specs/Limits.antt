@@ -12,18 +12,19 @@ use Rattle.words.specs.Pick.{pick, bool, clash, both}
 use Rattle.words.specs.Words.{Small}
 use Rattle.codec.specs.Codec.{generationLimit}
 use Rattle.model.specs.Base.{bit, nth, occurs}
-use Rattle.model.specs.State.{till, Handle, Slot, Slot.absent, Slot.vacant, Slot.reserved, Slot.transferReserved, Slot.occupied, Page, Lifecycle, Lifecycle.active, Lifecycle.tearingDown, Lifecycle.retired, Class, Class.leaf, Class.rendezvousOnly, Class.never, Stage, Stage.stillNew, Stage.nowActive, Stage.nowRetired, Entry, Entry.moved, Entry.copied, Body, Body.reservation, Body.claim, Body.parcel, Row, State, isAbsent, isVacant, generation, maxTables, maxFrames, maxObjects, maxRows, maxLimit, maxSlots, knownFlags}
+use Rattle.model.specs.State.{till, Handle, Slot, Slot.absent, Slot.vacant, Slot.reserved, Slot.transferReserved, Slot.occupied, Page, Lifecycle, Lifecycle.active, Lifecycle.tearingDown, Lifecycle.retired, Stage, Stage.stillNew, Stage.nowActive, Stage.nowRetired, Entry, Entry.moved, Entry.copied, Body, Body.reservation, Body.claim, Body.parcel, Row, State, isAbsent, isVacant, generation, maxTables, maxFrames, maxObjects, maxRows, maxLimit, maxSlots, knownFlags}
 use Rattle.model.specs.Storage.{busyOf}
 use Rattle.model.specs.Book.{find, movedOf}
 use Rattle.model.specs.Bounds.{slots-max, pages-max, batch-max, busy-small}
 use Rattle.model.specs.Tests.{bit-true, bit-small}
-use Rattle.model.specs.Counting.{bit-same, sum-le, sum-ones, sum-occurs}
+use Rattle.model.specs.Counting.{bit-same, nth-occurs, sum-le, sum-ones, sum-occurs}
 use Rattle.model.specs.WellFormed.{All, HandleRange, SlotRange, EntryRange, LifeRange, BodyRange, RowRange, IdsRise, isAttached, isReservedBy, isMovingBy, WellFormed}
 use Rattle.layout.specs.declared.Extent.{Extent}
 use Rattle.layout.specs.Regions.{region, Inside}
 use Rattle.layout.specs.Layout.{Addr, Addr.reg, In, layout}
 use Rattle.layout.specs.Sizes.{pageSize, pagesMax, slotsMax, tablesMax, framesMax, batchMax}
-use Rattle.representation.specs.Represents.{linkOf, freeIn, classWord, stageWord}
+use Rattle.representation.specs.Represents.{linkOf, freeIn, stageWord}
+use Rattle.representation.specs.Told.{class-small}
 use Rattle.representation.specs.Unique.{shapeFor}
 use Rattle.written.specs.Searches.{seek-below, after, first-member, after-member, before-member, rankOf, rank-most, place-most, moved-most}
 use Rattle.written.specs.Words.{entriesBefore, rootWords, lifeWord, cursorWord, headWords, orderOf, pageWords, tableAt, pageAt, ownerOf, positionIn, slotWords, slotOf, cellWords, objectWords, bodyWords, slotItem, entryItem, handleItem, wordsOf, itemWords, blockWords, parts, partOf, wordAt}
@@ -66,11 +67,6 @@ life-small active h = (omega arith, omega arith)
 life-small (tearingDown c) h = (omega arith, h)
 life-small retired h = (omega arith, omega arith)
 
-class-small : (c : Class) → classWord c ≤ 2
-class-small leaf = omega arith
-class-small rendezvousOnly = omega arith
-class-small never = omega arith
-
 stage-small : (g : Stage) → stageWord g ≤ 2
 stage-small stillNew = omega arith
 stage-small nowActive = omega arith
@@ -85,11 +81,6 @@ there-by p (transferReserved g i) n y = refl
 there-by p (occupied g h) n y = refl
 
 -- ---- elements by number
-
-nth-occurs : (l : List ℕ) (j k : ℕ) → nth l j ≡ some k → 0 < occurs k l
-nth-occurs [] j k e = let z : _≡_ {A = ℕ} 0 1 = cc in absurd (omega arith)
-nth-occurs (x ∷ l) zero k e = let q : x ≡ k = cc in omega (arith, bit-same k x (sym q))
-nth-occurs (x ∷ l) (suc j) k e = omega (arith, nth-occurs l j k e)
 
 nth-moved : (es : List Entry) (j k : ℕ) (h : Handle) (r : ℕ) → nth es j ≡ some (moved k h r) → 0 < occurs k (movedOf es)
 nth-moved [] j k h r e = let z : _≡_ {A = ℕ} 0 1 = cc in absurd (omega arith)

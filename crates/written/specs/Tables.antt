@@ -32,13 +32,6 @@ attached-is : (x : Option ℕ) → isSome x ≡ true → (f : ℕ) × (x ≡ som
 attached-is none e = clash e refl
 attached-is (some f) e = (f, refl)
 
-absent-is : (x : Slot) → isAbsent x ≡ true → x ≡ absent
-absent-is absent e = refl
-absent-is (vacant g) e = clash e refl
-absent-is (reserved g i) e = clash e refl
-absent-is (transferReserved g i) e = clash e refl
-absent-is (occupied g h) e = clash e refl
-
 vacant-there : (x : Slot) → isVacant x ≡ true → (g : ℕ) × (x ≡ vacant g)
 vacant-there absent e = clash e refl
 vacant-there (vacant g) e = (g, refl)

@@ -8,7 +8,7 @@ use borrow.Author.Tests.{not-true, not-false}
 use native.Mathlib.Omega.{arith}
 use Prim.Native.Nat.{_≤_, _-_}
 use mathlib.Core.Bool.{true}
-use mathlib.Core.Path.{_≡_, refl, ap}
+use mathlib.Core.Path.{_≡_, ap}
 use Rattle.counts.proofs.check_objects.Statement.{statement}
 use Rattle.counts.proofs.check_objects.Tie as tie
 use Rattle.counts.proofs.check_objects.Reads as reads

@@ -2,7 +2,6 @@ use Rattle.survey.specs.Code.{slot-bad, slot-vacant, slot-held, slot-mar
 use borrow.Author.Tests.{not-true, not-false}
 use Rattle.layout.specs.Layout.{load}
 use native.Mathlib.Omega.{arith}
-use borrow.Author.Needs.{needs}
 use Rattle.survey.proofs.slot_ok.Statement.{statement}
 use Rattle.survey.proofs.slot_ok.Tie as tie
 use Rattle.survey.proofs.slot_ok.Reads as reads

@@ -1,6 +1,5 @@
 use Rattle.layout.specs.Layout.{load}
 use Rattle.wellformed.specs.Code.{top-in, check-kept, check-answer}
-use mathlib.Core.Path.{sym}
 use Rattle.counts.specs.Used.{used-few}
 use native.Mathlib.Omega.{arith}
 use borrow.Author.Needs.{needs}

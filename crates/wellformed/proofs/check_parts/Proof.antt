@@ -2,7 +2,6 @@ use Rattle.wellformed.specs.Code.{read-no}
 use Rattle.layout.specs.Layout.{load}
 use borrow.Author.Tests.{not-true, not-false}
 use Rattle.wellformed.specs.Code.{no-outline, no-orders, no-book, quiet-all}
-use borrow.Author.Needs.{needs}
 use Rattle.wellformed.proofs.check_parts.Statement.{statement}
 use Rattle.wellformed.proofs.check_parts.Tie as tie
 use Rattle.wellformed.proofs.check_parts.Reads as reads
