@@ -23,7 +23,7 @@ pub record Item : Type 0 where
   pub offeredKind : Option ℕ
   pub expectedKind : Option ℕ
 
--- a request with its fields in the order of docs/formats.md
+-- a request with its fields by the names of docs/formats.md, not always in its order; items stand as a list, without their count
 pub data Request : Type 0 where
   newObject : (object rights flags : ℕ) → Request
   duplicate : (table value rights : ℕ) → Request

@@ -11,7 +11,7 @@ pub record Names (r : Request) : Type 0 where
   pub ids : List ℕ
   pub renamed : List ℕ → Request
   pub itself : renamed ids ≡ r
-  -- handle values, in a table (0 where it names none)
+  -- handle values, in a table (0 where it names none: then `values` is empty, so that nothing is named in table 0)
   pub table : ℕ
   pub values : List ℕ
   -- a table that it scans, starts to tear down or removes from for a stopping owner
