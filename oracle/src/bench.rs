@@ -1,15 +1,17 @@
 //! The benchmark (docs/performance.md): the Rust and the port in one run, by the same driver. Both are fed the same request words and write the
 //! same 72 answer words for each request. A call of the port checks the whole state first: its requests are timed in long lists, less the time of
 //! an empty list. The Rust's time is given as it is, and less what its driver takes to read the words of the list. A request that can't be repeated
-//! alone is timed in a cycle, and, at 64 slots, by the difference of two lists that share their first part.
+//! alone is timed in a cycle, and, at 64 slots, by the difference of two lists that share their first part. The state check is timed beside a plain
+//! read of the same words, on states that differ in which objects have handles and in how many rows are open.
 
 use std::hint::black_box;
 use std::time::Instant;
 
 use crate::c_entry::CEntry;
+use crate::generate::Rng;
 use crate::oracle::{Direct, Oracle};
 use crate::requests::*;
-use crate::state::{Slot, State};
+use crate::state::{ACTIVE, NEW, Slot, State};
 use crate::subject::{Start, Subject};
 
 const OBJECTS: u64 = 4000;
@@ -20,10 +22,40 @@ const TIMES: usize = 15;
 /// Pairs of runs for a difference, and how many times its uncertainty a difference must be to be told.
 const PAIRS: usize = 1000;
 const CLEAR: f64 = 10.0;
+/// Rows of the state that is checked with as many open.
+const OPEN: u64 = 64;
 
-/// The state of a table of so many pages, each slot of which is occupied by a handle of object 0, but for `free` slots of the last page.
-fn filled(pages: u64, free: u64, spare: u64) -> (Direct, Vec<u64>) {
-    let mut params = vec![1, pages + spare, OBJECTS, ROWS, pages + spare, 0];
+/// What is printed and how much is measured: all that docs/performance.md has or, where `short`, a few rows at 64 slots with few runs, which takes seconds and shows that the
+/// benchmark runs, not how fast anything is.
+#[derive(Clone, Copy)]
+pub struct Settings {
+    pub markdown: bool,
+    pub short: bool,
+}
+
+impl Settings {
+    fn pages(self) -> &'static [u64] {
+        if self.short { &[1] } else { &[1, 64, 4096] }
+    }
+    fn long(self) -> usize {
+        if self.short { LONG / 50 } else { LONG }
+    }
+    fn times(self) -> usize {
+        if self.short { 3 } else { TIMES }
+    }
+    fn pairs(self) -> usize {
+        if self.short { PAIRS / 5 } else { PAIRS }
+    }
+    /// Rows of a table that has so many.
+    fn rows(self, many: usize) -> usize {
+        if self.short { many.min(2) } else { many }
+    }
+}
+
+/// The state of a table of so many pages, each slot of which is occupied by a handle of object 0, but for `free` slots of the last page; so many rows are open afterwards, each
+/// a parcel of one more handle.
+fn filled(pages: u64, free: u64, spare: u64, rows: u64, open: u64) -> (Direct, Vec<u64>) {
+    let mut params = vec![1, pages + spare, OBJECTS, rows, pages + spare, 0];
     for number in 0..OBJECTS {
         params.extend([1000 + number, 7, 0, u64::MAX, 1, u64::from(u32::MAX)]);
     }
@@ -48,7 +80,39 @@ fn filled(pages: u64, free: u64, spare: u64) -> (Direct, Vec<u64>) {
         ask(publish(row, &parcels));
         left -= now;
     }
+    for _ in 0..open {
+        ask(duplicate(0, first, u64::MAX));
+    }
     (rust, vec![first])
+}
+
+/// A state's words, by the text that the Rust shows.
+fn shown(mut rust: Direct) -> (State, Vec<u64>) {
+    let text = rust.text().expect("the Rust shows its state");
+    rust.end();
+    let state = crate::state::parse(&text).expect("its own text");
+    let words = crate::words::encode(&state);
+    (state, words)
+}
+
+/// The same state with other objects in its slots: the handle found as number n is of object `of(n)`. No row may be open.
+fn spread(state: &State, mut of: impl FnMut(u64) -> u64) -> Vec<u64> {
+    let mut state = state.clone();
+    assert!(state.rows.is_empty());
+    let mut counts = vec![0; state.objects.len()];
+    let mut number = 0;
+    for slot in state.tables.iter_mut().flat_map(|table| &mut table.pages).flat_map(|page| &mut page.slots) {
+        if let Slot::Occupied(_, handle) = slot {
+            handle.object = of(number);
+            counts[handle.object as usize] += 1;
+            number += 1;
+        }
+    }
+    for (object, count) in state.objects.iter_mut().zip(counts) {
+        object.count = count;
+        object.state = if count == 0 { NEW } else { ACTIVE };
+    }
+    crate::words::encode(&state)
 }
 
 /// The values of a table's handles, mask 0.
@@ -64,16 +128,31 @@ fn handles(state: &State) -> Vec<u64> {
     values
 }
 
-/// A plain read: the sum of the words. A function of its own, so that its code does not depend on what stands around the call.
+/// Words that the plain read takes in one turn of its loop, and the sums that they are added to in turn.
+const TURN: usize = 64;
+const SUMS: usize = 8;
+
+/// A plain read: the sum of the words. A function of its own, so that its code does not depend on what stands around the call. A short loop takes up to twice as long where the
+/// linker puts it across a line of 64 bytes. So the loop is unrolled by hand: a turn is several lines of code wherever it begins, and its time does not depend on where that is.
 #[inline(never)]
 fn plain_read(words: &[u64]) -> u64 {
-    words.iter().fold(0, |sum, word| sum.wrapping_add(*word))
+    let mut sums = [0u64; SUMS];
+    let turns = words.chunks_exact(TURN);
+    let rest = turns.remainder().iter().fold(0u64, |sum, word| sum.wrapping_add(*word));
+    for turn in turns {
+        for part in turn.chunks_exact(SUMS) {
+            for (sum, word) in sums.iter_mut().zip(part) {
+                *sum = sum.wrapping_add(*word);
+            }
+        }
+    }
+    sums.iter().fold(rest, |sum, word| sum.wrapping_add(*word))
 }
 
 /// The median of some runs, in nanoseconds: of more runs where they are short.
-fn median(mut run: impl FnMut() -> f64) -> f64 {
+fn median(times: usize, mut run: impl FnMut() -> f64) -> f64 {
     let first = run();
-    let runs = if first < 200_000.0 { 20 * TIMES } else { TIMES };
+    let runs = if first < 200_000.0 { 20 * times } else { times };
     let mut times: Vec<f64> = (1..runs).map(|_| run()).chain([first]).collect();
     times.sort_by(f64::total_cmp);
     times[runs / 2]
@@ -132,6 +211,9 @@ impl Table {
         let above = |bound: f64, pick: fn(&(f64, f64)) -> f64| self.ratios.iter().filter(|row| pick(row) > bound).count();
         let many = self.ratios.len();
         println!("\n{what}: {many} rows");
+        if many == 0 {
+            return;
+        }
         println!("- with the driver: {}; above 1.0: {} of {many}", of(|row| row.0), above(1.0, |row| row.0));
         println!("- less words: {}; above 1.5: {} of {many}", of(|row| row.1), above(1.5, |row| row.1));
         self.ratios.clear();
@@ -181,10 +263,10 @@ fn split(start: &Start, value: u64, name: &'static str, first: &[(usize, Make)],
 }
 
 /// The median of paired differences, in nanoseconds, and its uncertainty (from the spread of the middle half).
-fn difference(mut pair: impl FnMut() -> f64) -> (f64, f64) {
-    let mut times: Vec<f64> = (0..PAIRS).map(|_| pair()).collect();
+fn difference(pairs: usize, mut pair: impl FnMut() -> f64) -> (f64, f64) {
+    let mut times: Vec<f64> = (0..pairs).map(|_| pair()).collect();
     times.sort_by(f64::total_cmp);
-    (times[PAIRS / 2], 0.93 * (times[PAIRS * 3 / 4] - times[PAIRS / 4]) / (PAIRS as f64).sqrt())
+    (times[pairs / 2], 0.93 * (times[pairs * 3 / 4] - times[pairs / 4]) / (pairs as f64).sqrt())
 }
 
 /// A number with commas between its thousands.
@@ -195,7 +277,7 @@ fn spaced(number: f64) -> String {
 }
 
 /// One row by difference.
-fn tell(table: &mut Table, slots: u64, start: &Start, words: &[u64], this: &Split) {
+fn tell(settings: Settings, table: &mut Table, slots: u64, start: &Start, words: &[u64], this: &Split) {
     let tail = (this.counts.1 - this.counts.0) as f64;
     let mut wanted = vec![0u64; this.counts.1 * ANSWER];
     let mut answers = wanted.clone();
@@ -209,7 +291,7 @@ fn tell(table: &mut Table, slots: u64, start: &Start, words: &[u64], this: &Spli
         rust.end();
         time
     };
-    let rust = difference(|| {
+    let rust = difference(settings.pairs(), || {
         let head = rust_run(&this.head, this.counts.0);
         rust_run(&this.whole, this.counts.1) - head
     });
@@ -218,7 +300,7 @@ fn tell(table: &mut Table, slots: u64, start: &Start, words: &[u64], this: &Spli
         black_box(read_list(black_box(list)).map(|list| list.len()));
         from.elapsed().as_nanos() as f64
     };
-    let reading = difference(|| {
+    let reading = difference(settings.pairs(), || {
         let head = read_run(&this.head);
         read_run(&this.whole) - head
     });
@@ -231,7 +313,7 @@ fn tell(table: &mut Table, slots: u64, start: &Start, words: &[u64], this: &Spli
         assert_eq!(result, 0);
         time
     };
-    let ported = difference(|| {
+    let ported = difference(settings.pairs(), || {
         let head = port_run(&this.head, this.counts.0);
         port_run(&this.whole, this.counts.1) - head
     });
@@ -245,7 +327,7 @@ fn tell(table: &mut Table, slots: u64, start: &Start, words: &[u64], this: &Spli
 }
 
 /// The requests of a small table one by one. A list opens at most as many rows as there are.
-fn differences(table: &mut Table, slots: u64, start: &Start, words: &[u64], handles: &[u64]) {
+fn differences(settings: Settings, table: &mut Table, slots: u64, start: &Start, words: &[u64], handles: &[u64]) {
     let first = handles[0];
     let rows = ROWS as usize;
     let half = rows / 2;
@@ -290,57 +372,83 @@ fn differences(table: &mut Table, slots: u64, start: &Start, words: &[u64], hand
             (2, &|_, _| take_page(0)),
         ),
     ];
-    for this in &all {
-        tell(table, slots, start, words, this);
+    for this in &all[..settings.rows(all.len())] {
+        tell(settings, table, slots, start, words, this);
     }
 }
 
+/// The state check of some words beside a plain read of them.
+struct Checked {
+    words: usize,
+    /// What the state has that others of its size have not.
+    state: &'static str,
+    check: f64,
+    read: f64,
+}
+
+fn checked(settings: Settings, words: &[u64], state: &'static str) -> Checked {
+    let mut port = CEntry::of_the_port();
+    let check = median(settings.times(), || {
+        let mut state = words.to_vec();
+        let from = Instant::now();
+        let result = port.bare(&mut state, &[], &mut []);
+        let time = from.elapsed().as_nanos() as f64;
+        assert_eq!(result, 0, "the state is not well formed");
+        time
+    });
+    let read = median(settings.times(), || {
+        let state = words.to_vec();
+        let from = Instant::now();
+        black_box(plain_read(black_box(&state)));
+        from.elapsed().as_nanos() as f64
+    });
+    Checked { words: words.len(), state, check, read }
+}
+
 /// The benchmark; with `markdown` its tables are as docs/performance.md has them.
-pub fn run(markdown: bool) {
+pub fn run(settings: Settings) {
     let mut oracle = Oracle::default();
-    if let Some(place) = oracle.work(move |_| measure(markdown)) {
+    if let Some(place) = oracle.work(move |_| measure(settings)) {
         println!("the Rust stopped at {}:{}", place.file, place.line);
     }
 }
 
-fn measure(markdown: bool) {
+fn measure(settings: Settings) {
+    let (markdown, long) = (settings.markdown, settings.long());
     let mut table = Table { markdown, ratios: Vec::new() };
     let mut checks = Vec::new();
     table.head("requests");
     let mut small = None;
-    for pages in [1u64, 64, 4096] {
-        let (mut rust, values) = filled(pages, 16.min(pages * 64 - 2), 2);
+    for &pages in settings.pages() {
+        let (rust, values) = filled(pages, 16.min(pages * 64 - 2), 2, ROWS, 0);
         let first = values[0];
-        let text = rust.text().expect("the Rust shows its state");
-        rust.end();
-        let words = crate::words::encode(&crate::state::parse(&text).expect("its own text"));
+        let (state, words) = shown(rust);
         let start = Start::Words(words.clone());
-        let state = crate::state::parse(&text).expect("its own text");
         let handles = handles(&state);
         // The lists: one request over and over, or a cycle that leaves as many handles in the table as it had.
-        let one = |request: Request| list_of(&start, LONG, move |_, _| request.clone());
+        let one = |request: Request| list_of(&start, long, move |_, _| request.clone());
         let mut lists: Vec<(String, f64, (Vec<u64>, usize))> = vec![
             ("get_info".to_string(), 1.0, one(get_info(0, first))),
             ("resolve".to_string(), 1.0, one(resolve(0, first, 1, 7))),
             ("scan_handles, 8 entries".to_string(), 1.0, one(scan(0, 0))),
             ("retire object".to_string(), 1.0, one(retire(OBJECTS - 1))),
-            ("replace".to_string(), 1.0, list_of(&start, LONG, |at, answers| replace(0, if at == 0 { first } else { answers[at - 1][1] }, u64::MAX))),
-            ("reserve 1, abort".to_string(), 2.0, list_of(&start, LONG, |at, answers| if at % 2 == 0 { reserve(0, 1) } else { abort(answers[at - 1][1]) })),
-            ("reserve 16, abort".to_string(), 2.0, list_of(&start, LONG, |at, answers| if at % 2 == 0 { reserve(0, 16) } else { abort(answers[at - 1][1]) })),
+            ("replace".to_string(), 1.0, list_of(&start, long, |at, answers| replace(0, if at == 0 { first } else { answers[at - 1][1] }, u64::MAX))),
+            ("reserve 1, abort".to_string(), 2.0, list_of(&start, long, |at, answers| if at % 2 == 0 { reserve(0, 1) } else { abort(answers[at - 1][1]) })),
+            ("reserve 16, abort".to_string(), 2.0, list_of(&start, long, |at, answers| if at % 2 == 0 { reserve(0, 16) } else { abort(answers[at - 1][1]) })),
             (
                 "reserve 2, trim to 1, abort".to_string(),
                 3.0,
-                list_of(&start, LONG / 3 * 3, |at, answers| match at % 3 {
+                list_of(&start, long / 3 * 3, |at, answers| match at % 3 {
                     0 => reserve(0, 2),
                     1 => trim(answers[at - 1][1], 1),
                     _ => abort(answers[at - 2][1]),
                 }),
             ),
-            ("duplicate, release parcel".to_string(), 2.0, list_of(&start, LONG, |at, answers| if at % 2 == 0 { duplicate(0, first, 1) } else { release(answers[at - 1][1]) })),
+            ("duplicate, release parcel".to_string(), 2.0, list_of(&start, long, |at, answers| if at % 2 == 0 { duplicate(0, first, 1) } else { release(answers[at - 1][1]) })),
             (
                 "duplicate, reserve 1, publish, close".to_string(),
                 4.0,
-                list_of(&start, LONG, |at, answers| match at % 4 {
+                list_of(&start, long, |at, answers| match at % 4 {
                     0 => duplicate(0, first, 1),
                     1 => reserve(0, 1),
                     2 => publish(answers[at - 1][1], &[answers[at - 2][1]]),
@@ -352,7 +460,7 @@ fn measure(markdown: bool) {
             (
                 "reserve 17 (a page more), abort, take_empty_page".to_string(),
                 3.0,
-                list_of(&start, LONG / 3 * 3, |at, answers| match at % 3 {
+                list_of(&start, long / 3 * 3, |at, answers| match at % 3 {
                     0 => reserve(0, 17),
                     1 => abort(answers[at - 1][1]),
                     _ => take_page(0),
@@ -360,18 +468,18 @@ fn measure(markdown: bool) {
             ),
         ];
         for count in [1, 8, 64.min(handles.len())] {
-            let (long, held) = (LONG / (2 * count) + 2, handles[..count].to_vec());
+            let (turns, held) = (long / (2 * count) + 2, handles[..count].to_vec());
             let claim = |operation: u64, values: &[u64]| transfer(0, 0, values.iter().map(|value| item(operation, *value, u64::MAX)).collect());
             let given = |answer: &[u64; ANSWER]| answer[3..3 + count].to_vec();
             lists.push((
                 format!("prepare a transfer of {count}, rollback"),
                 2.0,
-                list_of(&start, 2 * long, |at, answers| if at % 2 == 0 { claim(0, &held) } else { rollback(answers[at - 1][1]) }),
+                list_of(&start, 2 * turns, |at, answers| if at % 2 == 0 { claim(0, &held) } else { rollback(answers[at - 1][1]) }),
             ));
             lists.push((
                 format!("prepare copies of {count}, commit, release parcel"),
                 3.0,
-                list_of(&start, 3 * long, |at, answers| match at % 3 {
+                list_of(&start, 3 * turns, |at, answers| match at % 3 {
                     0 => claim(1, &held),
                     1 => commit(answers[at - 1][1]),
                     _ => release(answers[at - 2][1]),
@@ -380,7 +488,7 @@ fn measure(markdown: bool) {
             lists.push((
                 format!("prepare {count}, commit, reserve {count}, publish"),
                 4.0,
-                list_of(&start, 4 * long, |at, answers| match at % 4 {
+                list_of(&start, 4 * turns, |at, answers| match at % 4 {
                     0 => claim(0, &if at == 0 { held.clone() } else { given(&answers[at - 2]) }),
                     1 => commit(answers[at - 1][1]),
                     2 => reserve(0, count as u64),
@@ -390,7 +498,7 @@ fn measure(markdown: bool) {
             lists.push((
                 format!("reserve {count}, prepare {count}, direct commit"),
                 3.0,
-                list_of(&start, 3 * long, |at, answers| match at % 3 {
+                list_of(&start, 3 * turns, |at, answers| match at % 3 {
                     0 => reserve(0, count as u64),
                     1 => claim(0, &if at == 1 { held.clone() } else { given(&answers[at - 4]) }),
                     _ => direct_commit(answers[at - 1][1], answers[at - 2][1]),
@@ -400,11 +508,11 @@ fn measure(markdown: bool) {
         lists.push((
             "prepare consumption, rollback".to_string(),
             2.0,
-            list_of(&start, LONG, |at, answers| if at % 2 == 0 { consume(0, first, 1, 7, 1000) } else { rollback(answers[at - 1][1]) }),
+            list_of(&start, long, |at, answers| if at % 2 == 0 { consume(0, first, 1, 7, 1000) } else { rollback(answers[at - 1][1]) }),
         ));
         // These can't be repeated: one walk over the table's handles, at most some number of them, from the same state in each run. A walk over few handles takes less time
         // than the check of the state before it, so that its time can't be told.
-        let walk = handles.len().min(LONG);
+        let walk = handles.len().min(long);
         if walk >= 1000 {
             lists.push((
                 format!("remove_stopping_owner, each of {walk}"),
@@ -423,11 +531,12 @@ fn measure(markdown: bool) {
                 }),
             ));
         }
-        for (name, cycle, (list, count)) in lists.drain(..) {
+        lists.truncate(settings.rows(lists.len()));
+        for (name, cycle, (list, count)) in lists {
             let mut answers = vec![0u64; count * ANSWER];
             let mut wanted = vec![0u64; count * ANSWER];
             // The Rust.
-            let rust_time = median(|| {
+            let rust_time = median(settings.times(), || {
                 let mut rust = Direct::default();
                 assert_eq!(rust.start(&start), 0);
                 let from = Instant::now();
@@ -437,7 +546,7 @@ fn measure(markdown: bool) {
                 rust.end();
                 time
             });
-            let reading = median(|| {
+            let reading = median(settings.times(), || {
                 let from = Instant::now();
                 black_box(read_list(black_box(&list)).map(|list| list.len()));
                 from.elapsed().as_nanos() as f64
@@ -445,7 +554,7 @@ fn measure(markdown: bool) {
             // The port.
             let mut port = CEntry::of_the_port();
             let mut timed = |list: &[u64], answers: &mut [u64]| {
-                median(|| {
+                median(settings.times(), || {
                     let mut state = words.clone();
                     let from = Instant::now();
                     let result = port.bare(&mut state, black_box(list), answers);
@@ -461,23 +570,15 @@ fn measure(markdown: bool) {
             let (port_ns, rust_ns, less_ns) = (each(whole - check), each(rust_time), each(rust_time - reading));
             table.row(pages * 64, &name, port_ns, rust_ns, less_ns);
         }
-        // The state check beside a plain read of the same words.
-        let mut port = CEntry::of_the_port();
-        let check = median(|| {
-            let mut state = words.clone();
-            let from = Instant::now();
-            let result = port.bare(&mut state, &[], &mut []);
-            let time = from.elapsed().as_nanos() as f64;
-            assert_eq!(result, 0);
-            time
-        });
-        let read = median(|| {
-            let state = words.clone();
-            let from = Instant::now();
-            black_box(plain_read(black_box(&state)));
-            from.elapsed().as_nanos() as f64
-        });
-        checks.push((words.len(), check, read));
+        // The state check, and at 64 pages the same with other objects and with open rows.
+        checks.push(checked(settings, &words, ""));
+        if pages == 64 {
+            let mut random = Rng::new(1);
+            checks.push(checked(settings, &spread(&state, |number| number % OBJECTS), "handles of all objects in turn"));
+            checks.push(checked(settings, &spread(&state, |_| random.below(OBJECTS)), "each handle of a random object"));
+            let (_, open) = shown(filled(pages, 16, 2, OPEN, OPEN).0);
+            checks.push(checked(settings, &open, "64 rows open, parcels of one handle"));
+        }
         small.get_or_insert((start, words, handles));
     }
     table.sum("Requests and cycles");
@@ -486,17 +587,18 @@ fn measure(markdown: bool) {
     }
     let (start, words, handles) = small.expect("the smallest table");
     table.head("one request, by difference");
-    differences(&mut table, 64, &start, &words, &handles);
+    differences(settings, &mut table, 64, &start, &words, &handles);
     table.sum("By difference");
     println!();
     if markdown {
         println!("| words | check | plain read | ratio |\n|---|---|---|---|");
     }
-    for (many, check, read) in checks {
+    for Checked { words, state, check, read } in checks {
+        let told = if state.is_empty() { String::new() } else { format!(", {state}") };
         if markdown {
-            println!("| {} | {} ns | {} ns | {:.2} |", spaced(many as f64), spaced(check), spaced(read), check / read);
+            println!("| {}{told} | {} ns | {} ns | {:.2} |", spaced(words as f64), spaced(check), spaced(read), check / read);
         } else {
-            println!("state check of {many} words: {check:.0} ns; a plain read of them {read:.0} ns; ratio {:.2}", check / read);
+            println!("state check of {words} words{told}: {check:.0} ns; a plain read of them {read:.0} ns; ratio {:.2}", check / read);
         }
     }
 }

@@ -21,7 +21,8 @@ const HELP: &str = "usage: oracle COMMAND
   held [SEED PAIRS]           the held and the plain run (demand 3) on the Rust
   held-entry [SEED PAIRS]     the same on the reading behind the C entry's words, and on wrong readings: a test of the comparison
   held-port [SEED PAIRS]      the same on the port, through its C entry; coverage table
-  bench [--markdown]          the benchmark: the Rust and the port in one run (docs/performance.md)
+  bench [--markdown] [--short]
+                              the benchmark: the Rust and the port in one run (docs/performance.md); --short: a few rows and runs, to see that it runs
   record DIR                  write the recorded lists, from the Rust
   same DIR                    make the recorded lists again and compare them with the files, byte for byte
   replay DIR [rust|port]      replay the recorded lists on the reading, on the Rust or on the port
@@ -66,8 +67,7 @@ fn main() -> ExitCode {
         ["port", seed, requests] => {
             number(seed).and_then(|seed| number(requests).and_then(|requests| port(&mut tally, seed, requests)))
         }
-        ["bench"] => bench(false),
-        ["bench", "--markdown"] => bench(true),
+        ["bench", flags @ ..] if flags.iter().all(|flag| ["--markdown", "--short"].contains(flag)) => bench(flags.contains(&"--markdown"), flags.contains(&"--short")),
         ["record", dir] => record(Path::new(dir)),
         ["same", dir] => same(&mut tally, Path::new(dir)),
         ["replay", dir] => replay(&mut tally, Path::new(dir), Replayed::Reading),
@@ -219,16 +219,16 @@ fn port(_tally: &mut Tally, _seed: u64, _requests: u64) -> Result<(), String> {
 }
 
 #[cfg(all(rust_sources, port))]
-fn bench(markdown: bool) -> Result<(), String> {
-    oracle::bench::run(markdown);
+fn bench(markdown: bool, short: bool) -> Result<(), String> {
+    oracle::bench::run(oracle::bench::Settings { markdown, short });
     Ok(())
 }
 #[cfg(all(not(rust_sources), port))]
-fn bench(_markdown: bool) -> Result<(), String> {
+fn bench(_markdown: bool, _short: bool) -> Result<(), String> {
     missing()
 }
 #[cfg(not(port))]
-fn bench(_markdown: bool) -> Result<(), String> {
+fn bench(_markdown: bool, _short: bool) -> Result<(), String> {
     portless()
 }
 
