@@ -1,7 +1,7 @@
 #!/usr/bin/env python3
 """docs/map.md: the crates in layers, the way of one request and the way of one proof through them, drawn from crates.txt and the sources.
 
-  map.py                fails if docs/map.md is not what would be drawn now, or if a step of the proof's way is not there
+  map.py                fails if docs/map.md is not what would be drawn now, if a step of the proof's way is not there, or if the lines of crates.txt do not stand by level
   map.py --write        writes docs/map.md
   map.py --above NAME   the crates that an edit of NAME proves again
 
@@ -18,7 +18,7 @@ from viewer.crates import above, below, dependencies  # noqa: E402
 
 PAGE = root / "docs" / "map.md"
 DEPS = dependencies()
-START, OP, FOLLOWED = ("runner", "gurtxozal_run"), "serve_close", ("runner", "close")  # the request whose way is drawn, and the crates whose functions are followed
+START, OP, FOLLOWED = ("runner", "gurtxozal_run"), "serve_close", ("runner", "serve", "close")  # the request whose way is drawn, and the crates whose functions are followed
 SMALL = ("words", "layout")  # reads of lent words: left out of the way, but for what START calls
 
 # The way of the proof: file, name that stands there, what it says, and a name that the file must have
@@ -26,9 +26,9 @@ PROOF = [
     ("model/specs/Step.antt", "step", "the definition: the state that a request leaves, and its answer", None),
     ("close/src/lib.rt", "close", "the code's contract: it leaves the words that `closeR` gives", "closeR"),
     ("close/specs/Close.antt", "close-does", "words that represent a state come out as words that represent the state after `step`, with its answer", "closeR"),
-    ("runner/specs/Steps.antt", "steps", "so do those of each of the requests, by their op", "close-does"),
+    ("serve/specs/Steps.antt", "steps", "so do those of each of the requests, by their op", "close-does"),
     ("contract/specs/Call.antt", "run-meets", "if each request does, the whole call does what `Meets` says", "Meets"),
-    ("runner/specs/Steps.antt", "run-both", "it is applied to the requests, to the state check and to the reading of the list", "run-meets"),
+    ("runner/specs/Both.antt", "run-both", "it is applied to the requests, to the state check and to the reading of the list", "run-meets"),
     ("runner/src/lib.rt", "gurtxozal_run", "the call's contract: its clause `meets` is `Meets`, of any words", "Meets"),
     ("promises/specs/Demand1.antt", "demand-1", "from `Meets`: the call's result, and what a refusal leaves", "Meets"),
     ("promises/specs/Demand2.antt", "demand-2", "from `Meets`: answers and state are those of the steps", "Meets"),
@@ -99,7 +99,7 @@ def way(at=START, depth=0):
     yield "  " * depth + "::".join(at), FUNCTIONS[at][0]
     if at[0] in FOLLOWED or at == ("lookup", "open_handle") or at == ("lookup", "open_value"):
         for to in calls(at):
-            if (at != ("runner", "serve") or to[1] == OP) and (to[0] not in SMALL or at == START):
+            if (at != ("serve", "serve") or to[1] == OP) and (to[0] not in SMALL or at == START):
                 yield from way(to, depth + 1)
 
 
@@ -108,7 +108,8 @@ def columns(rows):
     return [(row[0].ljust(width) + row[1]).rstrip() for row in rows]
 
 
-def layers():
+def levels():
+    """The level of each crate: one more than the highest of those that it builds on."""
     level = {}
 
     def of(name):
@@ -118,6 +119,18 @@ def layers():
 
     for name in DEPS:
         of(name)
+    return level
+
+
+def unordered():
+    """The crates whose line in crates.txt stands below one of a higher level."""
+    level = levels()
+    names = list(DEPS)
+    return [f"crates.txt: {b} (level {level[b]}) stands below {a} (level {level[a]})" for a, b in zip(names, names[1:]) if level[b] < level[a]]
+
+
+def layers():
+    level = levels()
     shown = lambda n: n + ("*" if source(n).name == "main.rt" else "")
     coded = lambda n: any(crate == n for crate, _ in FUNCTIONS)
     rows = [("", "what is said: definitions and theorems, no code", "what runs: code with its contracts and proofs")]
@@ -200,7 +213,7 @@ def main():
     if words not in ([], ["--write"]):
         print(__doc__.strip(), file=sys.stderr)
         return 2
-    faults = steps()[1]
+    faults = steps()[1] + unordered()
     if words:
         PAGE.write_text(page())
     elif not PAGE.is_file() or PAGE.read_text() != page():

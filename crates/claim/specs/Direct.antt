@@ -41,7 +41,7 @@ use Rattle.book.specs.Close.{close-held, close-other, ids-places}
 use Rattle.book.specs.Vacated.{with-table-at as table-at}
 use Rattle.answer.specs.Does.{Both, Does, does-refused, does-accepted}
 use Rattle.book.specs.Found.{Open}
-use Rattle.reserve.specs.Ends.{abort-does}
+use Rattle.claim.specs.Ends.{abort-does}
 use Rattle.book.specs.Keeps.{Keeps, keeps-then, bare-given}
 use Rattle.claim.specs.Ops.{rolledW, leftW, filledW, directW, directCommitR, directRollbackR}
 use Rattle.claim.specs.Found.{Claimed, own}

@@ -1,3 +1,6 @@
+pub mod EndsOps
+pub mod EndsCode
+pub mod Ends
 pub mod Ops
 pub mod Code
 pub mod Found

@@ -12,7 +12,7 @@ use Rattle.storage.specs.Ops.{vacateW, occupyW}
 use Rattle.object.specs.Words.{lowerW}
 use Rattle.book.specs.Ops.{kindLink, reservationLink, closeW}
 use Rattle.answer.specs.Does.{Both, both, answered, refuseR, onRowR}
-use Rattle.reserve.specs.Ops.{abortR}
+use Rattle.claim.specs.EndsOps.{abortR}
 
 -- the open claim with an id: its place plus 1, 0 if there is none
 abbrev pub claimLink : Mem → Shape → ℕ → ℕ

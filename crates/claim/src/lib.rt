@@ -2,16 +2,72 @@
 // SPDX-License-Identifier: Apache-2.0
 // Ported from src/capability/handle/mod.rs of HypeR-Proj/kernel, with changes.
 
-// The requests that end a claim: rollback, commit, direct commit and direct rollback.
+// The requests that end or shorten a row: trim and abort of a reservation; rollback, commit, direct commit and direct rollback of a claim.
 ghost use mathlib.Core.Path.{_≡_};
 ghost use Rattle.layout.specs.Layout.{load as loadAt};
 ghost use Rattle.answer.specs.Does.{both};
+ghost use Rattle.claim.specs.EndsOps.{abortedW, trimmedW, abortR, trimR};
 ghost use Rattle.claim.specs.Ops.{claimLink, undoW, undoneW, rolledW, rollbackR, sentRights, leaveW, leftW, sendW, sentW, committedW, commitR};
 ghost use Rattle.claim.specs.Ops.{paired, filledW, directW, directCommitR, directRollbackR};
 use codec::ReservationId;
 use layout::Shape;
 use layout::field;
 use layout::value;
+
+// The reservation in place x ends: its slots fall vacant and its row leaves.
+fn abort_row(s: &mut [u64], sh: Shape, x: u64)
+    ensures words { λ _. ⌜ now (s .exit) ≡ abortedW (now (s .entry)) sh x ⌝ }
+{
+    let b = layout::row_word(s, sh, x, field::ROW_TABLE);
+    let n = layout::row_word(s, sh, x, field::ROW_LENGTH);
+    book::vacate_items(s, sh, b, x, 0, n);
+    book::close_row(s, sh, x);
+}
+
+// "Closing, aborting, trimming and committing put slots at the head of the free order, one by one in list order".
+pub fn abort(s: &mut [u64], sh: Shape, id: ReservationId, out: &mut [u64], base: usize)
+    ensures { λ _. ⌜ both (now (s .exit)) (now (out .exit)) ≡ abortR (now (s .entry)) (now (out .entry)) sh base (id .0) ⌝ }
+{
+    let link = book::reservation_of(s, sh, id);
+    if words::eq(link, 0) {
+        answer::refuse(out, base, format::refusal::MISUSE);
+        return;
+    }
+    abort_row(s, sh, words::dec(link));
+    answer::say(out, base);
+}
+
+// The reservation in place x keeps its first n slots.
+fn trim_row(s: &mut [u64], sh: Shape, x: u64, n: u64)
+    ensures words { λ _. ⌜ now (s .exit) ≡ trimmedW (now (s .entry)) sh x n ⌝ }
+{
+    let b = layout::row_word(s, sh, x, field::ROW_TABLE);
+    let count = layout::row_word(s, sh, x, field::ROW_LENGTH);
+    book::vacate_items(s, sh, b, x, n, count);
+    book::shrink_row(s, sh, x, n);
+}
+
+// "trim to 0 or above the batch": 18.
+pub fn trim(s: &mut [u64], sh: Shape, id: ReservationId, n: u64, out: &mut [u64], base: usize)
+    ensures { λ _. ⌜ both (now (s .exit)) (now (out .exit)) ≡ trimR (now (s .entry)) (now (out .entry)) sh base (id .0) n ⌝ }
+{
+    let link = book::reservation_of(s, sh, id);
+    if words::eq(link, 0) {
+        answer::refuse(out, base, format::refusal::MISUSE);
+        return;
+    }
+    let x = words::dec(link);
+    if words::eq(n, 0) {
+        answer::refuse(out, base, format::refusal::MISUSE);
+        return;
+    }
+    if words::lt(layout::row_word(s, sh, x, field::ROW_LENGTH), n) {
+        answer::refuse(out, base, format::refusal::MISUSE);
+        return;
+    }
+    trim_row(s, sh, x, n);
+    answer::say(out, base);
+}
 
 // The place of the open claim with an id, plus 1; 0 if there is none.
 pub fn claim_of(s: &[u64], sh: Shape, id: ReservationId) -> u64
@@ -244,7 +300,7 @@ pub fn direct_rollback(
     let k = book::reservation_of(s, sh, destination);
     if paired(s, sh, l, k) {
         rollback_row(s, sh, words::dec(l));
-        reserve::abort(s, sh, destination, out, base);
+        abort(s, sh, destination, out, base);
         return;
     }
     answer::refuse(out, base, format::refusal::MISUSE);

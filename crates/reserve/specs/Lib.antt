@@ -1,7 +1,5 @@
 pub mod Ops
 pub mod Tables
-pub mod Ends
-pub mod Code
 pub mod Listed
 pub mod Taken
 pub mod Batch

@@ -2,75 +2,19 @@
 // SPDX-License-Identifier: Apache-2.0
 // Ported from src/capability/handle/mod.rs of HypeR-Proj/kernel, with changes.
 
-// The requests on reservations: reserve, trim and abort.
+// The request that opens a reservation: reserve.
 ghost use mathlib.Core.Path.{_≡_};
 ghost use Prim.Native.Nat.{min};
 ghost use Rattle.layout.specs.Layout.{load as loadAt};
 ghost use Rattle.layout.specs.Sizes.{batchMax};
 ghost use Rattle.request.specs.Answers.{puts};
 ghost use Rattle.answer.specs.Does.{both, answered};
-ghost use Rattle.reserve.specs.Ops.{abortedW, trimmedW, abortR, trimR, batchRefusal, roomRefusal, listedW, listW, takenW, batchW, valuesAt, batchWords, openR, reserveR};
+ghost use Rattle.reserve.specs.Ops.{batchRefusal, roomRefusal, listedW, listW, takenW, batchW, valuesAt, batchWords, openR, reserveR};
 use codec::HandleCodec;
-use codec::ReservationId;
 use layout::Shape;
 use layout::field;
 use layout::size;
 use layout::value;
-
-// The reservation in place x ends: its slots fall vacant and its row leaves.
-fn abort_row(s: &mut [u64], sh: Shape, x: u64)
-    ensures words { λ _. ⌜ now (s .exit) ≡ abortedW (now (s .entry)) sh x ⌝ }
-{
-    let b = layout::row_word(s, sh, x, field::ROW_TABLE);
-    let n = layout::row_word(s, sh, x, field::ROW_LENGTH);
-    book::vacate_items(s, sh, b, x, 0, n);
-    book::close_row(s, sh, x);
-}
-
-// "Closing, aborting, trimming and committing put slots at the head of the free order, one by one in list order".
-pub fn abort(s: &mut [u64], sh: Shape, id: ReservationId, out: &mut [u64], base: usize)
-    ensures { λ _. ⌜ both (now (s .exit)) (now (out .exit)) ≡ abortR (now (s .entry)) (now (out .entry)) sh base (id .0) ⌝ }
-{
-    let link = book::reservation_of(s, sh, id);
-    if words::eq(link, 0) {
-        answer::refuse(out, base, format::refusal::MISUSE);
-        return;
-    }
-    abort_row(s, sh, words::dec(link));
-    answer::say(out, base);
-}
-
-// The reservation in place x keeps its first n slots.
-fn trim_row(s: &mut [u64], sh: Shape, x: u64, n: u64)
-    ensures words { λ _. ⌜ now (s .exit) ≡ trimmedW (now (s .entry)) sh x n ⌝ }
-{
-    let b = layout::row_word(s, sh, x, field::ROW_TABLE);
-    let count = layout::row_word(s, sh, x, field::ROW_LENGTH);
-    book::vacate_items(s, sh, b, x, n, count);
-    book::shrink_row(s, sh, x, n);
-}
-
-// "trim to 0 or above the batch": 18.
-pub fn trim(s: &mut [u64], sh: Shape, id: ReservationId, n: u64, out: &mut [u64], base: usize)
-    ensures { λ _. ⌜ both (now (s .exit)) (now (out .exit)) ≡ trimR (now (s .entry)) (now (out .entry)) sh base (id .0) n ⌝ }
-{
-    let link = book::reservation_of(s, sh, id);
-    if words::eq(link, 0) {
-        answer::refuse(out, base, format::refusal::MISUSE);
-        return;
-    }
-    let x = words::dec(link);
-    if words::eq(n, 0) {
-        answer::refuse(out, base, format::refusal::MISUSE);
-        return;
-    }
-    if words::lt(layout::row_word(s, sh, x, field::ROW_LENGTH), n) {
-        answer::refuse(out, base, format::refusal::MISUSE);
-        return;
-    }
-    trim_row(s, sh, x, n);
-    answer::say(out, base);
-}
 
 // "Reserve: 16, 17, 13": the number of the refusal of n slots in table b; 0 for none.
 fn batch_refusal(s: &[u64], sh: Shape, b: u64, n: u64) -> u64

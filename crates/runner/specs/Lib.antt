@@ -1,3 +1,1 @@
-pub mod Known
-pub mod Serve
-pub mod Steps
+pub mod Both

@@ -6,15 +6,15 @@ use Rattle.reserve.proofs.batch_refusal.Tie as tie
 
 -- src/lib.rt:110:9
 table-refusal-requires : tie.Need-table-refusal-requires
-table-refusal-requires c κs = search needs
+table-refusal-requires c κs = tt
 
 -- src/lib.rt:111:8
 eq-requires : tie.Need-eq-requires
-eq-requires c κs = search needs
+eq-requires c κs = tt
 
 -- src/lib.rt:112:12
 eq-requires-2 : tie.Need-eq-requires-2
-eq-requires-2 c κs = search needs
+eq-requires-2 c κs = tt
 
 -- src/lib.rt:113:13
 returns : tie.Need-returns
@@ -22,7 +22,7 @@ returns c = batch-empty (load (c .before .before .before .before .before .before
 
 -- src/lib.rt:115:12
 lt-requires : tie.Need-lt-requires
-lt-requires c κs = search needs
+lt-requires c κs = tt
 
 -- src/lib.rt:116:13
 returns-2 : tie.Need-returns-2

@@ -5,15 +5,15 @@ use Rattle.reserve.proofs.reserve.Tie as tie
 
 -- src/lib.rt:226:9
 batch-refusal-requires : tie.Need-batch-refusal-requires
-batch-refusal-requires c κs = search needs
+batch-refusal-requires c κs = tt
 
 -- src/lib.rt:227:8
 ne-requires : tie.Need-ne-requires
-ne-requires c κs = search needs
+ne-requires c κs = tt
 
 -- src/lib.rt:228:9
 refuse-requires : tie.Need-refuse-requires
-refuse-requires c κs = search needs
+refuse-requires c κs = tt
 
 -- src/lib.rt:229:9
 same-length : tie.Need-same-length
@@ -29,19 +29,19 @@ returns c = reserve-wrong (c .before .before .before .before .before .before .be
 
 -- src/lib.rt:231:9
 pages-needed-requires : tie.Need-pages-needed-requires
-pages-needed-requires c κs = search needs
+pages-needed-requires c κs = tt
 
 -- src/lib.rt:232:9
 room-refusal-requires : tie.Need-room-refusal-requires
-room-refusal-requires c κs = search needs
+room-refusal-requires c κs = tt
 
 -- src/lib.rt:233:8
 ne-requires-2 : tie.Need-ne-requires-2
-ne-requires-2 c κs = search needs
+ne-requires-2 c κs = tt
 
 -- src/lib.rt:234:9
 refuse-requires-2 : tie.Need-refuse-requires-2
-refuse-requires-2 c κs = search needs
+refuse-requires-2 c κs = tt
 
 -- src/lib.rt:235:9
 same-length-3 : tie.Need-same-length-3
@@ -57,7 +57,7 @@ returns-2 c = reserve-full (c .before .before .before .before .before .before .b
 
 -- src/lib.rt:237:5
 reserve-slots-requires : tie.Need-reserve-slots-requires
-reserve-slots-requires c κs = search needs
+reserve-slots-requires c κs = tt
 
 -- src/lib.rt:223:1
 same-length-5 : tie.Need-same-length-5

@@ -5,19 +5,19 @@ use Rattle.reserve.proofs.reserve_slots.Tie as tie
 
 -- src/lib.rt:216:5
 grow-requires : tie.Need-grow-requires
-grow-requires c κs = search needs
+grow-requires c κs = tt
 
 -- src/lib.rt:217:5
 list-free-requires : tie.Need-list-free-requires
-list-free-requires c κs = search needs
+list-free-requires c κs = tt
 
 -- src/lib.rt:218:5
 say-batch-requires : tie.Need-say-batch-requires
-say-batch-requires c κs = search needs
+say-batch-requires c κs = tt
 
 -- src/lib.rt:219:5
 open-batch-requires : tie.Need-open-batch-requires
-open-batch-requires c κs = search needs
+open-batch-requires c κs = tt
 
 -- src/lib.rt:213:1
 same-length : tie.Need-same-length

@@ -6,7 +6,7 @@ use Rattle.reserve.proofs.room_refusal.Tie as tie
 
 -- src/lib.rt:127:8
 eq-requires : tie.Need-eq-requires
-eq-requires c κs = search needs
+eq-requires c κs = tt
 
 -- src/lib.rt:128:9
 returns : tie.Need-returns
@@ -14,11 +14,11 @@ returns c = room-full (load (c .before .before .before .args .s .now) (c .before
 
 -- src/lib.rt:130:18
 root-word-requires : tie.Need-root-word-requires
-root-word-requires c κs = search needs
+root-word-requires c κs = tt
 
 -- src/lib.rt:130:8
 lt-requires : tie.Need-lt-requires
-lt-requires c κs = search needs
+lt-requires c κs = tt
 
 -- src/lib.rt:131:9
 returns-2 : tie.Need-returns-2
@@ -26,7 +26,7 @@ returns-2 c = room-frames (load (c .before .before .before .before .before .befo
 
 -- src/lib.rt:133:18
 root-word-requires-2 : tie.Need-root-word-requires-2
-root-word-requires-2 c κs = search needs
+root-word-requires-2 c κs = tt
 
 -- src/lib.rt:133:47
 cast-lt : tie.Need-cast-lt
@@ -34,15 +34,15 @@ cast-lt c = search needs
 
 -- src/lib.rt:133:8
 lt-requires-2 : tie.Need-lt-requires-2
-lt-requires-2 c κs = search needs
+lt-requires-2 c κs = tt
 
 -- src/lib.rt:134:22
 root-word-requires-3 : tie.Need-root-word-requires-3
-root-word-requires-3 c κs = search needs
+root-word-requires-3 c κs = tt
 
 -- src/lib.rt:134:12
 eq-requires-2 : tie.Need-eq-requires-2
-eq-requires-2 c κs = search needs
+eq-requires-2 c κs = tt
 
 -- src/lib.rt:135:13
 returns-3 : tie.Need-returns-3

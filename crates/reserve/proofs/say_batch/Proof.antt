@@ -6,19 +6,19 @@ use Rattle.reserve.proofs.say_batch.Tie as tie
 
 -- src/lib.rt:206:9
 spare-place-requires : tie.Need-spare-place-requires
-spare-place-requires c κs = search needs
+spare-place-requires c κs = tt
 
 -- src/lib.rt:207:9
 root-word-requires : tie.Need-root-word-requires
-root-word-requires c κs = search needs
+root-word-requires c κs = tt
 
 -- src/lib.rt:208:5
 say2-requires : tie.Need-say2-requires
-say2-requires c κs = search needs
+say2-requires c κs = tt
 
 -- src/lib.rt:209:5
 say-values-requires : tie.Need-say-values-requires
-say-values-requires c κs = search needs
+say-values-requires c κs = tt
 
 -- src/lib.rt:203:1
 same-length : tie.Need-same-length

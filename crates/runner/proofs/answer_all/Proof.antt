@@ -1,7 +1,7 @@
 use borrow.Author.Tests.{ltb-false}
 use mathlib.Core.Path.{sym, _∙_}
 use Rattle.wellformed.specs.Whole.{wellB}
-use Rattle.runner.specs.Serve.{oneR}
+use Rattle.serve.specs.Serve.{oneR}
 use Rattle.contract.specs.Call.{answers-short, answers-long}
 use borrow.Author.Needs.{needs}
 use Rattle.runner.proofs.answer_all.Statement.{statement}
@@ -9,7 +9,7 @@ use Rattle.runner.proofs.answer_all.Tie as tie
 
 -- src/lib.rt:124:8
 answers-short-requires : tie.Need-answers-short-requires
-answers-short-requires c κs = search needs
+answers-short-requires c κs = tt
 
 -- src/lib.rt:125:9
 same-length : tie.Need-same-length

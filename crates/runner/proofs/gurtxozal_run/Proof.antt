@@ -1,7 +1,7 @@
 use borrow.Author.Needs.{needs}
 use Rattle.contract.specs.Call.{run-bad, run-found}
-use Rattle.runner.specs.Steps.{run-both}
-use Rattle.runner.specs.Serve.{oneR}
+use Rattle.runner.specs.Both.{run-both}
+use Rattle.serve.specs.Serve.{oneR}
 use Rattle.layout.specs.ShapeOf.{shape-found}
 use Rattle.wellformed.specs.Whole.{wellB}
 use mathlib.Core.Path.{refl, sym, _∙_}

@@ -5,7 +5,7 @@ use Prim.Native.Nat.{_+_, _*_, _≤_}
 use lib.ListN.{length}
 use Rattle.format.specs.Format.{answerWords}
 use Rattle.contract.specs.Run.{listR, list-turn, list-end}
-use Rattle.runner.specs.Serve.{oneR}
+use Rattle.serve.specs.Serve.{oneR}
 use Rattle.runner.proofs.run_all.Statement.{statement}
 use Rattle.runner.proofs.run_all.Tie as tie
 

@@ -1,5 +1,5 @@
 use Rattle.wellformed.specs.Whole.{wellB}
-use Rattle.runner.specs.Serve.{oneR}
+use Rattle.serve.specs.Serve.{oneR}
 use Rattle.contract.specs.Call.{check-bad, check-good}
 use borrow.Author.Needs.{needs}
 use Rattle.runner.proofs.run_checked.Statement.{statement}
@@ -7,11 +7,11 @@ use Rattle.runner.proofs.run_checked.Tie as tie
 
 -- src/lib.rt:150:8
 check-requires : tie.Need-check-requires
-check-requires c κs = search needs
+check-requires c κs = tt
 
 -- src/lib.rt:151:9
 run-list-requires : tie.Need-run-list-requires
-run-list-requires c κs = search needs
+run-list-requires c κs = tt
 
 -- src/lib.rt:151:9
 same-length : tie.Need-same-length

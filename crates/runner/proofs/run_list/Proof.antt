@@ -1,6 +1,6 @@
 use borrow.Author.Needs.{needs}
 use Rattle.contract.specs.Call.{list-malformed, list-read}
-use Rattle.runner.specs.Serve.{oneR}
+use Rattle.serve.specs.Serve.{oneR}
 use Rattle.wellformed.specs.Whole.{wellB}
 use mathlib.Core.Path.{sym, _∙_}
 use Rattle.runner.proofs.run_list.Statement.{statement}

@@ -1,5 +1,5 @@
 use Rattle.contract.specs.Call.{run-within}
-use Rattle.runner.specs.Serve.{oneR}
+use Rattle.serve.specs.Serve.{oneR}
 use Rattle.wellformed.specs.Whole.{wellB}
 use borrow.Author.Needs.{needs}
 use Rattle.runner.proofs.run_within.Statement.{statement}
