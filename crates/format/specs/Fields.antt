@@ -77,3 +77,13 @@ anOperation = 5
 
 abbrev pub zeroWord : ℕ
 zeroWord = 6
+
+-- the largest words of three of these kinds: a number of 32 bits, a route, an operation
+abbrev pub number32Max : ℕ
+number32Max = 4294967295
+
+abbrev pub routeLast : ℕ
+routeLast = 2
+
+abbrev pub operationLast : ℕ
+operationLast = 1

@@ -5,7 +5,7 @@ use mathlib.Core.List.{List, [], _∷_}
 use mathlib.Core.Bool.{Bool, true, false, not, _&&_}
 use lib.Dec.{eqb, leb}
 use Rattle.words.specs.Pick.{pick}
-use Rattle.format.specs.Fields.{anyWord, number32, aKoid, aRoute, anOp, anOperation, zeroWord}
+use Rattle.format.specs.Fields.{anyWord, number32, aKoid, aRoute, anOp, anOperation, zeroWord, number32Max, routeLast, operationLast}
 use Rattle.format.specs.Ops.{opLast}
 
 -- docs/formats.md, "Ops": the fields that each op must carry, as a bit map, at the op's number
@@ -50,11 +50,11 @@ knownOp op = leb 1 op && leb op opLast
 unfoldable pub fieldFits : ℕ → ℕ → Bool
 fieldFits kind word =
     pick (eqb kind anyWord) true
-    (pick (eqb kind number32) (leb word 4_294_967_295)
+    (pick (eqb kind number32) (leb word number32Max)
     (pick (eqb kind aKoid) (not (eqb word 0))
-    (pick (eqb kind aRoute) (leb word 2)
+    (pick (eqb kind aRoute) (leb word routeLast)
     (pick (eqb kind anOp) (knownOp word)
-    (pick (eqb kind anOperation) (leb word 1)
+    (pick (eqb kind anOperation) (leb word operationLast)
     (pick (eqb kind zeroWord) (eqb word 0) false))))))
 
 -- document 01: "Each request answers 72 words"

@@ -23,6 +23,8 @@ use Rattle.format.specs.Format.{
   parcelItemMust,
   parcelItemMay,
 }
+use Rattle.format.specs.Fields.{anyWord, number32, aKoid, aRoute, anOp, anOperation, zeroWord}
+use Rattle.format.specs.Ops.{opNewObject, opLast}
 
 -- every entry of a table passes a test, counted from i
 abbrev pub every : (ℕ → ℕ → Bool) → ℕ → List ℕ → Bool
@@ -60,21 +62,21 @@ table-fits : every (λ (op must : ℕ). rowFits op must (getD mays op 0)) 0 must
 unfolding rowFits musts mays knownOp
 table-fits = refl
 
-short : (op : ℕ) → op < 25 → op < length musts
+short : (op : ℕ) → op < suc opLast → op < length musts
 unfolding musts
 short op h = h
 
-past : (op : ℕ) → 25 ≤ op → rowFits op (getD musts op 0) (getD mays op 0) ≡ true
+past : (op : ℕ) → suc opLast ≤ op → rowFits op (getD musts op 0) (getD mays op 0) ≡ true
 unfolding musts mays rowFits knownOp
-past op h = rw (List·getD-eq-default musts 0 h, List·getD-eq-default mays 0 h, lt-leb op 24 h, and-false (leb 1 op))
+past op h = rw (List·getD-eq-default musts 0 h, List·getD-eq-default mays 0 h, lt-leb op opLast h, and-false (leb 1 op))
 
 -- every op's row fits; of an unknown op both maps are 0
 pub row-fits : (op : ℕ) → rowFits op (getD musts op 0) (getD mays op 0) ≡ true
-row-fits op = go (ltb op 25) refl
+row-fits op = go (ltb op (suc opLast)) refl
   where
-    go : (t : Bool) → ltb op 25 ≡ t → rowFits op (getD musts op 0) (getD mays op 0) ≡ true
-    go true e = at (λ (k must : ℕ). rowFits k must (getD mays k 0)) musts table-fits op (short op (ltb-true op 25 e))
-    go false e = past op (ltb-false op 25 e)
+    go : (t : Bool) → ltb op (suc opLast) ≡ t → rowFits op (getD musts op 0) (getD mays op 0) ≡ true
+    go true e = at (λ (k must : ℕ). rowFits k must (getD mays k 0)) musts table-fits op (short op (ltb-true op (suc opLast) e))
+    go false e = past op (ltb-false op (suc opLast) e)
 
 all-four : (p q r s : Bool) → (p && (q && (r && s))) ≡ true → (p ≡ true) × (q ≡ true) × (r ≡ true) × (s ≡ true)
 all-four p q r s t =
@@ -103,17 +105,17 @@ module _ (op : ℕ) where
   pub may-below : getD mays op 0 < 2 ^ fieldCount
   may-below = ltb-true (getD mays op 0) (2 ^ fieldCount) (row .2)
 
-  -- must has bit 0 exactly for ops 1 to 24
+  -- must has bit 0 exactly for known ops
   pub must-op : eqb (getD musts op 0 % 2) 1 ≡ knownOp op
   must-op = same-eq (eqb (getD musts op 0 % 2) 1) (knownOp op) (row .3)
 
 -- the same of the items' maps, which have bit 0
-pub items-fit : (rowFits 1 transferItemMust transferItemMay && rowFits 1 parcelItemMust parcelItemMay) ≡ true
+pub items-fit : (rowFits opNewObject transferItemMust transferItemMay && rowFits opNewObject parcelItemMust parcelItemMay) ≡ true
 unfolding rowFits knownOp
 items-fit = refl
 
--- each field has a kind, and no kind is beyond 4
-pub kinds-fit : (every (λ (bit kind : ℕ). leb kind 4) 0 fieldKinds && eqb (length fieldKinds) fieldCount) ≡ true
+-- each field has a kind, and none of those that an item's bit 0 has
+pub kinds-fit : (every (λ (bit kind : ℕ). leb kind anOp) 0 fieldKinds && eqb (length fieldKinds) fieldCount) ≡ true
 unfolding fieldKinds
 kinds-fit = refl
 
@@ -133,17 +135,21 @@ left-past X i (suc n) h = beyond n i (left-past X i n (h .0)) (h .1)
 pub none-at : (X : Type 0) (xs : List ℕ) (i : ℕ) → Left X i (length xs) → 0 ≡ getD xs i 0
 none-at X xs i h = sym (List·getD-eq-default xs 0 (left-past X i (length xs) h))
 
+-- what a table has at a place, where the place is known
+pub entry-at : (xs : List ℕ) (i k r : ℕ) → i ≡ k → r ≡ getD xs k 0 → r ≡ getD xs i 0
+entry-at xs i k r e p = p ∙ ap (λ (n : ℕ). getD xs n 0) (sym e)
+
 -- what a kind takes, where the kind is known
 pub kind-fits : (kind k word : ℕ) (r : Bool) → kind ≡ k → r ≡ fieldFits k word → r ≡ fieldFits kind word
 kind-fits kind k word r e p = p ∙ ap (λ (n : ℕ). fieldFits n word) (sym e)
 
-pub no-kind : (kind word : ℕ) → (kind ≡ 0 → ⊥) → (kind ≡ 1 → ⊥) → (kind ≡ 2 → ⊥) → (kind ≡ 3 → ⊥) → (kind ≡ 4 → ⊥) → (kind ≡ 5 → ⊥)
-    → (kind ≡ 6 → ⊥) → false ≡ fieldFits kind word
+pub no-kind : (kind word : ℕ) → (kind ≡ anyWord → ⊥) → (kind ≡ number32 → ⊥) → (kind ≡ aKoid → ⊥) → (kind ≡ aRoute → ⊥) → (kind ≡ anOp → ⊥) → (kind ≡ anOperation → ⊥)
+    → (kind ≡ zeroWord → ⊥) → false ≡ fieldFits kind word
 unfolding fieldFits
 no-kind kind word h0 h1 h2 h3 h4 h5 h6 =
-    simp (ne-eqb kind 0 h0, ne-eqb kind 1 h1, ne-eqb kind 2 h2, ne-eqb kind 3 h3, ne-eqb kind 4 h4, ne-eqb kind 5 h5, ne-eqb kind 6 h6)
+    simp (ne-eqb kind anyWord h0, ne-eqb kind number32 h1, ne-eqb kind aKoid h2, ne-eqb kind aRoute h3, ne-eqb kind anOp h4, ne-eqb kind anOperation h5, ne-eqb kind zeroWord h6)
 
-pub known-yes : (op : ℕ) → 1 ≤ op → leb op 24 ≡ knownOp op
+pub known-yes : (op : ℕ) → 1 ≤ op → leb op opLast ≡ knownOp op
 unfolding knownOp
 known-yes op h = rw (le-leb 1 op h)
 

@@ -4,125 +4,41 @@ ghost use lib.ListN.{getD};
 ghost use Rattle.format.specs.Format.{musts, mays, fieldFits, knownOp, transferItemMust, transferItemMay, parcelItemMust, parcelItemMay, fieldCount, answerWords};
 
 pub mod field;
+pub mod maps;
 pub mod op;
 pub mod refusal;
-
-// The fields that each op must carry, as a bit map, at the op's number. It is read at constant indices alone, so that it takes no memory at run time.
-pub const MUST: [u64; 25] = [
-    0,
-    101,
-    51,
-    129,
-    5,
-    11,
-    137,
-    129,
-    137,
-    19,
-    563,
-    51,
-    19,
-    2051,
-    4107,
-    1587,
-    129,
-    129,
-    385,
-    385,
-    2051,
-    3,
-    3,
-    3,
-    3,
-];
-
-// The fields that each op may carry besides.
-pub const MAY: [u64; 25] = [
-    0,
-    0,
-    0,
-    0,
-    0,
-    0,
-    0,
-    0,
-    0,
-    0,
-    0,
-    0,
-    0,
-    0,
-    196608,
-    0,
-    0,
-    0,
-    0,
-    0,
-    0,
-    0,
-    0,
-    0,
-    0,
-];
-
-// Kinds of fields.
-pub const KIND_WORD: u64 = 0;
-
-pub const KIND_NUMBER_32: u64 = 1;
-
-pub const KIND_KOID: u64 = 2;
-
-pub const KIND_ROUTE: u64 = 3;
-
-pub const KIND_OP: u64 = 4;
-
-// Kinds of bit 0's word in an item: a transfer item's operation, a parcel item's 0.
-pub const KIND_OPERATION: u64 = 5;
-
-pub const KIND_ZERO: u64 = 6;
-
-// The maps of a transfer's and a publish's items.
-pub const TRANSFER_ITEM_MUST: u64 = 49;
-
-pub const TRANSFER_ITEM_MAY: u64 = 57_344;
-
-pub const PARCEL_ITEM_MUST: u64 = 129;
-
-pub const PARCEL_ITEM_MAY: u64 = 0;
-
-// Each request answers this many words.
-pub const ANSWER_WORDS: u64 = 72;
+pub mod size;
 
 // The fields that an op must carry, as a bit map; 0 for an unknown op.
 pub fn must(op: u64) -> u64
     ensures { λ r. ⌜ r ≡ getD musts op 0 ⌝ }
 {
     match op {
-        0 => MUST[0],
-        1 => MUST[1],
-        2 => MUST[2],
-        3 => MUST[3],
-        4 => MUST[4],
-        5 => MUST[5],
-        6 => MUST[6],
-        7 => MUST[7],
-        8 => MUST[8],
-        9 => MUST[9],
-        10 => MUST[10],
-        11 => MUST[11],
-        12 => MUST[12],
-        13 => MUST[13],
-        14 => MUST[14],
-        15 => MUST[15],
-        16 => MUST[16],
-        17 => MUST[17],
-        18 => MUST[18],
-        19 => MUST[19],
-        20 => MUST[20],
-        21 => MUST[21],
-        22 => MUST[22],
-        23 => MUST[23],
-        24 => MUST[24],
+        op::OP_NONE => maps::MUST[op::OP_NONE as usize],
+        op::OP_NEW_OBJECT => maps::MUST[op::OP_NEW_OBJECT as usize],
+        op::OP_DUPLICATE => maps::MUST[op::OP_DUPLICATE as usize],
+        op::OP_RELEASE_PARCEL => maps::MUST[op::OP_RELEASE_PARCEL as usize],
+        op::OP_RETIRE_OBJECT => maps::MUST[op::OP_RETIRE_OBJECT as usize],
+        op::OP_RESERVE => maps::MUST[op::OP_RESERVE as usize],
+        op::OP_TRIM => maps::MUST[op::OP_TRIM as usize],
+        op::OP_ABORT => maps::MUST[op::OP_ABORT as usize],
+        op::OP_PUBLISH => maps::MUST[op::OP_PUBLISH as usize],
+        op::OP_GET_INFO => maps::MUST[op::OP_GET_INFO as usize],
+        op::OP_RESOLVE => maps::MUST[op::OP_RESOLVE as usize],
+        op::OP_REPLACE => maps::MUST[op::OP_REPLACE as usize],
+        op::OP_CLOSE => maps::MUST[op::OP_CLOSE as usize],
+        op::OP_SCAN_HANDLES => maps::MUST[op::OP_SCAN_HANDLES as usize],
+        op::OP_PREPARE_TRANSFER => maps::MUST[op::OP_PREPARE_TRANSFER as usize],
+        op::OP_PREPARE_CONSUMPTION => maps::MUST[op::OP_PREPARE_CONSUMPTION as usize],
+        op::OP_ROLLBACK => maps::MUST[op::OP_ROLLBACK as usize],
+        op::OP_COMMIT => maps::MUST[op::OP_COMMIT as usize],
+        op::OP_DIRECT_COMMIT => maps::MUST[op::OP_DIRECT_COMMIT as usize],
+        op::OP_DIRECT_ROLLBACK => maps::MUST[op::OP_DIRECT_ROLLBACK as usize],
+        op::OP_REMOVE_STOPPING_OWNER => maps::MUST[op::OP_REMOVE_STOPPING_OWNER as usize],
+        op::OP_TEARDOWN_START => maps::MUST[op::OP_TEARDOWN_START as usize],
+        op::OP_TEARDOWN_STEP => maps::MUST[op::OP_TEARDOWN_STEP as usize],
+        op::OP_TEARDOWN_FINISH => maps::MUST[op::OP_TEARDOWN_FINISH as usize],
+        op::OP_TAKE_EMPTY_PAGE => maps::MUST[op::OP_TAKE_EMPTY_PAGE as usize],
         _ => 0,
     }
 }
@@ -132,31 +48,31 @@ pub fn may(op: u64) -> u64
     ensures { λ r. ⌜ r ≡ getD mays op 0 ⌝ }
 {
     match op {
-        0 => MAY[0],
-        1 => MAY[1],
-        2 => MAY[2],
-        3 => MAY[3],
-        4 => MAY[4],
-        5 => MAY[5],
-        6 => MAY[6],
-        7 => MAY[7],
-        8 => MAY[8],
-        9 => MAY[9],
-        10 => MAY[10],
-        11 => MAY[11],
-        12 => MAY[12],
-        13 => MAY[13],
-        14 => MAY[14],
-        15 => MAY[15],
-        16 => MAY[16],
-        17 => MAY[17],
-        18 => MAY[18],
-        19 => MAY[19],
-        20 => MAY[20],
-        21 => MAY[21],
-        22 => MAY[22],
-        23 => MAY[23],
-        24 => MAY[24],
+        op::OP_NONE => maps::MAY[op::OP_NONE as usize],
+        op::OP_NEW_OBJECT => maps::MAY[op::OP_NEW_OBJECT as usize],
+        op::OP_DUPLICATE => maps::MAY[op::OP_DUPLICATE as usize],
+        op::OP_RELEASE_PARCEL => maps::MAY[op::OP_RELEASE_PARCEL as usize],
+        op::OP_RETIRE_OBJECT => maps::MAY[op::OP_RETIRE_OBJECT as usize],
+        op::OP_RESERVE => maps::MAY[op::OP_RESERVE as usize],
+        op::OP_TRIM => maps::MAY[op::OP_TRIM as usize],
+        op::OP_ABORT => maps::MAY[op::OP_ABORT as usize],
+        op::OP_PUBLISH => maps::MAY[op::OP_PUBLISH as usize],
+        op::OP_GET_INFO => maps::MAY[op::OP_GET_INFO as usize],
+        op::OP_RESOLVE => maps::MAY[op::OP_RESOLVE as usize],
+        op::OP_REPLACE => maps::MAY[op::OP_REPLACE as usize],
+        op::OP_CLOSE => maps::MAY[op::OP_CLOSE as usize],
+        op::OP_SCAN_HANDLES => maps::MAY[op::OP_SCAN_HANDLES as usize],
+        op::OP_PREPARE_TRANSFER => maps::MAY[op::OP_PREPARE_TRANSFER as usize],
+        op::OP_PREPARE_CONSUMPTION => maps::MAY[op::OP_PREPARE_CONSUMPTION as usize],
+        op::OP_ROLLBACK => maps::MAY[op::OP_ROLLBACK as usize],
+        op::OP_COMMIT => maps::MAY[op::OP_COMMIT as usize],
+        op::OP_DIRECT_COMMIT => maps::MAY[op::OP_DIRECT_COMMIT as usize],
+        op::OP_DIRECT_ROLLBACK => maps::MAY[op::OP_DIRECT_ROLLBACK as usize],
+        op::OP_REMOVE_STOPPING_OWNER => maps::MAY[op::OP_REMOVE_STOPPING_OWNER as usize],
+        op::OP_TEARDOWN_START => maps::MAY[op::OP_TEARDOWN_START as usize],
+        op::OP_TEARDOWN_STEP => maps::MAY[op::OP_TEARDOWN_STEP as usize],
+        op::OP_TEARDOWN_FINISH => maps::MAY[op::OP_TEARDOWN_FINISH as usize],
+        op::OP_TAKE_EMPTY_PAGE => maps::MAY[op::OP_TAKE_EMPTY_PAGE as usize],
         _ => 0,
     }
 }
@@ -166,13 +82,13 @@ pub fn fits(kind: u64, word: u64) -> bool
     ensures { λ r. ⌜ r ≡ fieldFits kind word ⌝ }
 {
     match kind {
-        0 => true,
-        1 => word <= 4_294_967_295,
-        2 => word != 0,
-        3 => word <= 2,
-        4 => known_op(word),
-        5 => word <= 1,
-        6 => word == 0,
+        field::KIND_WORD => true,
+        field::KIND_NUMBER_32 => word <= size::NUMBER_32_MAX,
+        field::KIND_KOID => word != 0,
+        field::KIND_ROUTE => word <= size::ROUTE_LAST,
+        field::KIND_OP => known_op(word),
+        field::KIND_OPERATION => word <= size::OPERATION_LAST,
+        field::KIND_ZERO => word == 0,
         _ => false,
     }
 }
@@ -191,31 +107,31 @@ pub fn known_op(word: u64) -> bool
 pub fn transfer_item_must() -> u64
     ensures { λ r. ⌜ r ≡ transferItemMust ⌝ }
 {
-    TRANSFER_ITEM_MUST
+    maps::TRANSFER_ITEM_MUST
 }
 
 pub fn transfer_item_may() -> u64
     ensures { λ r. ⌜ r ≡ transferItemMay ⌝ }
 {
-    TRANSFER_ITEM_MAY
+    maps::TRANSFER_ITEM_MAY
 }
 
 pub fn parcel_item_must() -> u64
     ensures { λ r. ⌜ r ≡ parcelItemMust ⌝ }
 {
-    PARCEL_ITEM_MUST
+    maps::PARCEL_ITEM_MUST
 }
 
 pub fn parcel_item_may() -> u64
     ensures { λ r. ⌜ r ≡ parcelItemMay ⌝ }
 {
-    PARCEL_ITEM_MAY
+    maps::PARCEL_ITEM_MAY
 }
 
 pub fn answer_words() -> u64
     ensures { λ r. ⌜ r ≡ answerWords ⌝ }
 {
-    ANSWER_WORDS
+    size::ANSWER_WORDS
 }
 
 pub fn field_count() -> u64

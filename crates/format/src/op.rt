@@ -1,4 +1,7 @@
 // Op numbers of requests (docs/formats.md, "Ops").
+// The number of no op.
+pub const OP_NONE: u64 = 0;
+
 pub const OP_NEW_OBJECT: u64 = 1;
 
 pub const OP_DUPLICATE: u64 = 2;
@@ -47,5 +50,5 @@ pub const OP_TEARDOWN_FINISH: u64 = 23;
 
 pub const OP_TAKE_EMPTY_PAGE: u64 = 24;
 
-// Every op above the last, and op 0, is unknown.
+// Every op above the last, and 0, is unknown.
 pub const OP_LAST: u64 = 24;

@@ -11,6 +11,7 @@ ghost use Rattle.layout.specs.Layout.{load as loadAt};
 ghost use Rattle.layout.specs.Fields.{slotTag};
 ghost use Rattle.representation.specs.Represents.{wordIn, frameOf};
 ghost use Rattle.storage.specs.Cells.{cellIn};
+ghost use Rattle.format.specs.Format.{answerWords};
 ghost use Rattle.request.specs.Answers.{puts};
 ghost use Rattle.answer.specs.Does.{both, answered};
 ghost use Rattle.lookup.specs.View.{handleBy, handleAt, slotRefusal, slotView, viewOf, tableRefusal, viewOpened, openOf};
@@ -71,7 +72,7 @@ pub enum NextCursor {
 
 // "A snapshot page holds 8 entries, a length and an optional next cursor. We add `examined`, the number of slots looked at".
 pub struct SnapshotPage {
-    pub entries: [SnapshotEntry; 8],
+    pub entries: [SnapshotEntry; format::size::SCAN_ENTRIES],
     pub len: usize,
     pub next: NextCursor,
     pub examined: u64,
@@ -375,7 +376,7 @@ fn next_cursor(stop: u64, length: u64) -> NextCursor
 
 // The page of a scan that started and stopped at two slots.
 fn ended(
-    entries: [SnapshotEntry; 8],
+    entries: [SnapshotEntry; format::size::SCAN_ENTRIES],
     len: usize,
     start: u64,
     stop: u64,
@@ -401,13 +402,13 @@ pub fn scan(s: &[u64], sh: Shape, b: u64, cursor: u64) -> SnapshotPage
     let start = words::smaller(cursor, length);
     let mask = layout::head_word(s, sh, b, field::HEAD_MASK);
     let none = no_entry();
-    let mut entries = [none; 8];
+    let mut entries = [none; format::size::SCAN_ENTRIES];
     let mut len: usize = 0;
     let mut fr = storage::frame_link(s, sh, b, start);
     let mut at = start;
-    let mut left = words::smaller(256, length - start);
+    let mut left = words::smaller(format::size::SCAN_SLOTS, length - start);
     while 0 < left {
-        if 8 <= len {
+        if format::size::SCAN_ENTRIES <= len {
             return ended(entries, len, start, at, length);
         }
         fr = frame_on(s, sh, b, at, fr);
@@ -447,7 +448,7 @@ fn next_word(next: NextCursor) -> u64
 
 // Puts an entry's words, from word i of the answer on.
 fn put_entry(out: &mut [u64], base: usize, i: usize, x: SnapshotEntry)
-    requires { ⌜ i < 72 ⌝ }
+    requires { ⌜ i < answerWords ⌝ }
     ensures { λ _. ⌜ now (out .exit) ≡ puts (now (out .entry)) base i (entryWords x) ⌝ }
 {
     request::answer_put(out, base, i, x.value.0);
@@ -464,7 +465,7 @@ fn put_entries(out: &mut [u64], base: usize, p: SnapshotPage)
     let entries = p.entries;
     let len = p.len;
     let mut k: usize = 0;
-    while k < 8 {
+    while k < format::size::SCAN_ENTRIES {
         if len <= k {
             return;
         }

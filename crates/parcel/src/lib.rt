@@ -265,7 +265,7 @@ fn item_id(rq: &[u64], at: usize) -> u64
     ensures { λ r. ⌜ r ≡ must (fieldsAt (now (rq .entry)) at) idField ⌝ }
 {
     if at < rq.len() {
-        if rq[at] == format::PARCEL_ITEM_MUST {
+        if rq[at] == format::maps::PARCEL_ITEM_MUST {
             return words::word(rq, at + 2);
         }
     }
@@ -277,7 +277,7 @@ fn item_end(rq: &[u64], at: usize) -> usize
     ensures { λ r. ⌜ r ≡ endAt (now (rq .entry)) at ⌝ }
 {
     if at < rq.len() {
-        if rq[at] == format::PARCEL_ITEM_MUST {
+        if rq[at] == format::maps::PARCEL_ITEM_MUST {
             return at + 3;
         }
     }

@@ -87,7 +87,7 @@ module _ (ws : List ℕ) (at map bit : ℕ) where
   pub field-there : (n : ℕ) (r : Optional) → bit < 18 → n ≡ ones (map % 2 ^ bit) → r ≡ optional (here (odd (map / 2 ^ bit)) ws (at + n)) → r ≡ optional (may (fieldsFrom fieldCount map ws at) bit)
   field-there n r h e p = p ∙ ap (λ (k : ℕ). optional (here (odd (map / 2 ^ bit)) ws (at + k))) e ∙ ap optional (sym (may-at 18 bit map ws at h))
 
-  pub field-past : 18 ≤ bit → Absent ≡ optional (may (fieldsFrom fieldCount map ws at) bit)
+  pub field-past : fieldCount ≤ bit → Absent ≡ optional (may (fieldsFrom fieldCount map ws at) bit)
   field-past h = ap optional (sym (may-past 18 bit map ws at h))
 
 module _ (ws : List ℕ) (at bit : ℕ) where

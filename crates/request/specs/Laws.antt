@@ -10,6 +10,8 @@ use native.Mathlib.Numerals.{add-one}
 use lib.ListN.{length, getD, drop}
 use lib.Dec.{eqb}
 use Rattle.format.specs.Format.{musts, mays, transferItemMust, transferItemMay, parcelItemMust, parcelItemMay}
+use Rattle.format.specs.Ops.{opPublish, opPrepareTransfer}
+use Rattle.format.specs.Fields.{anOp}
 use Rattle.model.specs.Base.{pick}
 use Rattle.model.specs.Request.{Request}
 use Rattle.model.specs.Words.{andThen, Fields, must, readList}
@@ -96,7 +98,7 @@ pub record Formed (ws : List ℕ) (at e : ℕ) : Type 0 where
 
 items-next : (ws : List ℕ) (at e : ℕ) → itemsEnd (opAt ws at) (countAt ws at) ws (endAt ws at) ≡ some e → e ≡ nextAt ws at
 unfolding itemsEnd nextAt
-items-next ws at e p = go (eqb (opAt ws at) 8) (eqb (opAt ws at) 14) p
+items-next ws at e p = go (eqb (opAt ws at) opPublish) (eqb (opAt ws at) opPrepareTransfer) p
   where
     n : ℕ
     n = countAt ws at
@@ -110,12 +112,12 @@ items-next ws at e p = go (eqb (opAt ws at) 8) (eqb (opAt ws at) 14) p
 
 pub request-whole : (ws : List ℕ) (at e : ℕ) → requestEnd ws at ≡ some e → Formed ws at e
 unfolding requestEnd
-request-whole ws at e p = go (recordEnd 4 (getD musts (opAt ws at) 0) (getD musts (opAt ws at) 0 + getD mays (opAt ws at) 0) ws at) refl p
+request-whole ws at e p = go (recordEnd anOp (getD musts (opAt ws at) 0) (getD musts (opAt ws at) 0 + getD mays (opAt ws at) 0) ws at) refl p
   where
     ends : (at < e) × (e ≤ length ws)
     ends = request-ends ws at e p
 
-    go : (x : Option ℕ) → recordEnd 4 (getD musts (opAt ws at) 0) (getD musts (opAt ws at) 0 + getD mays (opAt ws at) 0) ws at ≡ x
+    go : (x : Option ℕ) → recordEnd anOp (getD musts (opAt ws at) 0) (getD musts (opAt ws at) 0 + getD mays (opAt ws at) 0) ws at ≡ x
         → andThen x (λ q. itemsEnd (opAt ws at) (countAt ws at) ws q) ≡ some e → Formed ws at e
     go none x r = let z : _≡_ {A = ℕ} 0 1 = cc in absurd (omega arith)
     go (some q) x r =

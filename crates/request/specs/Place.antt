@@ -11,7 +11,7 @@ use Rattle.format.specs.Format.{musts, mays, transferItemMust, transferItemMay,
 use Rattle.model.specs.Base.{pick, nth}
 use Rattle.model.specs.Request.{Item, Request, Request.getInfo, Request.publish, Request.prepareTransfer}
 use Rattle.model.specs.Words.{Reading, andThen, Fields, odd, may, must, operationOf, routeOf, plainRequest}
-use Rattle.format.specs.Fields.{opField, tableField, countField, valueField, rightsField, flagsField, idField, kindField, koidField, routeField, offeredRightsField, offeredKindField, expectedKindField, forbiddenObjectField, forbiddenKindField, number32, aKoid, aRoute}
+use Rattle.format.specs.Fields.{opField, tableField, countField, valueField, rightsField, flagsField, idField, kindField, koidField, routeField, offeredRightsField, offeredKindField, expectedKindField, forbiddenObjectField, forbiddenKindField, number32, aKoid, aRoute, anOperation, zeroWord}
 use Rattle.format.specs.Ops.{opPublish, opPrepareTransfer}
 use Rattle.request.specs.declared.Three.{Three}
 use Rattle.request.specs.declared.Next.{Next}
@@ -169,8 +169,8 @@ itemPlaces ws at = placesFrom (countAt ws at) ws (endAt ws at)
 -- the place after the items of an op, which begin at e: "as many as its count field says"
 unfoldable pub itemsEnd : ℕ → ℕ → List ℕ → ℕ → Option ℕ
 itemsEnd op n ws e =
-    pick (eqb op opPublish) (manyEnd 6 parcelItemMust (parcelItemMust + parcelItemMay) n ws e)
-    (pick (eqb op opPrepareTransfer) (manyEnd 5 transferItemMust (transferItemMust + transferItemMay) n ws e) (some e))
+    pick (eqb op opPublish) (manyEnd zeroWord parcelItemMust (parcelItemMust + parcelItemMay) n ws e)
+    (pick (eqb op opPrepareTransfer) (manyEnd anOperation transferItemMust (transferItemMust + transferItemMay) n ws e) (some e))
 
 -- the place after the request at a place, or none where it is malformed
 unfoldable pub requestEnd : List ℕ → ℕ → Option ℕ
@@ -181,8 +181,8 @@ requestEnd ws at =
 -- the place after a request that is known to be well formed
 unfoldable pub nextAt : List ℕ → ℕ → ℕ
 nextAt ws at =
-    pick (eqb (opAt ws at) 8) (placeOf (countAt ws at) ws (endAt ws at))
-    (pick (eqb (opAt ws at) 14) (placeOf (countAt ws at) ws (endAt ws at)) (endAt ws at))
+    pick (eqb (opAt ws at) opPublish) (placeOf (countAt ws at) ws (endAt ws at))
+    (pick (eqb (opAt ws at) opPrepareTransfer) (placeOf (countAt ws at) ws (endAt ws at)) (endAt ws at))
 
 -- what the table of ops makes of the fields; where there is no such op, which no list that was read has, a request that changes nothing
 abbrev pub applied : Option (Fields → Request) → Fields → Request

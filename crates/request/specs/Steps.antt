@@ -10,9 +10,10 @@ use native.Mathlib.Numerals.{add-one}
 use lib.ListN.{length, getD, drop}
 use lib.Dec.{ltb}
 use borrow.Author.Tests.{lt-ltb, le-ltb, ltb-true, ltb-false, eq-eqb, ne-eqb}
-use Rattle.format.specs.Format.{musts, mays, answerWords, fieldCount}
+use Rattle.format.specs.Format.{transferItemMust, transferItemMay, parcelItemMust, fieldCount, answerWords, musts, mays}
 use Rattle.format.specs.Laws.{must-below, may-below}
 use Rattle.format.specs.Ops.{opPublish, opPrepareTransfer}
+use Rattle.format.specs.Fields.{anOp, anOperation, zeroWord}
 use Rattle.model.specs.Base.{orElse, isSome}
 use Rattle.model.specs.Words.{andThen, may, must, readRequest, readList}
 use Rattle.request.specs.declared.Next.{Next}
@@ -99,16 +100,16 @@ module _ (ws : List ℕ) where
 module _ (ws : List ℕ) (at op e : ℕ) (o : op ≡ opAt ws at) (q : e ≡ endAt ws at) where
   pub next-parcels : (r n : ℕ) → op ≡ opPublish → n ≡ countAt ws at → r ≡ placeOf n ws e → r ≡ nextAt ws at
   unfolding nextAt
-  next-parcels r n p c i = rw (eq-eqb (opAt ws at) 8 (sym o ∙ p)) (i ∙ ap (λ (k : ℕ). placeOf k ws e) c ∙ ap (placeOf (countAt ws at) ws) q)
+  next-parcels r n p c i = rw (eq-eqb (opAt ws at) opPublish (sym o ∙ p)) (i ∙ ap (λ (k : ℕ). placeOf k ws e) c ∙ ap (placeOf (countAt ws at) ws) q)
 
   pub next-transfer : (r n : ℕ) → (op ≡ opPublish → ⊥) → op ≡ opPrepareTransfer → n ≡ countAt ws at → r ≡ placeOf n ws e → r ≡ nextAt ws at
   unfolding nextAt
   next-transfer r n f p c i =
-      rw (ne-eqb (opAt ws at) 8 (λ (z : opAt ws at ≡ opPublish). f (o ∙ z)), eq-eqb (opAt ws at) 14 (sym o ∙ p)) (i ∙ ap (λ (k : ℕ). placeOf k ws e) c ∙ ap (placeOf (countAt ws at) ws) q)
+      rw (ne-eqb (opAt ws at) opPublish (λ (z : opAt ws at ≡ opPublish). f (o ∙ z)), eq-eqb (opAt ws at) opPrepareTransfer (sym o ∙ p)) (i ∙ ap (λ (k : ℕ). placeOf k ws e) c ∙ ap (placeOf (countAt ws at) ws) q)
 
   pub next-plain : (op ≡ opPublish → ⊥) → (op ≡ opPrepareTransfer → ⊥) → e ≡ nextAt ws at
   unfolding nextAt
-  next-plain f g = rw (ne-eqb (opAt ws at) 8 (λ (z : opAt ws at ≡ opPublish). f (o ∙ z)), ne-eqb (opAt ws at) 14 (λ (z : opAt ws at ≡ opPrepareTransfer). g (o ∙ z))) q
+  next-plain f g = rw (ne-eqb (opAt ws at) opPublish (λ (z : opAt ws at ≡ opPublish). f (o ∙ z)), ne-eqb (opAt ws at) opPrepareTransfer (λ (z : opAt ws at ≡ opPrepareTransfer). g (o ∙ z))) q
 
 -- The checks of a record
 
@@ -158,21 +159,21 @@ module _ (first must allowed : ℕ) (ws : List ℕ) where
     many-end place (suc left) s h = absurd (omega arith)
 
 -- "fewer than 72 words a request", by a division
-pub short-is : (n count : ℕ) → ltb (n / 72) count ≡ ltb n (answerWords * count)
-short-is n count = go (ltb (n / 72) count) refl
+pub short-is : (n count : ℕ) → ltb (n / answerWords) count ≡ ltb n (answerWords * count)
+short-is n count = go (ltb (n / answerWords) count) refl
   where
-    go : (b : Bool) → ltb (n / 72) count ≡ b → ltb (n / 72) count ≡ ltb n (answerWords * count)
-    go true e = let h : n / 72 < count = ltb-true (n / 72) count e in e ∙ sym (lt-ltb n (answerWords * count) (omega arith))
-    go false e = let h : count ≤ n / 72 = ltb-false (n / 72) count e in e ∙ sym (le-ltb n (answerWords * count) (omega arith))
+    go : (b : Bool) → ltb (n / answerWords) count ≡ b → ltb (n / answerWords) count ≡ ltb n (answerWords * count)
+    go true e = let h : n / answerWords < count = ltb-true (n / answerWords) count e in e ∙ sym (lt-ltb n (answerWords * count) (omega arith))
+    go false e = let h : count ≤ n / answerWords = ltb-false (n / answerWords) count e in e ∙ sym (le-ltb n (answerWords * count) (omega arith))
 
 -- Items, requests and lists
 
 module _ (op n : ℕ) (ws : List ℕ) (e : ℕ) where
-  pub items-parcels : (r : Next) → op ≡ opPublish → r ≡ nextOf (manyEnd 6 129 129 n ws e) → r ≡ nextOf (itemsEnd op n ws e)
+  pub items-parcels : (r : Next) → op ≡ opPublish → r ≡ nextOf (manyEnd zeroWord parcelItemMust parcelItemMust n ws e) → r ≡ nextOf (itemsEnd op n ws e)
   unfolding itemsEnd
   items-parcels r p q = rw (eq-eqb op opPublish p) q
 
-  pub items-transfer : (r : Next) → (op ≡ opPublish → ⊥) → op ≡ opPrepareTransfer → r ≡ nextOf (manyEnd 5 49 57393 n ws e) → r ≡ nextOf (itemsEnd op n ws e)
+  pub items-transfer : (r : Next) → (op ≡ opPublish → ⊥) → op ≡ opPrepareTransfer → r ≡ nextOf (manyEnd anOperation transferItemMust (transferItemMust + transferItemMay) n ws e) → r ≡ nextOf (itemsEnd op n ws e)
   unfolding itemsEnd
   items-transfer r f p q = rw (ne-eqb op opPublish f, eq-eqb op opPrepareTransfer p) q
 
@@ -185,19 +186,19 @@ pub maps-fit : (op m y : ℕ) → m ≡ getD musts op 0 → y ≡ getD mays op 0
 maps-fit op m y p q = omega (arith, must-below op, may-below op)
 
 module _ (ws : List ℕ) (at op m y : ℕ) (o : op ≡ opAt ws at) (p : m ≡ getD musts op 0) (q : y ≡ getD mays op 0) where
-  head-is : (x : Option ℕ) → recordEnd 4 m (m + y) ws at ≡ x
-      → recordEnd 4 (getD musts (opAt ws at) 0) (getD musts (opAt ws at) 0 + getD mays (opAt ws at) 0) ws at ≡ x
+  head-is : (x : Option ℕ) → recordEnd anOp m (m + y) ws at ≡ x
+      → recordEnd anOp (getD musts (opAt ws at) 0) (getD musts (opAt ws at) 0 + getD mays (opAt ws at) 0) ws at ≡ x
   head-is x e =
       let p′ : getD musts (opAt ws at) 0 ≡ m = sym (p ∙ ap (λ (k : ℕ). getD musts k 0) o) in
       let q′ : getD mays (opAt ws at) 0 ≡ y = sym (q ∙ ap (λ (k : ℕ). getD mays k 0) o) in
       rw (p′, q′) e
 
-  pub request-bad : recordEnd 4 m (m + y) ws at ≡ none → Malformed ≡ placed ws (readRequest (drop at ws))
+  pub request-bad : recordEnd anOp m (m + y) ws at ≡ none → Malformed ≡ placed ws (readRequest (drop at ws))
   unfolding requestEnd
   request-bad e =
       sym (ap (λ (x : Option ℕ). nextOf (andThen x λ e. itemsEnd (opAt ws at) (countAt ws at) ws e)) (head-is none e)) ∙ request-placed ws at
 
-  pub request-go : (e n : ℕ) (r : Next) → recordEnd 4 m (m + y) ws at ≡ some e → n ≡ countAt ws at → r ≡ nextOf (itemsEnd op n ws e) → r ≡ placed ws (readRequest (drop at ws))
+  pub request-go : (e n : ℕ) (r : Next) → recordEnd anOp m (m + y) ws at ≡ some e → n ≡ countAt ws at → r ≡ nextOf (itemsEnd op n ws e) → r ≡ placed ws (readRequest (drop at ws))
   unfolding requestEnd
   request-go e n r f c i =
       i ∙ ap (λ (k : ℕ). nextOf (itemsEnd k n ws e)) o ∙ ap (λ (k : ℕ). nextOf (itemsEnd (opAt ws at) k ws e)) c

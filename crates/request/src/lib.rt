@@ -228,7 +228,7 @@ fn each_fits(rq: &[u64], at: usize, map: u64) -> bool
         at,
         map,
         format::field::FIELD_FORBIDDEN_KIND,
-        format::KIND_NUMBER_32,
+        format::field::KIND_NUMBER_32,
         true,
     );
     let b = fits_too(
@@ -236,7 +236,7 @@ fn each_fits(rq: &[u64], at: usize, map: u64) -> bool
         at,
         map,
         format::field::FIELD_FORBIDDEN_OBJECT,
-        format::KIND_KOID,
+        format::field::KIND_KOID,
         a,
     );
     let c = fits_too(
@@ -244,7 +244,7 @@ fn each_fits(rq: &[u64], at: usize, map: u64) -> bool
         at,
         map,
         format::field::FIELD_EXPECTED_KIND,
-        format::KIND_NUMBER_32,
+        format::field::KIND_NUMBER_32,
         b,
     );
     let d = fits_too(
@@ -252,7 +252,7 @@ fn each_fits(rq: &[u64], at: usize, map: u64) -> bool
         at,
         map,
         format::field::FIELD_OFFERED_KIND,
-        format::KIND_NUMBER_32,
+        format::field::KIND_NUMBER_32,
         c,
     );
     let e = fits_too(
@@ -260,16 +260,23 @@ fn each_fits(rq: &[u64], at: usize, map: u64) -> bool
         at,
         map,
         format::field::FIELD_ROUTE,
-        format::KIND_ROUTE,
+        format::field::KIND_ROUTE,
         d,
     );
-    let f = fits_too(rq, at, map, format::field::FIELD_KOID, format::KIND_KOID, e);
+    let f = fits_too(
+        rq,
+        at,
+        map,
+        format::field::FIELD_KOID,
+        format::field::KIND_KOID,
+        e,
+    );
     let g = fits_too(
         rq,
         at,
         map,
         format::field::FIELD_KIND,
-        format::KIND_NUMBER_32,
+        format::field::KIND_NUMBER_32,
         f,
     );
     fits_too(
@@ -277,7 +284,7 @@ fn each_fits(rq: &[u64], at: usize, map: u64) -> bool
         at,
         map,
         format::field::FIELD_FLAGS,
-        format::KIND_NUMBER_32,
+        format::field::KIND_NUMBER_32,
         g,
     )
 }
@@ -369,9 +376,9 @@ fn items_ok(rq: &[u64], at: usize, op: u64, count: u64) -> Next
             rq,
             at,
             count,
-            format::KIND_ZERO,
-            format::PARCEL_ITEM_MUST,
-            format::PARCEL_ITEM_MUST + format::PARCEL_ITEM_MAY,
+            format::field::KIND_ZERO,
+            format::maps::PARCEL_ITEM_MUST,
+            format::maps::PARCEL_ITEM_MUST + format::maps::PARCEL_ITEM_MAY,
         );
     }
     if op == format::op::OP_PREPARE_TRANSFER {
@@ -379,9 +386,9 @@ fn items_ok(rq: &[u64], at: usize, op: u64, count: u64) -> Next
             rq,
             at,
             count,
-            format::KIND_OPERATION,
-            format::TRANSFER_ITEM_MUST,
-            format::TRANSFER_ITEM_MUST + format::TRANSFER_ITEM_MAY,
+            format::field::KIND_OPERATION,
+            format::maps::TRANSFER_ITEM_MUST,
+            format::maps::TRANSFER_ITEM_MUST + format::maps::TRANSFER_ITEM_MAY,
         );
     }
     Next::At(at)
@@ -394,7 +401,7 @@ pub fn request_ok(rq: &[u64], at: usize) -> Next
     let op = field(rq, at, format::field::FIELD_OP);
     let must = format::must(op);
     let may = format::may(op);
-    let Next::At(end) = record_ok(rq, at, format::KIND_OP, must, must + may) else {
+    let Next::At(end) = record_ok(rq, at, format::field::KIND_OP, must, must + may) else {
         return Next::Malformed;
     };
     let count = field(rq, at, format::field::FIELD_COUNT);
@@ -421,7 +428,7 @@ pub fn list_ok(rq: &[u64]) -> Listed
 pub fn answers_short(out: &[u64], count: u64) -> bool
     ensures { λ r. ⌜ r ≡ ltb (length (now (out .entry))) (answerWords * count) ⌝ }
 {
-    ((out.len() / 72) as u64) < count
+    ((out.len() / format::size::ANSWER_PLACES) as u64) < count
 }
 
 // Puts a word of the answer whose words begin at `base`; nothing past the end.
@@ -441,7 +448,7 @@ fn clear_whole(out: &mut [u64], base: usize)
     ensures { λ _. ⌜ now (out .exit) ≡ cleared (now (out .entry)) base answerWords ⌝ }
 {
     let mut k: usize = 0;
-    while k < 72 {
+    while k < format::size::ANSWER_PLACES {
         out[base + k] = 0;
         k += 1;
     }
@@ -452,7 +459,7 @@ fn clear_part(out: &mut [u64], base: usize)
     ensures { λ _. ⌜ now (out .exit) ≡ cleared (now (out .entry)) base answerWords ⌝ }
 {
     let mut k: usize = 0;
-    while k < 72 {
+    while k < format::size::ANSWER_PLACES {
         answer_put(out, base, k, 0);
         k += 1;
     }
@@ -463,7 +470,7 @@ pub fn clear_answer(out: &mut [u64], base: usize)
     ensures { λ _. ⌜ now (out .exit) ≡ cleared (now (out .entry)) base answerWords ⌝ }
 {
     if base < out.len() {
-        if 72 <= out.len() - base {
+        if format::size::ANSWER_PLACES <= out.len() - base {
             return clear_whole(out, base);
         }
         return clear_part(out, base);

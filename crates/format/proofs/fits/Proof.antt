@@ -2,6 +2,7 @@
 -- Assumes nothing.
 use mathlib.Core.Path.{refl}
 use Rattle.format.specs.Laws.{kind-fits, no-kind}
+use Rattle.format.specs.Fields.{anyWord, number32, aKoid, aRoute, anOp, anOperation, zeroWord}
 use Rattle.format.specs.Format.{fieldFits}
 use Rattle.format.proofs.fits.Statement.{statement}
 use Rattle.format.proofs.fits.Tie as tie
@@ -11,32 +12,32 @@ known-op-requires c κs = tt
 
 returns : tie.Need-returns
 unfolding fieldFits
-returns c = kind-fits (c .before .args .kind) 0 (c .before .args .word) _ (c .match .keys1) refl
+returns c = kind-fits (c .before .args .kind) anyWord (c .before .args .word) _ (c .match .keys1) refl
 
 returns-2 : tie.Need-returns-2
 unfolding fieldFits
-returns-2 c = kind-fits (c .before .args .kind) 1 (c .before .args .word) _ (c .match .keys2) refl
+returns-2 c = kind-fits (c .before .args .kind) number32 (c .before .args .word) _ (c .match .keys2) refl
 
 returns-3 : tie.Need-returns-3
 unfolding fieldFits
-returns-3 c = kind-fits (c .before .args .kind) 2 (c .before .args .word) _ (c .match .keys3) refl
+returns-3 c = kind-fits (c .before .args .kind) aKoid (c .before .args .word) _ (c .match .keys3) refl
 
 returns-4 : tie.Need-returns-4
 unfolding fieldFits
-returns-4 c = kind-fits (c .before .args .kind) 3 (c .before .args .word) _ (c .match .keys4) refl
+returns-4 c = kind-fits (c .before .args .kind) aRoute (c .before .args .word) _ (c .match .keys4) refl
 
 returns-5 : tie.Need-returns-5
 unfolding fieldFits
 returns-5 c =
-    kind-fits (c .before .before .args .kind) 4 (c .before .before .args .word) (c .known-op .result) (c .before .match .keys5) (c .known-op .ensures)
+    kind-fits (c .before .before .args .kind) anOp (c .before .before .args .word) (c .known-op .result) (c .before .match .keys5) (c .known-op .ensures)
 
 returns-6 : tie.Need-returns-6
 unfolding fieldFits
-returns-6 c = kind-fits (c .before .args .kind) 5 (c .before .args .word) _ (c .match .keys6) refl
+returns-6 c = kind-fits (c .before .args .kind) anOperation (c .before .args .word) _ (c .match .keys6) refl
 
 returns-7 : tie.Need-returns-7
 unfolding fieldFits
-returns-7 c = kind-fits (c .before .args .kind) 6 (c .before .args .word) _ (c .match .keys7) refl
+returns-7 c = kind-fits (c .before .args .kind) zeroWord (c .before .args .word) _ (c .match .keys7) refl
 
 returns-8 : tie.Need-returns-8
 returns-8 c =
