@@ -139,6 +139,13 @@ objectActive = 6
 abbrev pub objectLimit : ℕ
 objectLimit = 7
 
+-- of a pair of the row index: the place of the row of a rank, and the rank of the row in a place
+abbrev pub indexPlace : ℕ
+indexPlace = 0
+
+abbrev pub indexRank : ℕ
+indexRank = 1
+
 -- of a row's first block
 abbrev pub rowId : ℕ
 rowId = 0

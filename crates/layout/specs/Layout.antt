@@ -13,7 +13,8 @@ use Rattle.words.specs.Words.{get-past, words-same}
 use Rattle.layout.specs.Regions.{ext, size, region, region-past, Stacked, stacked-to, Inside, inside, placeIn, inside-yes, inside-is, in-place, no-place, below, one-place, place-of}
 use Rattle.layout.specs.declared.Shape.{Shape}
 use Rattle.layout.specs.declared.Extent.{Extent}
-use Rattle.layout.specs.Fields.{headCursor, headPages, headFirstFree, entryNext, slotTag, slotGeneration, slotRights, rowLength, itemOperation, itemMoved, itemRights}
+use Rattle.layout.specs.RegionNames.{regionRoot, regionHead, regionEntry, regionOwner, regionGroup16, regionGroup256, regionGroup4096, regionCell, regionObject, regionIndex, regionRow}
+use Rattle.layout.specs.Fields.{headCursor, headPages, headFirstFree, entryNext, slotTag, slotGeneration, slotRights, indexPlace, indexRank, rowLength, itemOperation, itemMoved, itemRights}
 use Rattle.layout.specs.Sizes.{pageSize, batchMax, rootSize, headSize, entrySize, slotSize, objectSize, indexSize, blockSize, frameSize, rowBlocks, rowSize}
 
 -- ---- the low ends
@@ -52,25 +53,25 @@ total sh = rowsAt sh + rowSize * sh .rows
 -- THE LAYOUT: low end, how many of how many, words of each
 abbrev pub layout : Shape → List Extent
 layout sh =
-    -- 0 header
+    -- regionRoot: header
     ext 0 1 1 rootSize
-    -- 1 table heads
+    -- regionHead: table heads
     ∷ ext rootSize (sh .tables) 1 headSize
-    -- 2 page entries
+    -- regionEntry: page entries
     ∷ ext (entriesAt sh) (sh .pages) 1 entrySize
-    -- 3 frame owners
+    -- regionOwner: frame owners
     ∷ ext (ownersAt sh) (sh .frames) 1 1
-    -- 4 to 6 free frames in each 16, 256 and 4,096
+    -- regionGroup16, regionGroup256, regionGroup4096: free frames in each 16, 256 and 4,096
     ∷ ext (sixteensAt sh) ((sh .frames + 15) / 16) 1 1
     ∷ ext (hundredsAt sh) ((sh .frames + 255) / 256) 1 1
     ∷ ext (thousandsAt sh) ((sh .frames + 4095) / 4096) 1 1
-    -- 7 frames: slots
+    -- regionCell: frames: slots
     ∷ ext (framesAt sh) (sh .frames) pageSize slotSize
-    -- 8 objects
+    -- regionObject: objects
     ∷ ext (objectsAt sh) (sh .objects) 1 objectSize
-    -- 9 row index: places by rank, and ranks by place
+    -- regionIndex: row index: places by rank, and ranks by place
     ∷ ext (indexAt sh) (sh .rows) 1 indexSize
-    -- 10 rows: the row, then its items
+    -- regionRow: rows: the row, then its items
     ∷ ext (rowsAt sh) (sh .rows) rowBlocks blockSize
     ∷ []
 
@@ -89,41 +90,41 @@ pub data Addr : Type 0 where
   reg : ℕ → ℕ → ℕ → ℕ → Addr
 
 abbrev pub root : ℕ → Addr
-root f = reg 0 0 0 f
+root f = reg regionRoot 0 0 f
 
 abbrev pub head : ℕ → ℕ → Addr
-head t f = reg 1 t 0 f
+head t f = reg regionHead t 0 f
 
 abbrev pub entry : ℕ → ℕ → Addr
-entry e f = reg 2 e 0 f
+entry e f = reg regionEntry e 0 f
 
 abbrev pub owner : ℕ → Addr
-owner fr = reg 3 fr 0 0
+owner fr = reg regionOwner fr 0 0
 
 -- the free frames in group g: level 0 groups are of 16, level 1 of 256, level 2 of 4,096
 abbrev pub group : ℕ → ℕ → Addr
-group n g = reg (4 + n) g 0 0
+group n g = reg (regionGroup16 + n) g 0 0
 
 -- a field of slot j of a frame, which counts from 0
 abbrev pub cell : ℕ → ℕ → ℕ → Addr
-cell fr j f = reg 7 fr j f
+cell fr j f = reg regionCell fr j f
 
 abbrev pub object : ℕ → ℕ → Addr
-object o f = reg 8 o 0 f
+object o f = reg regionObject o 0 f
 
 -- the place of the row of rank i, and the rank of the row in place r
 abbrev pub index : ℕ → Addr
-index i = reg 9 i 0 0
+index i = reg regionIndex i 0 indexPlace
 
 abbrev pub rank : ℕ → Addr
-rank r = reg 9 r 0 1
+rank r = reg regionIndex r 0 indexRank
 
 abbrev pub row : ℕ → ℕ → Addr
-row r f = reg 10 r 0 f
+row r f = reg regionRow r 0 f
 
 -- item j of a row stands in block j + 1
 abbrev pub item : ℕ → ℕ → ℕ → Addr
-item r j f = reg 10 r (suc j) f
+item r j f = reg regionRow r (suc j) f
 
 -- of one number's blocks: the first is told from the items at once
 abbrev blocks : ℕ → ℕ → Bool → Bool → Bool
@@ -134,7 +135,7 @@ blocks (suc i) (suc j) f x = f && (eqb i j && x)
 
 -- region and field first, so that the test computes where they are numerals
 abbrev pub same : Addr → Addr → Bool
-same (reg k x y f) (reg k′ x′ y′ f′) = eqb k′ k && pick (eqb k 10) (blocks y′ y (eqb f′ f) (eqb x′ x)) (eqb f′ f && (eqb y′ y && eqb x′ x))
+same (reg k x y f) (reg k′ x′ y′ f′) = eqb k′ k && pick (eqb k regionRow) (blocks y′ y (eqb f′ f) (eqb x′ x)) (eqb f′ f && (eqb y′ y && eqb x′ x))
 
 blocks-is : (i j : ℕ) (f x : Bool) → blocks i j f x ≡ (f && (eqb i j && x))
 blocks-is zero zero f x = refl
@@ -150,7 +151,7 @@ pick-same false x y e = refl
 pub same-all : (k x y f k′ x′ y′ f′ : ℕ) → same (reg k x y f) (reg k′ x′ y′ f′) ≡ (eqb k′ k && (eqb f′ f && (eqb y′ y && eqb x′ x)))
 same-all k x y f k′ x′ y′ f′ =
     ap (λ (b : Bool). eqb k′ k && b)
-    (pick-same (eqb k 10) (blocks y′ y (eqb f′ f) (eqb x′ x)) (eqb f′ f && (eqb y′ y && eqb x′ x)) (blocks-is y′ y (eqb f′ f) (eqb x′ x)))
+    (pick-same (eqb k regionRow) (blocks y′ y (eqb f′ f) (eqb x′ x)) (eqb f′ f && (eqb y′ y && eqb x′ x)) (blocks-is y′ y (eqb f′ f) (eqb x′ x)))
 
 pub same-is : (a b : Addr) → same a b ≡ true → b ≡ a
 same-is (reg k x y f) (reg k′ x′ y′ f′) e =
@@ -300,9 +301,9 @@ module _ (ws : List ℕ) (sh : Shape) where
       (λ e. rw (save-out a v e))
 
 -- the words of a header stand at their numbers
-pub load-root : (ws : List ℕ) (sh : Shape) (f : ℕ) → f < 16 → load ws sh (root f) ≡ getD ws f 0
+pub load-root : (ws : List ℕ) (sh : Shape) (f : ℕ) → f < rootSize → load ws sh (root f) ≡ getD ws f 0
 unfolding load
-load-root ws sh f h = ap (λ (i : ℕ). getD ws i 0) (in-place (region (layout sh) 0) 0 0 f (length ws) (in-root sh f h) ∙ omega arith)
+load-root ws sh f h = ap (λ (i : ℕ). getD ws i 0) (in-place (region (layout sh) regionRoot) 0 0 f (length ws) (in-root sh f h) ∙ omega arith)
 
 -- what the addresses show, and the words past the state, determine the words
 pub loads-same : (ws vs : List ℕ) (sh : Shape) → length ws ≡ length vs → load ws sh ≡ load vs sh → ((i : ℕ) → total sh ≤ i → getD ws i 0 ≡ getD vs i 0) → ws ≡ vs
@@ -370,7 +371,7 @@ region-small sh k r a b c d e q = rw q (omega (arith, total-small sh a b c d e, 
 up : (n k : ℕ) → n ≤ k → (k ≡ n → ⊥) → suc n ≤ k
 up n k h d = omega arith
 
-pub region-none : (sh : Shape) (k : ℕ) → (k ≡ 0 → ⊥) → (k ≡ 1 → ⊥) → (k ≡ 2 → ⊥) → (k ≡ 3 → ⊥) → (k ≡ 4 → ⊥) → (k ≡ 5 → ⊥) → (k ≡ 6 → ⊥) → (k ≡ 7 → ⊥) → (k ≡ 8 → ⊥) → (k ≡ 9 → ⊥) → (k ≡ 10 → ⊥)
+pub region-none : (sh : Shape) (k : ℕ) → (k ≡ regionRoot → ⊥) → (k ≡ regionHead → ⊥) → (k ≡ regionEntry → ⊥) → (k ≡ regionOwner → ⊥) → (k ≡ regionGroup16 → ⊥) → (k ≡ regionGroup256 → ⊥) → (k ≡ regionGroup4096 → ⊥) → (k ≡ regionCell → ⊥) → (k ≡ regionObject → ⊥) → (k ≡ regionIndex → ⊥) → (k ≡ regionRow → ⊥)
     → _≡_ {A = Extent} (record { low = 0; x = 0; y = 0; w = 0 }) (region (layout sh) k)
 region-none sh k h0 h1 h2 h3 h4 h5 h6 h7 h8 h9 h10 =
     sym (region-past (layout sh) k (up 10 k (up 9 k (up 8 k (up 7 k (up 6 k (up 5 k (up 4 k (up 3 k (up 2 k (up 1 k (up 0 k (omega arith) h0) h1) h2) h3) h4) h5) h6) h7) h8) h9) h10))

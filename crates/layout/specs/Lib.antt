@@ -1,4 +1,5 @@
 pub mod Fields
+pub mod RegionNames
 pub mod Values
 pub mod Sizes
 pub mod Regions

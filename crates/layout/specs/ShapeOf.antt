@@ -12,7 +12,7 @@ use Rattle.layout.specs.Layout.{total, root, Mem, load, load-root}
 use Rattle.layout.specs.declared.Shape.{Shape}
 use Rattle.layout.specs.declared.ShapeRead.{ShapeRead}
 use Rattle.layout.specs.declared.ShapeRead.the-variants.{Shape as found, Bad}
-use Rattle.layout.specs.Fields.{rootVersion, rootTables, rootFrames, rootObjects, rootRows, rootPages}
+use Rattle.layout.specs.Fields.{rootVersion, rootTables, rootFrames, rootObjects, rootRows, rootNextId, rootFreeFrames, rootPages}
 use Rattle.layout.specs.Values.{formatVersion}
 use Rattle.layout.specs.Sizes.{pagesMax, tablesMax, framesMax, objectsMax, rowsMax}
 
@@ -156,7 +156,7 @@ pub record Roots (sh : Shape) (m : Mem) : Type 0 where
   pub pages : m (root rootPages) ≡ sh .pages
 
 -- so has one that shows the same header, but for the next id and the counts of rows and of free frames
-pub roots-kept : (sh : Shape) (m m′ : Mem) → ((f : ℕ) → (5 ≤ f → f ≤ 7 → ⊥) → m′ (root f) ≡ m (root f)) → Roots sh m → Roots sh m′
+pub roots-kept : (sh : Shape) (m m′ : Mem) → ((f : ℕ) → (rootNextId ≤ f → f ≤ rootFreeFrames → ⊥) → m′ (root f) ≡ m (root f)) → Roots sh m → Roots sh m′
 roots-kept sh m m′ e r = record {
   version = e rootVersion (λ a b. omega arith) ∙ r .version;
   tables = e rootTables (λ a b. omega arith) ∙ r .tables;

@@ -38,6 +38,10 @@ rowsMax = 256
 abbrev pub batchMax : ℕ
 batchMax = 64
 
+-- the largest number of 32 bits
+abbrev pub number32Max : ℕ
+number32Max = 4294967295
+
 -- words of the header, a head, a page entry, a slot, an object, a pair of the row index and a block of a row
 abbrev pub rootSize : ℕ
 rootSize = 16

@@ -64,3 +64,13 @@ operationMove = 0
 
 abbrev pub operationCopy : ℕ
 operationCopy = 1
+
+-- route of a transfer
+abbrev pub routeBuffered : ℕ
+routeBuffered = 0
+
+abbrev pub routeRendezvous : ℕ
+routeRendezvous = 1
+
+abbrev pub routeStagedStartup : ℕ
+routeStagedStartup = 2

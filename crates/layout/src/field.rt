@@ -94,6 +94,11 @@ pub const OBJECT_ACTIVE: u64 = 6;
 
 pub const OBJECT_LIMIT: u64 = 7;
 
+// Of a pair of the row index: the place of the row of a rank, and the rank of the row in a place.
+pub const INDEX_PLACE: u64 = 0;
+
+pub const INDEX_RANK: u64 = 1;
+
 // Of a row's first block.
 pub const ROW_ID: u64 = 0;
 

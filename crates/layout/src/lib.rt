@@ -9,6 +9,7 @@ ghost use Rattle.layout.specs.Cells.{cellAt};
 
 pub mod field;
 pub mod place;
+pub mod region;
 pub mod size;
 pub mod value;
 
@@ -44,30 +45,6 @@ pub enum ShapeRead {
     Bad,
 }
 
-// The regions.
-pub const ROOT: u64 = 0;
-
-pub const HEAD: u64 = 1;
-
-pub const ENTRY: u64 = 2;
-
-pub const OWNER: u64 = 3;
-
-// Free frames in each 16, 256 and 4,096.
-pub const SIXTEEN: u64 = 4;
-
-pub const HUNDRED: u64 = 5;
-
-pub const THOUSAND: u64 = 6;
-
-pub const CELL: u64 = 7;
-
-pub const OBJECT: u64 = 8;
-
-pub const INDEX: u64 = 9;
-
-pub const ROW: u64 = 10;
-
 // The layout's region of a number; an empty one past its end.
 pub fn region_of(sh: Shape, k: u64) -> Extent
     ensures { λ r. ⌜ r ≡ region (layout sh) k ⌝ }
@@ -86,7 +63,7 @@ pub fn region_of(sh: Shape, k: u64) -> Extent
     let low8 = low7 + size::FRAME_SIZE * f;
     let low9 = low8 + size::OBJECT_SIZE * o;
     let low10 = low9 + size::INDEX_SIZE * r;
-    if k == ROOT {
+    if k == region::REGION_ROOT {
         return Extent {
             low: 0,
             x: 1,
@@ -94,7 +71,7 @@ pub fn region_of(sh: Shape, k: u64) -> Extent
             w: size::ROOT_SIZE,
         };
     }
-    if k == HEAD {
+    if k == region::REGION_HEAD {
         return Extent {
             low: size::ROOT_SIZE,
             x: t,
@@ -102,7 +79,7 @@ pub fn region_of(sh: Shape, k: u64) -> Extent
             w: size::HEAD_SIZE,
         };
     }
-    if k == ENTRY {
+    if k == region::REGION_ENTRY {
         return Extent {
             low: low2,
             x: p,
@@ -110,7 +87,7 @@ pub fn region_of(sh: Shape, k: u64) -> Extent
             w: size::ENTRY_SIZE,
         };
     }
-    if k == OWNER {
+    if k == region::REGION_OWNER {
         return Extent {
             low: low3,
             x: f,
@@ -118,7 +95,7 @@ pub fn region_of(sh: Shape, k: u64) -> Extent
             w: 1,
         };
     }
-    if k == SIXTEEN {
+    if k == region::REGION_GROUP_16 {
         return Extent {
             low: low4,
             x: (f + 15) / 16,
@@ -126,7 +103,7 @@ pub fn region_of(sh: Shape, k: u64) -> Extent
             w: 1,
         };
     }
-    if k == HUNDRED {
+    if k == region::REGION_GROUP_256 {
         return Extent {
             low: low5,
             x: (f + 255) / 256,
@@ -134,7 +111,7 @@ pub fn region_of(sh: Shape, k: u64) -> Extent
             w: 1,
         };
     }
-    if k == THOUSAND {
+    if k == region::REGION_GROUP_4096 {
         return Extent {
             low: low6,
             x: (f + 4095) / 4096,
@@ -142,7 +119,7 @@ pub fn region_of(sh: Shape, k: u64) -> Extent
             w: 1,
         };
     }
-    if k == CELL {
+    if k == region::REGION_CELL {
         return Extent {
             low: low7,
             x: f,
@@ -150,7 +127,7 @@ pub fn region_of(sh: Shape, k: u64) -> Extent
             w: size::SLOT_SIZE,
         };
     }
-    if k == OBJECT {
+    if k == region::REGION_OBJECT {
         return Extent {
             low: low8,
             x: o,
@@ -158,7 +135,7 @@ pub fn region_of(sh: Shape, k: u64) -> Extent
             w: size::OBJECT_SIZE,
         };
     }
-    if k == INDEX {
+    if k == region::REGION_INDEX {
         return Extent {
             low: low9,
             x: r,
@@ -166,7 +143,7 @@ pub fn region_of(sh: Shape, k: u64) -> Extent
             w: size::INDEX_SIZE,
         };
     }
-    if k == ROW {
+    if k == region::REGION_ROW {
         return Extent {
             low: low10,
             x: r,
@@ -241,59 +218,59 @@ pub fn save(s: &mut [u64], sh: Shape, k: u64, x: u64, y: u64, f: u64, v: u64)
 pub fn root_word(s: &[u64], sh: Shape, f: u64) -> u64
     ensures { λ r. ⌜ r ≡ loadAt (now (s .entry)) sh (root f) ⌝ }
 {
-    load(s, sh, ROOT, 0, 0, f)
+    load(s, sh, region::REGION_ROOT, 0, 0, f)
 }
 
 pub fn put_root(s: &mut [u64], sh: Shape, f: u64, v: u64)
     ensures { λ _. ⌜ now (s .exit) ≡ saveAt (now (s .entry)) sh (root f) v ⌝ }
 {
-    save(s, sh, ROOT, 0, 0, f, v);
+    save(s, sh, region::REGION_ROOT, 0, 0, f, v);
 }
 
 // Of a table's head.
 pub fn head_word(s: &[u64], sh: Shape, t: u64, f: u64) -> u64
     ensures { λ r. ⌜ r ≡ loadAt (now (s .entry)) sh (head t f) ⌝ }
 {
-    load(s, sh, HEAD, t, 0, f)
+    load(s, sh, region::REGION_HEAD, t, 0, f)
 }
 
 pub fn put_head(s: &mut [u64], sh: Shape, t: u64, f: u64, v: u64)
     ensures { λ _. ⌜ now (s .exit) ≡ saveAt (now (s .entry)) sh (head t f) v ⌝ }
 {
-    save(s, sh, HEAD, t, 0, f, v);
+    save(s, sh, region::REGION_HEAD, t, 0, f, v);
 }
 
 // Of a page entry.
 pub fn entry_word(s: &[u64], sh: Shape, e: u64, f: u64) -> u64
     ensures { λ r. ⌜ r ≡ loadAt (now (s .entry)) sh (entry e f) ⌝ }
 {
-    load(s, sh, ENTRY, e, 0, f)
+    load(s, sh, region::REGION_ENTRY, e, 0, f)
 }
 
 pub fn put_entry(s: &mut [u64], sh: Shape, e: u64, f: u64, v: u64)
     ensures { λ _. ⌜ now (s .exit) ≡ saveAt (now (s .entry)) sh (entry e f) v ⌝ }
 {
-    save(s, sh, ENTRY, e, 0, f, v);
+    save(s, sh, region::REGION_ENTRY, e, 0, f, v);
 }
 
 // A frame's owner.
 pub fn owner_word(s: &[u64], sh: Shape, fr: u64) -> u64
     ensures { λ r. ⌜ r ≡ loadAt (now (s .entry)) sh (owner fr) ⌝ }
 {
-    load(s, sh, OWNER, fr, 0, 0)
+    load(s, sh, region::REGION_OWNER, fr, 0, 0)
 }
 
 pub fn put_owner(s: &mut [u64], sh: Shape, fr: u64, v: u64)
     ensures { λ _. ⌜ now (s .exit) ≡ saveAt (now (s .entry)) sh (owner fr) v ⌝ }
 {
-    save(s, sh, OWNER, fr, 0, 0, v);
+    save(s, sh, region::REGION_OWNER, fr, 0, 0, v);
 }
 
 // A field of slot j of a frame; frames count from 0.
 pub fn cell_word(s: &[u64], sh: Shape, fr: u64, j: u64, f: u64) -> u64
     ensures { λ r. ⌜ r ≡ loadAt (now (s .entry)) sh (cell fr j f) ⌝ }
 {
-    load(s, sh, CELL, fr, j, f)
+    load(s, sh, region::REGION_CELL, fr, j, f)
 }
 
 // All words of slot j of a frame, each with its own test.
@@ -318,7 +295,7 @@ pub fn cell_at(s: &[u64], sh: Shape, fr: u64, j: u64) -> CellWords
     ensures { λ r. ⌜ r ≡ cellAt (loadAt (now (s .entry)) sh) fr j ⌝ }
 {
     let n = s.len();
-    let e = region_of(sh, CELL);
+    let e = region_of(sh, region::REGION_CELL);
     let at = place_in(n, e, fr, j, field::SLOT_TAG);
     if n < SLOT_WORDS {
         return cell_each(s, sh, fr, j);
@@ -339,59 +316,59 @@ pub fn cell_at(s: &[u64], sh: Shape, fr: u64, j: u64) -> CellWords
 pub fn put_cell(s: &mut [u64], sh: Shape, fr: u64, j: u64, f: u64, v: u64)
     ensures { λ _. ⌜ now (s .exit) ≡ saveAt (now (s .entry)) sh (cell fr j f) v ⌝ }
 {
-    save(s, sh, CELL, fr, j, f, v);
+    save(s, sh, region::REGION_CELL, fr, j, f, v);
 }
 
 // Of an object.
 pub fn object_word(s: &[u64], sh: Shape, o: u64, f: u64) -> u64
     ensures { λ r. ⌜ r ≡ loadAt (now (s .entry)) sh (object o f) ⌝ }
 {
-    load(s, sh, OBJECT, o, 0, f)
+    load(s, sh, region::REGION_OBJECT, o, 0, f)
 }
 
 pub fn put_object(s: &mut [u64], sh: Shape, o: u64, f: u64, v: u64)
     ensures { λ _. ⌜ now (s .exit) ≡ saveAt (now (s .entry)) sh (object o f) v ⌝ }
 {
-    save(s, sh, OBJECT, o, 0, f, v);
+    save(s, sh, region::REGION_OBJECT, o, 0, f, v);
 }
 
 // A place of the row index.
 pub fn index_word(s: &[u64], sh: Shape, i: u64) -> u64
     ensures { λ r. ⌜ r ≡ loadAt (now (s .entry)) sh (index i) ⌝ }
 {
-    load(s, sh, INDEX, i, 0, 0)
+    load(s, sh, region::REGION_INDEX, i, 0, field::INDEX_PLACE)
 }
 
 pub fn put_index(s: &mut [u64], sh: Shape, i: u64, v: u64)
     ensures { λ _. ⌜ now (s .exit) ≡ saveAt (now (s .entry)) sh (index i) v ⌝ }
 {
-    save(s, sh, INDEX, i, 0, 0, v);
+    save(s, sh, region::REGION_INDEX, i, 0, field::INDEX_PLACE, v);
 }
 
 // The rank of the row in a place.
 pub fn rank_word(s: &[u64], sh: Shape, r: u64) -> u64
     ensures { λ x. ⌜ x ≡ loadAt (now (s .entry)) sh (rank r) ⌝ }
 {
-    load(s, sh, INDEX, r, 0, 1)
+    load(s, sh, region::REGION_INDEX, r, 0, field::INDEX_RANK)
 }
 
 pub fn put_rank(s: &mut [u64], sh: Shape, r: u64, v: u64)
     ensures { λ _. ⌜ now (s .exit) ≡ saveAt (now (s .entry)) sh (rank r) v ⌝ }
 {
-    save(s, sh, INDEX, r, 0, 1, v);
+    save(s, sh, region::REGION_INDEX, r, 0, field::INDEX_RANK, v);
 }
 
 // A field of a row's first block.
 pub fn row_word(s: &[u64], sh: Shape, k: u64, f: u64) -> u64
     ensures { λ r. ⌜ r ≡ loadAt (now (s .entry)) sh (row k f) ⌝ }
 {
-    load(s, sh, ROW, k, 0, f)
+    load(s, sh, region::REGION_ROW, k, 0, f)
 }
 
 pub fn put_row(s: &mut [u64], sh: Shape, k: u64, f: u64, v: u64)
     ensures { λ _. ⌜ now (s .exit) ≡ saveAt (now (s .entry)) sh (row k f) v ⌝ }
 {
-    save(s, sh, ROW, k, 0, f, v);
+    save(s, sh, region::REGION_ROW, k, 0, f, v);
 }
 
 // Of item j of a row.
@@ -399,7 +376,7 @@ pub fn item_word(s: &[u64], sh: Shape, k: u64, j: u64, f: u64) -> u64
     ensures { λ r. ⌜ r ≡ loadAt (now (s .entry)) sh (item k j f) ⌝ }
 {
     if j < size::BATCH_MAX {
-        load(s, sh, ROW, k, j + 1, f)
+        load(s, sh, region::REGION_ROW, k, j + 1, f)
     } else {
         0
     }
@@ -409,7 +386,7 @@ pub fn put_item(s: &mut [u64], sh: Shape, k: u64, j: u64, f: u64, v: u64)
     ensures { λ _. ⌜ now (s .exit) ≡ saveAt (now (s .entry)) sh (item k j f) v ⌝ }
 {
     if j < size::BATCH_MAX {
-        save(s, sh, ROW, k, j + 1, f, v);
+        save(s, sh, region::REGION_ROW, k, j + 1, f, v);
     }
 }
 

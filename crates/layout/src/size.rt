@@ -26,6 +26,9 @@ pub const ROWS_MAX: u64 = 256;
 // The most entries of a row.
 pub const BATCH_MAX: u64 = 64;
 
+// The largest number of 32 bits.
+pub const NUMBER_32_MAX: u64 = 4294967295;
+
 // Words of the header, a head, a page entry, a slot, an object, a pair of the row index and a block of a row.
 pub const ROOT_SIZE: u64 = 16;
 

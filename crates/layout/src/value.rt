@@ -1,4 +1,4 @@
-// The words that stand for a case: tags, what a row is, lifecycles, states and classes of objects, operations (docs/formats.md, "The state's words").
+// The words that stand for a case: tags, what a row is, lifecycles, states and classes of objects, operations, routes (docs/formats.md, "The state's words").
 // The format's version.
 pub const FORMAT_VERSION: u64 = 1;
 
@@ -43,6 +43,13 @@ pub const CLASS_NEVER: u64 = 2;
 pub const OPERATION_MOVE: u64 = 0;
 
 pub const OPERATION_COPY: u64 = 1;
+
+// Route of a transfer.
+pub const ROUTE_BUFFERED: u64 = 0;
+
+pub const ROUTE_RENDEZVOUS: u64 = 1;
+
+pub const ROUTE_STAGED_STARTUP: u64 = 2;
 
 // The flags of document 01, as a word: the largest that a handle may have.
 pub const KNOWN_FLAGS: u64 = 3;
