@@ -73,7 +73,7 @@ module _ (sh : Shape) (m : Mem) (s : State) (r : Represents sh m s) (f : Fits s)
 -- ---- the search
 
 -- a row that it finds is one of the ranks
-link-some : (m : Mem) (id c : ℕ) → c ≤ 256 → (f i n x : ℕ) → n ≤ f → ((j : ℕ) → j < i + n → m (index j) < c) → linkFrom m id f i n ≡ suc x
+link-some : (m : Mem) (id c : ℕ) → c ≤ rowsMax → (f i n x : ℕ) → n ≤ f → ((j : ℕ) → j < i + n → m (index j) < c) → linkFrom m id f i n ≡ suc x
     → (j : ℕ) × (j < i + n) × (m (index j) ≡ x) × (m (row x rowId) ≡ id)
 link-some m id c few zero i n x l low e = absurd (omega arith)
 link-some m id c few (suc f) i zero x l low e = absurd (omega arith)

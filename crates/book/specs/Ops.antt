@@ -12,6 +12,7 @@ use Rattle.layout.specs.declared.Shape.{Shape}
 use Rattle.layout.specs.Layout.{Addr.reg, Mem, total, root, index, rank, row, item, load, save, same, same-is, isIn, length-save, load-save-any, Write, Write.at, writes}
 use Rattle.layout.specs.Fields.{rootNextId, rootUsedRows, rowId, rowKind, rowTable, rowLength, itemSlot, itemObject, itemRights, itemFlags}
 use Rattle.layout.specs.Values.{kindReservation}
+use Rattle.layout.specs.RegionNames.{regionRow}
 use Rattle.storage.specs.Ops.{up, vacateW}
 
 -- the id of the row of rank i
@@ -107,7 +108,7 @@ spendW ws sh = save ws sh (root rootNextId) (up (load ws sh (root rootNextId)))
 
 pub record Fills (ws ws′ : List ℕ) (sh : Shape) (x : ℕ) : Type 0 where
   pub long : length ws′ ≡ length ws
-  pub rest : (k z y f : ℕ) → (k ≡ 10 → z ≡ x → ⊥) → load ws′ sh (reg k z y f) ≡ load ws sh (reg k z y f)
+  pub rest : (k z y f : ℕ) → (k ≡ regionRow → z ≡ x → ⊥) → load ws′ sh (reg k z y f) ≡ load ws sh (reg k z y f)
 
 pub fills-none : (ws : List ℕ) (sh : Shape) (x : ℕ) → Fills ws ws sh x
 fills-none ws sh x = record { long = refl; rest = λ k z y f h. refl }
@@ -115,13 +116,13 @@ fills-none ws sh x = record { long = refl; rest = λ k z y f h. refl }
 pub fills-then : (ws ws₁ ws₂ : List ℕ) (sh : Shape) (x : ℕ) → Fills ws ws₁ sh x → Fills ws₁ ws₂ sh x → Fills ws ws₂ sh x
 fills-then ws ws₁ ws₂ sh x p q = record { long = q .long ∙ p .long; rest = λ k z y f h. q .rest k z y f h ∙ p .rest k z y f h }
 
-fill-one : (ws : List ℕ) (sh : Shape) → total sh ≤ length ws → (x y f v : ℕ) → Fills ws (save ws sh (reg 10 x y f) v) sh x
+fill-one : (ws : List ℕ) (sh : Shape) → total sh ≤ length ws → (x y f v : ℕ) → Fills ws (save ws sh (reg regionRow x y f) v) sh x
 fill-one ws sh h x y f v = record {
-  long = length-save ws sh (reg 10 x y f) v;
-  rest = λ k z y′ f′ n. load-save-any ws sh h (reg 10 x y f) v (reg k z y′ f′) ∙ bool (same (reg 10 x y f) (reg k z y′ f′))
-      (λ e. let q : reg k z y′ f′ ≡ reg 10 x y f = same-is (reg 10 x y f) (reg k z y′ f′) e in
-      let a : k ≡ 10 = cc in let b : z ≡ x = cc in absurd (n a b))
-      (λ e. rw (e, and-false (isIn sh (reg 10 x y f))));
+  long = length-save ws sh (reg regionRow x y f) v;
+  rest = λ k z y′ f′ n. load-save-any ws sh h (reg regionRow x y f) v (reg k z y′ f′) ∙ bool (same (reg regionRow x y f) (reg k z y′ f′))
+      (λ e. let q : reg k z y′ f′ ≡ reg regionRow x y f = same-is (reg regionRow x y f) (reg k z y′ f′) e in
+      let a : k ≡ regionRow = cc in let b : z ≡ x = cc in absurd (n a b))
+      (λ e. rw (e, and-false (isIn sh (reg regionRow x y f))));
 }
 
 pub fills-row : (ws : List ℕ) (sh : Shape) → total sh ≤ length ws → (x f v : ℕ) → Fills ws (save ws sh (row x f) v) sh x

@@ -13,8 +13,9 @@ use Rattle.model.specs.Book.{swapId, swapRow}
 use Rattle.invariant.specs.BookLemmas.{length-swap}
 use Rattle.layout.specs.declared.Shape.{Shape}
 use Rattle.layout.specs.Layout.{Mem, root, index, rank, row, item, load}
-use Rattle.layout.specs.Fields.{slotTag, slotPlace, slotPosition, rowId, rowTable, rowLength, itemOperation}
+use Rattle.layout.specs.Fields.{slotTag, slotPlace, slotPosition, indexPlace, indexRank, rowId, rowTable, rowLength, itemOperation}
 use Rattle.layout.specs.Values.{tagTransferReserved, operationMove}
+use Rattle.layout.specs.RegionNames.{regionRoot, regionIndex, regionRow}
 use Rattle.representation.specs.Represents.{slotWord, BodyIs, isMarked, Represents}
 use Rattle.storage.specs.Order.{same?}
 use Rattle.storage.specs.Kept.{body-kept}
@@ -27,7 +28,7 @@ use Rattle.book.specs.Find.{Fits, RowAt}
 
 -- what the book says of a mark: the slot's tag, place and position are t, x and j; MarkIs with the words as variables
 abbrev pub MarkAt : Mem → ℕ → ℕ → ℕ → ℕ → ℕ → ℕ → ℕ → Type 0
-MarkAt m c l b k t x j = (x < c) × (m (rank x) < l) × (j < m (row x rowLength)) × (m (row x rowTable) ≡ b) × (m (item x j (t - 1)) ≡ k) × (t ≡ 2 → m (item x j itemOperation) ≡ operationMove)
+MarkAt m c l b k t x j = (x < c) × (m (rank x) < l) × (j < m (row x rowLength)) × (m (row x rowTable) ≡ b) × (m (item x j (t - 1)) ≡ k) × (t ≡ tagTransferReserved → m (item x j itemOperation) ≡ operationMove)
 
 pub mark-words : (m : Mem) (c l b k t x j t′ x′ j′ : ℕ) → t′ ≡ t → x′ ≡ x → j′ ≡ j → MarkAt m c l b k t x j → MarkAt m c l b k t′ x′ j′
 mark-words m c l b k t x j t′ x′ j′ e₀ e₂ e₃ p = rw (e₀, e₂, e₃) p
@@ -40,7 +41,7 @@ mark-kept m n c l l′ b k t x j u rws its w = (w .0, u, rw (rws 3) (w .2), rws 
 pub fills-books : (ws ws′ : List ℕ) (sh : Shape) (x : ℕ) → Fills ws ws′ sh x → Books ws ws′ sh
 fills-books ws ws′ sh x p = record {
   long = p .long;
-  only = record { roots = λ f d e. p .rest 0 0 0 f (λ q z. omega arith); other = λ k z y f d e g. p .rest k z y f (λ q i. g q) };
+  only = record { roots = λ f d e. p .rest regionRoot 0 0 f (λ q z. omega arith); other = λ k z y f d e g. p .rest k z y f (λ q i. g q) };
 }
 
 module _ (ws ws′ : List ℕ) (sh : Shape) (s : State) (h : Held ws sh s) (x : ℕ) (p : Fills ws ws′ sh x) where
@@ -48,19 +49,19 @@ module _ (ws ws′ : List ℕ) (sh : Shape) (s : State) (h : Held ws sh s) (x : 
   r = h .reps .memory
 
   index-same : (i : ℕ) → load ws′ sh (index i) ≡ load ws sh (index i)
-  index-same i = p .rest 9 i 0 0 (λ q z. omega arith)
+  index-same i = p .rest regionIndex i 0 indexPlace (λ q z. omega arith)
 
   rank-same : (z : ℕ) → load ws′ sh (rank z) ≡ load ws sh (rank z)
-  rank-same z = p .rest 9 z 0 1 (λ q z. omega arith)
+  rank-same z = p .rest regionIndex z 0 indexRank (λ q z. omega arith)
 
   root-same : (f : ℕ) → load ws′ sh (root f) ≡ load ws sh (root f)
-  root-same f = p .rest 0 0 0 f (λ q z. omega arith)
+  root-same f = p .rest regionRoot 0 0 f (λ q z. omega arith)
 
   row-off : (z : ℕ) → (z ≡ x → ⊥) → (f : ℕ) → load ws′ sh (row z f) ≡ load ws sh (row z f)
-  row-off z ne f = p .rest 10 z 0 f (λ q e. ne e)
+  row-off z ne f = p .rest regionRow z 0 f (λ q e. ne e)
 
   item-off : (z : ℕ) → (z ≡ x → ⊥) → (j f : ℕ) → load ws′ sh (item z j f) ≡ load ws sh (item z j f)
-  item-off z ne j f = p .rest 10 z (suc j) f (λ q e. ne e)
+  item-off z ne j f = p .rest regionRow z (suc j) f (λ q e. ne e)
 
   slot-same : (b k f : ℕ) → slotWord (load ws′ sh) b k f ≡ slotWord (load ws sh) b k f
   slot-same = slot-kept (load ws sh) (load ws′ sh) (fills-books ws ws′ sh x p .only)

@@ -12,30 +12,32 @@ use Rattle.model.specs.Change.{withBook}
 use Rattle.layout.specs.declared.Shape.{Shape}
 use Rattle.layout.specs.ShapeOf.{roots-kept}
 use Rattle.layout.specs.Layout.{Addr, Addr.reg, Mem, total, root, head, entry, load, save, same, same-is, isIn, length-save, load-save-any, Write, Write.at, writes}
+use Rattle.layout.specs.Fields.{rootNextId, rootUsedRows, rootFreeFrames}
+use Rattle.layout.specs.RegionNames.{regionRoot, regionHead, regionEntry, regionOwner, regionGroup16, regionCell, regionObject, regionIndex, regionRow}
 use Rattle.representation.specs.Represents.{entryAt, slotWord, BookIs, Represents}
 use Rattle.storage.specs.Kept.{Stays, all-stay, SameIds, slot-kept as words-kept, table-kept, PoolSame, frames-kept, object-kept}
 use Rattle.storage.specs.Reps.{Held}
 
 -- only the book: the next id, the count of rows, the index and the rows may differ
 pub record OnlyBook (m n : Mem) : Type 0 where
-  pub roots : (f : ℕ) → (f ≡ 5 → ⊥) → (f ≡ 6 → ⊥) → n (root f) ≡ m (root f)
-  pub other : (k x y f : ℕ) → (k ≡ 0 → ⊥) → (k ≡ 9 → ⊥) → (k ≡ 10 → ⊥) → n (reg k x y f) ≡ m (reg k x y f)
+  pub roots : (f : ℕ) → (f ≡ rootNextId → ⊥) → (f ≡ rootUsedRows → ⊥) → n (root f) ≡ m (root f)
+  pub other : (k x y f : ℕ) → (k ≡ regionRoot → ⊥) → (k ≡ regionIndex → ⊥) → (k ≡ regionRow → ⊥) → n (reg k x y f) ≡ m (reg k x y f)
 
 module _ (m n : Mem) (o : OnlyBook m n) where
   off-head : (b f : ℕ) → n (head b f) ≡ m (head b f)
-  off-head b f = o .other 1 b 0 f (λ e. omega arith) (λ e. omega arith) (λ e. omega arith)
+  off-head b f = o .other regionHead b 0 f (λ e. omega arith) (λ e. omega arith) (λ e. omega arith)
 
   off-entry : (e f : ℕ) → n (entry e f) ≡ m (entry e f)
-  off-entry e f = o .other 2 e 0 f (λ e. omega arith) (λ e. omega arith) (λ e. omega arith)
+  off-entry e f = o .other regionEntry e 0 f (λ e. omega arith) (λ e. omega arith) (λ e. omega arith)
 
   book-stays : (b : ℕ) → Stays m n b
-  book-stays = all-stay m n off-head off-entry (λ fr j f. o .other 7 fr j f (λ e. omega arith) (λ e. omega arith) (λ e. omega arith))
+  book-stays = all-stay m n off-head off-entry (λ fr j f. o .other regionCell fr j f (λ e. omega arith) (λ e. omega arith) (λ e. omega arith))
 
   book-pool : PoolSame m n
   book-pool = record {
-    owners = λ g. o .other 3 g 0 0 (λ e. omega arith) (λ e. omega arith) (λ e. omega arith);
-    groups = λ i l g. o .other (4 + i) g 0 0 (λ e. omega arith) (λ e. omega arith) (λ e. omega arith);
-    count = o .roots 7 (λ e. omega arith) (λ e. omega arith);
+    owners = λ g. o .other regionOwner g 0 0 (λ e. omega arith) (λ e. omega arith) (λ e. omega arith);
+    groups = λ i l g. o .other (regionGroup16 + i) g 0 0 (λ e. omega arith) (λ e. omega arith) (λ e. omega arith);
+    count = o .roots rootFreeFrames (λ e. omega arith) (λ e. omega arith);
   }
 
   -- slots keep their words
@@ -54,7 +56,7 @@ module _ (m n : Mem) (o : OnlyBook m n) where
     first = λ b l. off-head b 10 ∙ r .first b l;
     tables = λ b l. table-kept m n b (book-stays b) (s .tables b) (r .tables b l) (ids b l) (λ p f h. off-entry (entryAt m b p) f) (λ p f h. off-entry (entryAt m b p) f);
     frames = frames-kept m n s (withBook s k) book-pool (λ c. off-head c 10) refl refl (λ c p f l h e. (l, h, e)) (r .frames);
-    objects = λ x l. object-kept m n x (s .objects x) (λ f. o .other 8 x 0 f (λ e. omega arith) (λ e. omega arith) (λ e. omega arith)) (r .objects x l);
+    objects = λ x l. object-kept m n x (s .objects x) (λ f. o .other regionObject x 0 f (λ e. omega arith) (λ e. omega arith) (λ e. omega arith)) (r .objects x l);
     book = book;
   }
 
@@ -78,7 +80,7 @@ books-none ws sh = record { long = refl; only = record { roots = λ f d e. refl;
 
 -- an address of the book
 abbrev pub OfBook : Addr → Type 0
-OfBook (reg k x y f) = ((k ≡ 0) × ((f ≡ 5) ⊎ (f ≡ 6))) ⊎ (k ≡ 9) ⊎ (k ≡ 10)
+OfBook (reg k x y f) = ((k ≡ regionRoot) × ((f ≡ rootNextId) ⊎ (f ≡ rootUsedRows))) ⊎ (k ≡ regionIndex) ⊎ (k ≡ regionRow)
 
 off-save : (ws : List ℕ) (sh : Shape) → total sh ≤ length ws → (a : Addr) (v : ℕ) (b : Addr) → (b ≡ a → ⊥) → load (save ws sh a v) sh b ≡ load ws sh b
 off-save ws sh h a v b n = load-save-any ws sh h a v b ∙ bool (same a b)
@@ -89,10 +91,10 @@ pub books-save : (ws : List ℕ) (sh : Shape) → total sh ≤ length ws → (a 
 books-save ws sh h (reg k x y f) v b = record {
   long = length-save ws sh (reg k x y f) v;
   only = record {
-    roots = λ g d e. off-save ws sh h (reg k x y f) v (root g) (λ q. let q₀ : 0 ≡ k = cc in let q₁ : g ≡ f = cc in
-        ⊎-elim (λ i. ⊎-elim (λ (j : f ≡ 5). d (q₁ ∙ j)) (λ (j : f ≡ 6). e (q₁ ∙ j)) (i .1)) (⊎-elim (λ (i : k ≡ 9). omega arith) (λ (i : k ≡ 10). omega arith)) b);
+    roots = λ g d e. off-save ws sh h (reg k x y f) v (root g) (λ q. let q₀ : regionRoot ≡ k = cc in let q₁ : g ≡ f = cc in
+        ⊎-elim (λ i. ⊎-elim (λ (j : f ≡ rootNextId). d (q₁ ∙ j)) (λ (j : f ≡ rootUsedRows). e (q₁ ∙ j)) (i .1)) (⊎-elim (λ (i : k ≡ regionIndex). omega arith) (λ (i : k ≡ regionRow). omega arith)) b);
     other = λ k′ x′ y′ f′ d e g. off-save ws sh h (reg k x y f) v (reg k′ x′ y′ f′) (λ q. let q₀ : k′ ≡ k = cc in
-        ⊎-elim (λ i. d (q₀ ∙ i .0)) (⊎-elim (λ (i : k ≡ 9). e (q₀ ∙ i)) (λ (i : k ≡ 10). g (q₀ ∙ i))) b);
+        ⊎-elim (λ i. d (q₀ ∙ i .0)) (⊎-elim (λ (i : k ≡ regionIndex). e (q₀ ∙ i)) (λ (i : k ≡ regionRow). g (q₀ ∙ i))) b);
   };
 }
 

@@ -33,11 +33,11 @@ module _ (f : List ℕ → ℕ → List ℕ) (ws : List ℕ) (n : ℕ) where
   each-end us j l inv = let z : n - j ≡ 0 = omega arith in sym (inv ∙ ap (each f us j) z)
 
 -- the test of an entry's operation
-moves : (m : Mem) (x j w : ℕ) (t : Bool) → w ≡ m (item x j itemOperation) → t ≡ eqb w 0 → eqb (m (item x j itemOperation)) operationMove ≡ t
+moves : (m : Mem) (x j w : ℕ) (t : Bool) → w ≡ m (item x j itemOperation) → t ≡ eqb w operationMove → eqb (m (item x j itemOperation)) operationMove ≡ t
 moves m x j w t e q = rw (q, e)
 
 -- `undo_entry`
-module _ (ws vs : List ℕ) (sh : Shape) (b x j o w : ℕ) (t : Bool) (e : o ≡ load ws sh (item x j itemObject)) (e₁ : w ≡ load ws sh (item x j itemOperation)) (q : t ≡ eqb w 0) where
+module _ (ws vs : List ℕ) (sh : Shape) (b x j o w : ℕ) (t : Bool) (e : o ≡ load ws sh (item x j itemObject)) (e₁ : w ≡ load ws sh (item x j itemOperation)) (q : t ≡ eqb w operationMove) where
   pub undo-move : (k r f : ℕ) → t ≡ true → k ≡ load ws sh (item x j itemMoved) → r ≡ load ws sh (item x j itemRights) → f ≡ load ws sh (item x j itemFlags) → vs ≡ occupyW ws sh b k o r f → vs ≡ undoW ws sh b x j
   unfolding undoW
   undo-move k r f y e₂ e₃ e₄ a = yes-is _ _ _ _ (moves (load ws sh) x j w t e₁ q ∙ y) (rw (a, e, e₂, e₃, e₄))
@@ -52,7 +52,7 @@ unfolding rolledW
 rolled-is ws w₁ w₂ sh x b n e₁ e₂ a₁ a₂ = rw (a₂, a₁, e₁, e₂)
 
 -- `sent_rights`
-module _ (m : Mem) (x j w : ℕ) (t : Bool) (e : w ≡ m (item x j itemOperation)) (q : t ≡ eqb w 0) (r : ℕ) where
+module _ (m : Mem) (x j w : ℕ) (t : Bool) (e : w ≡ m (item x j itemOperation)) (q : t ≡ eqb w operationMove) (r : ℕ) where
   pub sent-move : t ≡ true → r ≡ m (item x j itemGranted) → r ≡ sentRights m x j
   unfolding sentRights
   sent-move y a = yes-is _ _ _ _ (moves m x j w t e q ∙ y) a
@@ -62,7 +62,7 @@ module _ (m : Mem) (x j w : ℕ) (t : Bool) (e : w ≡ m (item x j itemOperation
   sent-copy y a = no-is _ _ _ _ (moves m x j w t e q ∙ y) a
 
 -- `leave_entry`
-module _ (ws : List ℕ) (sh : Shape) (b x j w : ℕ) (t : Bool) (e : w ≡ load ws sh (item x j itemOperation)) (q : t ≡ eqb w 0) where
+module _ (ws : List ℕ) (sh : Shape) (b x j w : ℕ) (t : Bool) (e : w ≡ load ws sh (item x j itemOperation)) (q : t ≡ eqb w operationMove) where
   pub leave-move : (vs : List ℕ) (k : ℕ) → t ≡ true → k ≡ load ws sh (item x j itemMoved) → vs ≡ vacateW ws sh b k → vs ≡ leaveW ws sh b x j
   unfolding leaveW
   leave-move vs k y d a = yes-is _ _ _ _ (moves (load ws sh) x j w t e q ∙ y) (rw (a, d))
@@ -72,7 +72,7 @@ module _ (ws : List ℕ) (sh : Shape) (b x j w : ℕ) (t : Bool) (e : w ≡ load
   leave-copy y = no-is _ _ _ _ (moves (load ws sh) x j w t e q ∙ y) refl
 
 -- `send_entry`: of a copy it stores what stands there
-module _ (ws : List ℕ) (sh : Shape) (x j w : ℕ) (t : Bool) (e : w ≡ load ws sh (item x j itemOperation)) (q : t ≡ eqb w 0) where
+module _ (ws : List ℕ) (sh : Shape) (x j w : ℕ) (t : Bool) (e : w ≡ load ws sh (item x j itemOperation)) (q : t ≡ eqb w operationMove) where
   pub send-move : (vs : List ℕ) (r : ℕ) → t ≡ true → r ≡ load ws sh (item x j itemGranted) → vs ≡ save ws sh (item x j itemRights) r → vs ≡ sendW ws sh x j
   unfolding sendW
   send-move vs r y d a = a ∙ ap (save ws sh (item x j itemRights)) (sent-move (load ws sh) x j w t e q r y d)

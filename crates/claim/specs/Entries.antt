@@ -21,6 +21,7 @@ use Rattle.invariant.specs.StorageViews.{fillAll-busy}
 use Rattle.layout.specs.declared.Shape.{Shape}
 use Rattle.layout.specs.Layout.{Mem, item, load}
 use Rattle.layout.specs.Fields.{itemSlot, itemObject, itemFlags}
+use Rattle.layout.specs.RegionNames.{regionRow}
 use Rattle.representation.specs.Represents.{EntryIs, Items}
 use Rattle.storage.specs.Order.{occurs-head}
 use Rattle.storage.specs.Ops.{vacateW, occupyW}
@@ -85,7 +86,7 @@ vacate-keeps sh ws s h b l k was =
       held = vacate-held ws sh s h b l k was;
       fades = vacate-fades ws sh s h b l k was;
       rows = row-turned (load ws sh) (load (vacateW ws sh b k) sh) s b (vacate till (s .tables b) k) only;
-      items = λ z j f. off-table b (load ws sh) (load (vacateW ws sh b k) sh) only 10 z (suc j) f (λ e. omega arith) (λ e. omega arith) (λ e. omega arith);
+      items = λ z j f. off-table b (load ws sh) (load (vacateW ws sh b k) sh) only regionRow z (suc j) f (λ e. omega arith) (λ e. omega arith) (λ e. omega arith);
       fits = λ f. record { room = f .room; rise = f .rise };
     }
 

@@ -23,6 +23,7 @@ use Rattle.model.specs.Step.{decide, step, carry, newObjectOf, duplicateOf, rel
 use Rattle.model.specs.Decided.{Decided, Any, accepts, checked, with-some, with-view, with-handle, with-reservation, with-claim, while-tearing, after-id, found-or, either-way, first-or}
 use Rattle.model.specs.Lists.{entry-words}
 use Rattle.contract.specs.Run.{Short}
+use Rattle.layout.specs.Sizes.{batchMax}
 
 take-most {ℓ} : {A : Type ℓ} (n : ℕ) (xs : List A) → length (take n xs) ≤ n
 take-most zero xs = omega arith
@@ -46,7 +47,7 @@ batch-short : (s : State) (b n : ℕ) (ps : List ℕ) → atMost n maxBatch ≡ 
 unfolding usedWords maxBatch
 batch-short s b n ps few =
     let u : Table = grow till ps (s .frames) (s .tables b) in
-    let l : n ≤ 64 = ltb-false 64 n (not-true (ltb 64 n) few) in
+    let l : n ≤ batchMax = ltb-false batchMax n (not-true (ltb batchMax n) few) in
     omega (arith, map-length (valueAt u) (take n (u .free)), take-most n (u .free), l)
 
 scan-short : (s : State) (b c : ℕ) → Short (scanned (snapshotPage till s (s .tables b) c))

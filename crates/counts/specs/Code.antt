@@ -12,19 +12,20 @@ use Rattle.layout.specs.declared.Shape.{Shape}
 use Rattle.layout.specs.Layout.{Mem, total, root, index, row, item, load}
 use Rattle.layout.specs.Fields.{rootUsedRows, rowKind, rowLength, itemObject}
 use Rattle.layout.specs.Sizes.{batchMax}
+use Rattle.layout.specs.Values.{kindClaim, kindParcel}
 use Rattle.counts.specs.Found.{gather, holdsHandles, inRow, inBook, countsB, OffObjects, book-same}
 use Rattle.counts.specs.Shift.{unit, shifted, shifted-append, shifted-off}
 use Rattle.counts.specs.Used.{topOf, top-append}
 
 -- claims and parcels, and no other rows
-holds-yes : (g : ℕ) → 2 ≤ g → g ≤ 3 → holdsHandles g ≡ true
+holds-yes : (g : ℕ) → kindClaim ≤ g → g ≤ kindParcel → holdsHandles g ≡ true
 holds-yes zero a b = absurd (omega arith)
 holds-yes (suc zero) a b = absurd (omega arith)
 holds-yes (suc (suc zero)) a b = refl
 holds-yes (suc (suc (suc zero))) a b = refl
 holds-yes (suc (suc (suc (suc g)))) a b = absurd (omega arith)
 
-holds-no : (g : ℕ) → (g ≡ 2 → ⊥) → (g ≡ 3 → ⊥) → holdsHandles g ≡ false
+holds-no : (g : ℕ) → (g ≡ kindClaim → ⊥) → (g ≡ kindParcel → ⊥) → holdsHandles g ≡ false
 holds-no zero a b = refl
 holds-no (suc zero) a b = refl
 holds-no (suc (suc zero)) a b = absurd (a refl)
@@ -33,10 +34,10 @@ holds-no (suc (suc (suc (suc g)))) a b = rw (ne-eqb (suc (suc (suc (suc g)))) 2 
 
 module _ (m : Mem) where
   -- `note_row`
-  pub row-none : (x g : ℕ) → g ≡ m (row x rowKind) → (g ≡ 2 → ⊥) → (g ≡ 3 → ⊥) → [] ≡ inRow m x
+  pub row-none : (x g : ℕ) → g ≡ m (row x rowKind) → (g ≡ kindClaim → ⊥) → (g ≡ kindParcel → ⊥) → [] ≡ inRow m x
   row-none x g a p q = let y : holdsHandles (m (row x rowKind)) ≡ false = ap holdsHandles (sym a) ∙ holds-no g p q in rw y
 
-  pub row-some : (x g c n : ℕ) → g ≡ m (row x rowKind) → 2 ≤ g → g ≤ 3 → c ≡ m (row x rowLength) → n ≡ min c batchMax → gather n (λ j. m (item x j itemObject) ∷ []) ≡ inRow m x
+  pub row-some : (x g c n : ℕ) → g ≡ m (row x rowKind) → kindClaim ≤ g → g ≤ kindParcel → c ≡ m (row x rowLength) → n ≡ min c batchMax → gather n (λ j. m (item x j itemObject) ∷ []) ≡ inRow m x
   row-some x g c n a p q b e = let y : holdsHandles (m (row x rowKind)) ≡ true = ap holdsHandles (sym a) ∙ holds-yes g p q in rw (y, e, b)
 
   -- `note_rank`

@@ -15,6 +15,7 @@ use Rattle.layout.specs.Layout.{Addr, Addr.reg, Mem, root, head, entry, cell, o
 use Rattle.layout.specs.Fields.{rootUsedRows, headPages, headFirstEntry, entryFrame, slotTag, slotObject, objectActive, rowKind, rowLength, itemObject}
 use Rattle.layout.specs.Values.{tagOccupied, kindClaim, kindParcel}
 use Rattle.layout.specs.Sizes.{batchMax}
+use Rattle.layout.specs.RegionNames.{regionObject}
 
 -- the lists of the first n numbers, one after the other
 abbrev pub gather : ℕ → (ℕ → List ℕ) → List ℕ
@@ -70,17 +71,17 @@ countsB m sh = all (sh .objects) (λ o. eqb (m (object o objectActive)) (handles
 
 -- n differs from m in the objects' records alone
 abbrev pub OffObjects : Mem → Mem → Type 0
-OffObjects m n = (k x y f : ℕ) → (k ≡ 8 → ⊥) → n (reg k x y f) ≡ m (reg k x y f)
+OffObjects m n = (k x y f : ℕ) → (k ≡ regionObject → ⊥) → n (reg k x y f) ≡ m (reg k x y f)
 
 -- the memory without the objects
 abbrev pub hide : Mem → Mem
-hide m (reg k x y f) = pick (eqb k 8) 0 (m (reg k x y f))
+hide m (reg k x y f) = pick (eqb k regionObject) 0 (m (reg k x y f))
 
 pub hide-same : (m n : Mem) → OffObjects m n → hide n ≡ hide m
 hide-same m n h = fun-ext go
   where
     go : (a : Addr) → hide n a ≡ hide m a
-    go (reg k x y f) = bool (eqb k 8) (λ e. rw e) (λ e. rw e (h k x y f (eqb-false k 8 e)))
+    go (reg k x y f) = bool (eqb k regionObject) (λ e. rw e) (λ e. rw e (h k x y f (eqb-false k regionObject e)))
 
 module _ (m n : Mem) (h : OffObjects m n) where
   pub cell-same : (fr j : ℕ) → inCell n fr j ≡ inCell m fr j

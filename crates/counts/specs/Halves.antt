@@ -20,6 +20,7 @@ use Rattle.layout.specs.declared.Shape.{Shape}
 use Rattle.layout.specs.Layout.{Addr, Addr.reg, Mem, total, root, head, entry, cell, row, item, index, objectsAt, object, isIn, in-no, same, same-all, place, place-low, in-object, load, save, load-out, length-save, save-past, loads-same}
 use Rattle.layout.specs.Fields.{rootUsedRows, headPages, headFirstEntry, entryFrame, slotTag, slotObject, objectActive, rowKind, rowLength, itemObject}
 use Rattle.layout.specs.Sizes.{pageSize, slotsMax, batchMax}
+use Rattle.layout.specs.RegionNames.{regionObject}
 use Rattle.counts.specs.Found.{gather, isOccupied, holdsHandles, onLink, inCell, inPage, inTable, inRow, inBook, found, handles, countsB}
 use Rattle.counts.specs.Shift.{plus, unit, shiftW, shifted, length-shift, length-shifted, load-other, object-load, object-save}
 use Rattle.counts.specs.Objects.{objectsB, objects-sound}
@@ -83,7 +84,7 @@ module _ (ws : List ℕ) (sh : Shape) where
   lower-past o i h = save-past ws sh (object o objectActive) (load ws sh (object o objectActive) % 4294967296) i h
 
 count-apart : (o p : ℕ) → (p ≡ o → ⊥) → same (object o objectActive) (object p objectActive) ≡ false
-count-apart o p h = same-all 8 o 0 6 8 p 0 6 ∙ rw (ne-eqb p o h)
+count-apart o p h = same-all regionObject o 0 objectActive regionObject p 0 objectActive ∙ rw (ne-eqb p o h)
 
 module _ (ws : List ℕ) (sh : Shape) where
   pub length-lowered : (n : ℕ) → length (lowered ws sh n) ≡ length ws
@@ -180,13 +181,13 @@ settled-kept ws sh os n low within = loads-same (lowered vs sh n) ws sh (length-
     rest a h = lowered-other vs sh n a (λ o l. h o) ∙ shifted-other sh ws os a h
 
     at : (a : Addr) → load (lowered vs sh n) sh a ≡ load ws sh a
-    at (reg k x y f) = bool (eqb k 8)
+    at (reg k x y f) = bool (eqb k regionObject)
         (λ ek. bool (eqb f 6)
         (λ ef. bool (eqb y 0)
         (λ ey. rw (eqb-true k 8 ek, eqb-true f 6 ef, eqb-true y 0 ey) (count x))
-        (λ ey. rest (reg k x y f) (λ o. same-all 8 o 0 6 k x y f ∙ rw (ek, ef, ey))))
-        (λ ef. rest (reg k x y f) (λ o. same-all 8 o 0 6 k x y f ∙ rw (ek, ef))))
-        (λ ek. rest (reg k x y f) (λ o. same-all 8 o 0 6 k x y f ∙ rw ek))
+        (λ ey. rest (reg k x y f) (λ o. same-all regionObject o 0 objectActive k x y f ∙ rw (ek, ef, ey))))
+        (λ ef. rest (reg k x y f) (λ o. same-all regionObject o 0 objectActive k x y f ∙ rw (ek, ef))))
+        (λ ek. rest (reg k x y f) (λ o. same-all regionObject o 0 objectActive k x y f ∙ rw ek))
 
 -- ---- there are fewer than 2^32 handles
 

@@ -18,6 +18,7 @@ use Rattle.layout.specs.declared.Shape.{Shape}
 use Rattle.layout.specs.Layout.{Mem, root, head, entry, cell, object, index, row, item}
 use Rattle.layout.specs.Fields.{rootUsedRows, headPages, headFirstEntry, entryFrame, slotTag, slotGeneration, slotObject, slotRights, slotFlags, rowLength, itemObject}
 use Rattle.layout.specs.Sizes.{pageSize, batchMax}
+use Rattle.layout.specs.Values.{tagOccupied}
 use Rattle.representation.specs.Represents.{entryAt, tagged, slotFrom, slotIn, HandleIs, EntryIs, Items, BodyIs, RowsAre, Represents}
 use Rattle.counts.specs.Found.{gather, onLink, inCell, inPage, inTable, inRow, inBook, handles}
 
@@ -36,7 +37,7 @@ sum-pages w (suc n) f = let e : suc n * w ≡ n * w + w = omega arith in
 -- ---- slots
 
 module _ (m : Mem) (o : ℕ) where
-  tag-hit : (t g x y w : ℕ) → inSlot o (tagged m t g x y w) ≡ occurs o (pick (eqb t 3) (x ∷ []) [])
+  tag-hit : (t g x y w : ℕ) → inSlot o (tagged m t g x y w) ≡ occurs o (pick (eqb t tagOccupied) (x ∷ []) [])
   tag-hit zero g x y w = refl
   tag-hit (suc zero) g x y w = refl
   tag-hit (suc (suc zero)) g x y w = refl

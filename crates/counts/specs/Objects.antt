@@ -18,6 +18,7 @@ use Rattle.layout.specs.declared.Shape.{Shape}
 use Rattle.layout.specs.Layout.{Addr.reg, Mem, objectsAt, object, load}
 use Rattle.layout.specs.Fields.{objectKoid, objectKind, objectClass, objectSupported, objectExportable, objectStage, objectActive, objectLimit}
 use Rattle.layout.specs.Values.{stageNew, stageActive, stageRetired, classNever}
+use Rattle.layout.specs.Sizes.{number32Max, objectSize}
 use Rattle.representation.specs.Represents.{classWord, stageWord, ObjectIs, Represents}
 use Rattle.representation.specs.Told.{class-small}
 use Rattle.counts.specs.Shift.{object-load}
@@ -29,14 +30,18 @@ stageB (suc zero) n = leb 1 n
 stageB (suc (suc zero)) n = true
 stageB (suc (suc (suc g))) n = false
 
+-- the same by the states' names, checked
+stageB-names : (n : ℕ) → (stageB stageNew n ≡ eqb n 0) × (stageB stageActive n ≡ leb 1 n) × (stageB stageRetired n ≡ true)
+stageB-names n = (refl, refl, refl)
+
 -- "limits and field ranges hold", and "none is above its limit"
 unfoldable pub objectB : Mem → ℕ → Bool
 objectB m o =
     leb 1 (m (object o objectKoid))
-    && (leb (m (object o objectKind)) 4294967295
+    && (leb (m (object o objectKind)) number32Max
     && (leb (m (object o objectClass)) classNever
     && (leb (m (object o objectExportable)) 1
-    && (leb (m (object o objectLimit)) 4294967295
+    && (leb (m (object o objectLimit)) number32Max
     && (leb (m (object o objectActive)) (m (object o objectLimit))
     && stageB (m (object o objectStage)) (m (object o objectActive)))))))
 
@@ -46,10 +51,10 @@ objectsB m sh = all (sh .objects) (objectB m)
 -- what the tests say of object o
 pub record ObjectFits (m : Mem) (o : ℕ) : Type 0 where
   pub koid : 1 ≤ m (object o objectKoid)
-  pub kind : m (object o objectKind) ≤ 4294967295
-  pub class : m (object o objectClass) ≤ 2
+  pub kind : m (object o objectKind) ≤ number32Max
+  pub class : m (object o objectClass) ≤ classNever
   pub exportable : m (object o objectExportable) ≤ 1
-  pub limit : m (object o objectLimit) ≤ 4294967295
+  pub limit : m (object o objectLimit) ≤ number32Max
   pub within : m (object o objectActive) ≤ m (object o objectLimit)
   pub staged : stageB (m (object o objectStage)) (m (object o objectActive)) ≡ true
 
@@ -78,10 +83,10 @@ module _ (m : Mem) (o : ℕ) where
   object-complete f =
       rw (
         le-leb 1 (m (object o objectKoid)) (f .koid),
-        le-leb (m (object o objectKind)) 4294967295 (f .kind),
+        le-leb (m (object o objectKind)) number32Max (f .kind),
         le-leb (m (object o objectClass)) classNever (f .class),
         le-leb (m (object o objectExportable)) 1 (f .exportable),
-        le-leb (m (object o objectLimit)) 4294967295 (f .limit),
+        le-leb (m (object o objectLimit)) number32Max (f .limit),
         le-leb (m (object o objectActive)) (m (object o objectLimit)) (f .within),
       ) (f .staged)
 
@@ -104,6 +109,10 @@ stageOf zero = stillNew
 stageOf (suc zero) = nowActive
 stageOf (suc (suc n)) = nowRetired
 
+-- the same by the states' names, checked
+stageOf-names : (stageOf stageNew ≡ stillNew) × (stageOf stageActive ≡ nowActive) × (stageOf stageRetired ≡ nowRetired)
+stageOf-names = (refl, refl, refl)
+
 abbrev pub objectFrom : Mem → ℕ → Object
 objectFrom m o = record {
   koid = m (object o objectKoid);
@@ -116,7 +125,7 @@ objectFrom m o = record {
   count = m (object o objectActive);
 }
 
-class-word : (n : ℕ) → n ≤ 2 → n ≡ classWord (classOf n)
+class-word : (n : ℕ) → n ≤ classNever → n ≡ classWord (classOf n)
 class-word zero h = refl
 class-word (suc zero) h = refl
 class-word (suc (suc n)) h = omega arith
@@ -208,7 +217,7 @@ fields-are m o a b c d g f e r pa pb pc pd pg pf pe q = q ∙ rw (pa, pb, pc, pd
 
 -- `object_ok`: the fields stand one after the other
 module _ (ws : List ℕ) (sh : Shape) (first o : ℕ) (h : first ≡ objectsAt sh) (l : o < sh .objects) where
-  field-at : (i f : ℕ) → f < 8 → i ≡ first + o * 8 + f → getD ws i 0 ≡ load ws sh (object o f)
+  field-at : (i f : ℕ) → f < objectSize → i ≡ first + o * 8 + f → getD ws i 0 ≡ load ws sh (object o f)
   field-at i f k e = object-load ws sh first o h l i f k e
 
   pub fields-read : (r : Bool)
@@ -226,10 +235,10 @@ unfolding objectB
 object-last m o a b c d e f g r pa pb pc pd pe pf pg hw ha hc hf q =
     q ∙ rw (pg, pf) (rw (
       le-leb 1 (m (object o objectKoid)) (omega arith),
-      le-leb (m (object o objectKind)) 4294967295 (omega arith),
+      le-leb (m (object o objectKind)) number32Max (omega arith),
       le-leb (m (object o objectClass)) classNever (omega arith),
       le-leb (m (object o objectExportable)) 1 (omega arith),
-      le-leb (m (object o objectLimit)) 4294967295 (omega arith),
+      le-leb (m (object o objectLimit)) number32Max (omega arith),
       le-leb (m (object o objectActive)) (m (object o objectLimit)) (omega arith),
     ))
 

@@ -12,6 +12,7 @@ use Rattle.layout.specs.declared.Shape.{Shape}
 use Rattle.layout.specs.Regions.{region, one-place, inside-is, in-place}
 use Rattle.layout.specs.Layout.{Addr, Addr.reg, total, layout, layout-stacked, objectsAt, object, in-object, isIn, place, same, same-all, load, save, length-save, load-out, save-out}
 use Rattle.layout.specs.Fields.{objectActive}
+use Rattle.layout.specs.RegionNames.{regionObject}
 use Rattle.counts.specs.Found.{OffObjects}
 
 -- a word with d more: past the largest it starts again
@@ -65,7 +66,7 @@ module _ (ws : List ℕ) (sh : Shape) where
 
 pub shift-off : (ws : List ℕ) (sh : Shape) (d o : ℕ) → OffObjects (load ws sh) (load (shiftW ws sh d o) sh)
 unfolding shiftW
-shift-off ws sh d o k x y f h = load-other ws sh (object o objectActive) (reg k x y f) (plus (load ws sh (object o objectActive)) d) (same-all 8 o 0 6 k x y f ∙ rw (ne-eqb k 8 h))
+shift-off ws sh d o k x y f h = load-other ws sh (object o objectActive) (reg k x y f) (plus (load ws sh (object o objectActive)) d) (same-all regionObject o 0 objectActive k x y f ∙ rw (ne-eqb k regionObject h))
 
 pub shifted-off : (ws : List ℕ) (sh : Shape) (d : ℕ) (os : List ℕ) → OffObjects (load ws sh) (load (shifted ws sh d os) sh)
 shifted-off ws sh d [] k x y f h = refl
@@ -75,7 +76,7 @@ shifted-off ws sh d (o ∷ os) k x y f h = shifted-off (shiftW ws sh d o) sh d o
 
 module _ (ws : List ℕ) (sh : Shape) (first o : ℕ) (h : first ≡ objectsAt sh) (l : o < sh .objects) (i f : ℕ) (k : f < 8) (e : i ≡ first + o * 8 + f) where
   object-place : i ≡ place (length ws) sh (object o f)
-  object-place = e ∙ sym (in-place (region (layout sh) 8) o 0 f (length ws) (in-object sh o f l k) ∙ omega arith)
+  object-place = e ∙ sym (in-place (region (layout sh) regionObject) o 0 f (length ws) (in-object sh o f l k) ∙ omega arith)
 
   pub object-load : getD ws i 0 ≡ load ws sh (object o f)
   unfolding load

@@ -24,7 +24,7 @@ use layout::size;
 use layout::value;
 
 // One more in the upper half of a word.
-const UNIT: u64 = 4294967296;
+const UNIT: u64 = size::NUMBER_32_MAX + 1;
 
 // What the objects' fields say: one is out of range, or how many objects there are up to the last that has a count.
 pub enum ObjectsRead {
@@ -125,7 +125,7 @@ pub fn check_objects(s: &[u64], sh: Shape) -> ObjectsRead
     requires { ⌜ total sh ≤ length (now s) ⌝ }
     ensures { λ r. ⌜ r ≡ objectsRead (loadAt (now (s .entry)) sh) sh ⌝ }
 {
-    let first = layout::region_of(sh, layout::OBJECT).low;
+    let first = layout::region_of(sh, layout::region::REGION_OBJECT).low;
     let n = used_objects(s, sh, first);
     let mut o: u64 = 0;
     while o < n {
@@ -159,7 +159,7 @@ pub fn note_handle(s: &mut [u64], sh: Shape, o: u64)
     requires { ⌜ total sh ≤ length (now s) ⌝ }
     ensures { λ _. ⌜ now (s .exit) ≡ shiftW (now (s .entry)) sh unit o ⌝ }
 {
-    let first = layout::region_of(sh, layout::OBJECT).low;
+    let first = layout::region_of(sh, layout::region::REGION_OBJECT).low;
     let at = (first + o * size::OBJECT_SIZE + field::OBJECT_ACTIVE) as usize;
     s[at] = added(s[at]);
 }
@@ -273,7 +273,7 @@ pub fn settle(s: &mut [u64], sh: Shape, n: u64) -> bool
     ensures words { λ _. ⌜ now (s .exit) ≡ lowered (now (s .entry)) sh n ⌝ }
     ensures answer { λ r. ⌜ r ≡ halvesTo (loadAt (now (s .entry)) sh) n ⌝ }
 {
-    let first = layout::region_of(sh, layout::OBJECT).low;
+    let first = layout::region_of(sh, layout::region::REGION_OBJECT).low;
     let mut equal = true;
     let mut o: u64 = 0;
     while o < n {

@@ -15,6 +15,7 @@ use Rattle.layout.specs.Layout.{in-root, in-head, in-object, in-index, in-rank}
 use Rattle.layout.specs.Turns.{hit, length-turns, load-turns, miss, turns, turns-past, turnsM}
 use Rattle.layout.specs.Fields.{rootVersion, rootTables, rootFrames, rootObjects, rootRows, rootNextId, rootFreeFrames, rootPages, headPageLimit, headMask, headLifecycle, headEpoch, headPages, headFirstFree, headFreeSlots, headFirstEmpty, headFirstDetached, headFirstEntry, objectKoid, objectKind, objectClass, objectSupported, objectExportable, objectStage, objectActive, objectLimit}
 use Rattle.layout.specs.Values.{lifeActive, stageNew}
+use Rattle.layout.specs.RegionNames.{regionGroup16, regionGroup256, regionGroup4096}
 use Rattle.create.specs.Parameters.{tableFrom, objectOf, pageSum}
 use Rattle.create.specs.Creation.{clearedW, headerP, headerW, headP, objectP, groupP, levelsW, placeP, builtW}
 
@@ -72,13 +73,13 @@ module _ (ps : List ℕ) (sh : Shape) where
   mObjects = turnsM mHeads (objectP ps (sh .tables)) (sh .objects)
 
   abbrev pub mSixteens : Mem
-  mSixteens = turnsM mObjects (groupP sh 4 16) ((sh .frames + 15) / 16)
+  mSixteens = turnsM mObjects (groupP sh regionGroup16 16) ((sh .frames + 15) / 16)
 
   abbrev pub mHundreds : Mem
-  mHundreds = turnsM mSixteens (groupP sh 5 256) ((sh .frames + 255) / 256)
+  mHundreds = turnsM mSixteens (groupP sh regionGroup256 256) ((sh .frames + 255) / 256)
 
   abbrev pub mThousands : Mem
-  mThousands = turnsM mHundreds (groupP sh 6 4096) ((sh .frames + 4095) / 4096)
+  mThousands = turnsM mHundreds (groupP sh regionGroup4096 4096) ((sh .frames + 4095) / 4096)
 
   abbrev pub mNew : Mem
   mNew = turnsM mThousands placeP (sh .rows)
@@ -90,17 +91,17 @@ module _ (ps : List ℕ) (sh : Shape) where
       let w1 = writes w0 sh (headerP sh) in let l1 = length-writes w0 sh (headerP sh) in
       let w2 = turns w1 sh (headP ps) (sh .tables) in let l2 = length-turns w1 sh (headP ps) (sh .tables) in
       let w3 = turns w2 sh (objectP ps (sh .tables)) (sh .objects) in let l3 = length-turns w2 sh (objectP ps (sh .tables)) (sh .objects) in
-      let w4 = turns w3 sh (groupP sh 4 16) ((sh .frames + 15) / 16) in let l4 = length-turns w3 sh (groupP sh 4 16) ((sh .frames + 15) / 16) in
-      let w5 = turns w4 sh (groupP sh 5 256) ((sh .frames + 255) / 256) in let l5 = length-turns w4 sh (groupP sh 5 256) ((sh .frames + 255) / 256) in
-      let w6 = turns w5 sh (groupP sh 6 4096) ((sh .frames + 4095) / 4096) in let l6 = length-turns w5 sh (groupP sh 6 4096) ((sh .frames + 4095) / 4096) in
+      let w4 = turns w3 sh (groupP sh regionGroup16 16) ((sh .frames + 15) / 16) in let l4 = length-turns w3 sh (groupP sh regionGroup16 16) ((sh .frames + 15) / 16) in
+      let w5 = turns w4 sh (groupP sh regionGroup256 256) ((sh .frames + 255) / 256) in let l5 = length-turns w4 sh (groupP sh regionGroup256 256) ((sh .frames + 255) / 256) in
+      let w6 = turns w5 sh (groupP sh regionGroup4096 4096) ((sh .frames + 4095) / 4096) in let l6 = length-turns w5 sh (groupP sh regionGroup4096 4096) ((sh .frames + 4095) / 4096) in
       load-turns w6 sh placeP (omega arith) (sh .rows) (λ i g. (in-index sh i g, (in-rank sh i g, tt)))
       ∙ ap (λ (m : Mem). turnsM m placeP (sh .rows))
-      (load-turns w5 sh (groupP sh 6 4096) (omega arith) ((sh .frames + 4095) / 4096) (λ i g. (record { xs = g; ys = omega arith; fs = omega arith }, tt))
-      ∙ ap (λ (m : Mem). turnsM m (groupP sh 6 4096) ((sh .frames + 4095) / 4096))
-      (load-turns w4 sh (groupP sh 5 256) (omega arith) ((sh .frames + 255) / 256) (λ i g. (record { xs = g; ys = omega arith; fs = omega arith }, tt))
-      ∙ ap (λ (m : Mem). turnsM m (groupP sh 5 256) ((sh .frames + 255) / 256))
-      (load-turns w3 sh (groupP sh 4 16) (omega arith) ((sh .frames + 15) / 16) (λ i g. (record { xs = g; ys = omega arith; fs = omega arith }, tt))
-      ∙ ap (λ (m : Mem). turnsM m (groupP sh 4 16) ((sh .frames + 15) / 16))
+      (load-turns w5 sh (groupP sh regionGroup4096 4096) (omega arith) ((sh .frames + 4095) / 4096) (λ i g. (record { xs = g; ys = omega arith; fs = omega arith }, tt))
+      ∙ ap (λ (m : Mem). turnsM m (groupP sh regionGroup4096 4096) ((sh .frames + 4095) / 4096))
+      (load-turns w4 sh (groupP sh regionGroup256 256) (omega arith) ((sh .frames + 255) / 256) (λ i g. (record { xs = g; ys = omega arith; fs = omega arith }, tt))
+      ∙ ap (λ (m : Mem). turnsM m (groupP sh regionGroup256 256) ((sh .frames + 255) / 256))
+      (load-turns w3 sh (groupP sh regionGroup16 16) (omega arith) ((sh .frames + 15) / 16) (λ i g. (record { xs = g; ys = omega arith; fs = omega arith }, tt))
+      ∙ ap (λ (m : Mem). turnsM m (groupP sh regionGroup16 16) ((sh .frames + 15) / 16))
       (load-turns w2 sh (objectP ps (sh .tables)) (omega arith) (sh .objects)
       (λ i g. (in-object sh i objectKoid g (omega arith), (in-object sh i objectKind g (omega arith), (in-object sh i objectClass g (omega arith), (in-object sh i objectSupported g (omega arith), (in-object sh i objectExportable g (omega arith), (in-object sh i objectLimit g (omega arith), tt)))))))
       ∙ ap (λ (m : Mem). turnsM m (objectP ps (sh .tables)) (sh .objects))
@@ -116,11 +117,11 @@ module _ (ps : List ℕ) (sh : Shape) where
       let w0 = clearedW ws (total sh) in let w1 = writes w0 sh (headerP sh) in
       let w2 = turns w1 sh (headP ps) (sh .tables) in
       let w3 = turns w2 sh (objectP ps (sh .tables)) (sh .objects) in
-      let w4 = turns w3 sh (groupP sh 4 16) ((sh .frames + 15) / 16) in
-      let w5 = turns w4 sh (groupP sh 5 256) ((sh .frames + 255) / 256) in
-      let w6 = turns w5 sh (groupP sh 6 4096) ((sh .frames + 4095) / 4096) in
-      length-turns w6 sh placeP (sh .rows) ∙ length-turns w5 sh (groupP sh 6 4096) ((sh .frames + 4095) / 4096) ∙ length-turns w4 sh (groupP sh 5 256) ((sh .frames + 255) / 256)
-      ∙ length-turns w3 sh (groupP sh 4 16) ((sh .frames + 15) / 16) ∙ length-turns w2 sh (objectP ps (sh .tables)) (sh .objects) ∙ length-turns w1 sh (headP ps) (sh .tables)
+      let w4 = turns w3 sh (groupP sh regionGroup16 16) ((sh .frames + 15) / 16) in
+      let w5 = turns w4 sh (groupP sh regionGroup256 256) ((sh .frames + 255) / 256) in
+      let w6 = turns w5 sh (groupP sh regionGroup4096 4096) ((sh .frames + 4095) / 4096) in
+      length-turns w6 sh placeP (sh .rows) ∙ length-turns w5 sh (groupP sh regionGroup4096 4096) ((sh .frames + 4095) / 4096) ∙ length-turns w4 sh (groupP sh regionGroup256 256) ((sh .frames + 255) / 256)
+      ∙ length-turns w3 sh (groupP sh regionGroup16 16) ((sh .frames + 15) / 16) ∙ length-turns w2 sh (objectP ps (sh .tables)) (sh .objects) ∙ length-turns w1 sh (headP ps) (sh .tables)
       ∙ length-writes w0 sh (headerP sh) ∙ length-cleared ws (total sh)
 
   -- words past the state keep their values
@@ -130,11 +131,11 @@ module _ (ps : List ℕ) (sh : Shape) where
       let w0 = clearedW ws (total sh) in let w1 = writes w0 sh (headerP sh) in
       let w2 = turns w1 sh (headP ps) (sh .tables) in
       let w3 = turns w2 sh (objectP ps (sh .tables)) (sh .objects) in
-      let w4 = turns w3 sh (groupP sh 4 16) ((sh .frames + 15) / 16) in
-      let w5 = turns w4 sh (groupP sh 5 256) ((sh .frames + 255) / 256) in
-      let w6 = turns w5 sh (groupP sh 6 4096) ((sh .frames + 4095) / 4096) in
-      turns-past w6 sh placeP (sh .rows) i h ∙ turns-past w5 sh (groupP sh 6 4096) ((sh .frames + 4095) / 4096) i h ∙ turns-past w4 sh (groupP sh 5 256) ((sh .frames + 255) / 256) i h
-      ∙ turns-past w3 sh (groupP sh 4 16) ((sh .frames + 15) / 16) i h ∙ turns-past w2 sh (objectP ps (sh .tables)) (sh .objects) i h ∙ turns-past w1 sh (headP ps) (sh .tables) i h
+      let w4 = turns w3 sh (groupP sh regionGroup16 16) ((sh .frames + 15) / 16) in
+      let w5 = turns w4 sh (groupP sh regionGroup256 256) ((sh .frames + 255) / 256) in
+      let w6 = turns w5 sh (groupP sh regionGroup4096 4096) ((sh .frames + 4095) / 4096) in
+      turns-past w6 sh placeP (sh .rows) i h ∙ turns-past w5 sh (groupP sh regionGroup4096 4096) ((sh .frames + 4095) / 4096) i h ∙ turns-past w4 sh (groupP sh regionGroup256 256) ((sh .frames + 255) / 256) i h
+      ∙ turns-past w3 sh (groupP sh regionGroup16 16) ((sh .frames + 15) / 16) i h ∙ turns-past w2 sh (objectP ps (sh .tables)) (sh .objects) i h ∙ turns-past w1 sh (headP ps) (sh .tables) i h
       ∙ writes-past w0 sh (headerP sh) i h ∙ cleared-past ws (total sh) i h
 
   -- ---- what it shows
@@ -142,11 +143,11 @@ module _ (ps : List ℕ) (sh : Shape) where
   offPlaces : (a : Addr) → ((i : ℕ) (k : Mem) → upds k (placeP i) a ≡ k a) → mNew a ≡ mThousands a
   offPlaces a c = miss mThousands placeP a c (sh .rows)
 
-  offGroups : (a : Addr) → ((i : ℕ) (k : Mem) → upds k (groupP sh 4 16 i) a ≡ k a) → ((i : ℕ) (k : Mem) → upds k (groupP sh 5 256 i) a ≡ k a)
-      → ((i : ℕ) (k : Mem) → upds k (groupP sh 6 4096 i) a ≡ k a) → mThousands a ≡ mObjects a
+  offGroups : (a : Addr) → ((i : ℕ) (k : Mem) → upds k (groupP sh regionGroup16 16 i) a ≡ k a) → ((i : ℕ) (k : Mem) → upds k (groupP sh regionGroup256 256 i) a ≡ k a)
+      → ((i : ℕ) (k : Mem) → upds k (groupP sh regionGroup4096 4096 i) a ≡ k a) → mThousands a ≡ mObjects a
   offGroups a c d e =
-      miss mHundreds (groupP sh 6 4096) a e ((sh .frames + 4095) / 4096) ∙ miss mSixteens (groupP sh 5 256) a d ((sh .frames + 255) / 256)
-      ∙ miss mObjects (groupP sh 4 16) a c ((sh .frames + 15) / 16)
+      miss mHundreds (groupP sh regionGroup4096 4096) a e ((sh .frames + 4095) / 4096) ∙ miss mSixteens (groupP sh regionGroup256 256) a d ((sh .frames + 255) / 256)
+      ∙ miss mObjects (groupP sh regionGroup16 16) a c ((sh .frames + 15) / 16)
 
   pub new-root : (f : ℕ) → mNew (root f) ≡ mRoot (root f)
   new-root f =
@@ -197,17 +198,17 @@ module _ (ps : List ℕ) (sh : Shape) where
   -- groups
   pub new-sixteen : (g : ℕ) → g < (sh .frames + 15) / 16 → mNew (group 0 g) ≡ min 16 (sh .frames - g * 16)
   new-sixteen g h =
-      offPlaces (group 0 g) (λ i k. refl) ∙ miss mHundreds (groupP sh 6 4096) (group 0 g) (λ i k. refl) ((sh .frames + 4095) / 4096)
-      ∙ miss mSixteens (groupP sh 5 256) (group 0 g) (λ i k. refl) ((sh .frames + 255) / 256)
-      ∙ own mObjects (groupP sh 4 16) (group 0 g) (λ j. min 16 (sh .frames - j * 16)) g (λ j k. refl) ((sh .frames + 15) / 16) h
+      offPlaces (group 0 g) (λ i k. refl) ∙ miss mHundreds (groupP sh regionGroup4096 4096) (group 0 g) (λ i k. refl) ((sh .frames + 4095) / 4096)
+      ∙ miss mSixteens (groupP sh regionGroup256 256) (group 0 g) (λ i k. refl) ((sh .frames + 255) / 256)
+      ∙ own mObjects (groupP sh regionGroup16 16) (group 0 g) (λ j. min 16 (sh .frames - j * 16)) g (λ j k. refl) ((sh .frames + 15) / 16) h
 
   pub new-hundred : (g : ℕ) → g < (sh .frames + 255) / 256 → mNew (group 1 g) ≡ min 256 (sh .frames - g * 256)
   new-hundred g h =
-      offPlaces (group 1 g) (λ i k. refl) ∙ miss mHundreds (groupP sh 6 4096) (group 1 g) (λ i k. refl) ((sh .frames + 4095) / 4096)
-      ∙ own mSixteens (groupP sh 5 256) (group 1 g) (λ j. min 256 (sh .frames - j * 256)) g (λ j k. refl) ((sh .frames + 255) / 256) h
+      offPlaces (group 1 g) (λ i k. refl) ∙ miss mHundreds (groupP sh regionGroup4096 4096) (group 1 g) (λ i k. refl) ((sh .frames + 4095) / 4096)
+      ∙ own mSixteens (groupP sh regionGroup256 256) (group 1 g) (λ j. min 256 (sh .frames - j * 256)) g (λ j k. refl) ((sh .frames + 255) / 256) h
 
   pub new-thousand : (g : ℕ) → g < (sh .frames + 4095) / 4096 → mNew (group 2 g) ≡ min 4096 (sh .frames - g * 4096)
-  new-thousand g h = offPlaces (group 2 g) (λ i k. refl) ∙ own mHundreds (groupP sh 6 4096) (group 2 g) (λ j. min 4096 (sh .frames - j * 4096)) g (λ j k. refl) ((sh .frames + 4095) / 4096) h
+  new-thousand g h = offPlaces (group 2 g) (λ i k. refl) ∙ own mHundreds (groupP sh regionGroup4096 4096) (group 2 g) (λ j. min 4096 (sh .frames - j * 4096)) g (λ j k. refl) ((sh .frames + 4095) / 4096) h
 
   -- objects
   new-object : (o f : ℕ) → mNew (object o f) ≡ mObjects (object o f)

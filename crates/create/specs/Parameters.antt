@@ -13,7 +13,7 @@ use Rattle.words.specs.Pick.{pick, bool, both, both-is, clash, refuted, all-six
 use Rattle.layout.specs.declared.Shape.{Shape}
 use Rattle.layout.specs.declared.ShapeRead.{ShapeRead}
 use Rattle.layout.specs.declared.ShapeRead.the-variants.{Shape as found, Bad}
-use Rattle.layout.specs.Sizes.{pagesMax, tablesMax, framesMax}
+use Rattle.layout.specs.Sizes.{pagesMax, tablesMax, framesMax, objectsMax, rowsMax}
 use Rattle.model.specs.Base.{atMost, between, every, sum}
 use Rattle.model.specs.State.{till, maxTables, maxFrames, maxObjects, maxRows, maxLimit, maxSlots}
 use Rattle.model.specs.Create.{TableParameters, ObjectParameters, Parameters, maxPages, tablePermitted, objectPermitted, permitted}
@@ -177,12 +177,12 @@ object-no p h = refuted (objectPermitted p) (λ e. h (object-is p e))
 -- the counts
 pub record CountsGood (ps : List ℕ) : Type 0 where
   pub some-table : 1 ≤ getD ps 0 0
-  pub few-tables : getD ps 0 0 ≤ 16
+  pub few-tables : getD ps 0 0 ≤ tablesMax
   pub few-frames : getD ps 1 0 ≤ framesMax
   pub some-object : 1 ≤ getD ps 2 0
-  pub few-objects : getD ps 2 0 ≤ 4096
+  pub few-objects : getD ps 2 0 ≤ objectsMax
   pub some-row : 1 ≤ getD ps 3 0
-  pub few-rows : getD ps 3 0 ≤ 256
+  pub few-rows : getD ps 3 0 ≤ rowsMax
   pub long : need ps ≤ length ps
 
 -- all that the code tests
@@ -251,7 +251,7 @@ pub objects-bad : (ps : List ℕ) (t n : ℕ) (b : Bool) → t ≡ getD ps 0 0 �
 objects-bad ps t n b e d q f = plan-bad ps (λ g. clash (good-checked ps g .objects) (rw (← e, ← d) (sym q ∙ f)))
 
 module _ (ps : List ℕ) (t f o r p n : ℕ) (b d : Bool) (et : t ≡ getD ps 0 0) (ef : f ≡ getD ps 1 0) (eo : o ≡ getD ps 2 0) (er : r ≡ getD ps 3 0) (en : n ≡ length ps) where
-  pub plan-yes : 1 ≤ t → t ≤ tablesMax → f ≤ framesMax → 1 ≤ o → o ≤ 4096 → 1 ≤ r → r ≤ 256 → 4 + t * 2 + o * 6 ≤ n
+  pub plan-yes : 1 ≤ t → t ≤ tablesMax → f ≤ framesMax → 1 ≤ o → o ≤ objectsMax → 1 ≤ r → r ≤ rowsMax → 4 + t * 2 + o * 6 ≤ n
       → b ≡ every (tablePermitted till) (tablesIn ps t) → b ≡ true → d ≡ every objectPermitted (objectsIn ps t o) → d ≡ true → p ≡ pageSum ps t
       → found (record { tables = t; pages = p; frames = f; objects = o; rows = r }) ≡ planOf ps
   unfolding shapeIn

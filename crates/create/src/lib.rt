@@ -54,7 +54,7 @@ fn object_ok(p: &[u64], at: u32) -> bool
     if koid < 1 {
         return false;
     }
-    if kind > 0xffff_ffff {
+    if kind > size::NUMBER_32_MAX {
         return false;
     }
     if class > value::CLASS_NEVER {
@@ -63,7 +63,7 @@ fn object_ok(p: &[u64], at: u32) -> bool
     if exportable > 1 {
         return false;
     }
-    if limit > 0xffff_ffff {
+    if limit > size::NUMBER_32_MAX {
         return false;
     }
     true
@@ -241,9 +241,27 @@ fn make_levels(s: &mut [u64], sh: Shape)
     ensures { λ _. ⌜ now (s .exit) ≡ levelsW (now (s .entry)) sh ⌝ }
 {
     let f = sh.frames as u64;
-    make_groups(s, sh, layout::SIXTEEN, 16, ((f + 15) / 16) as u16);
-    make_groups(s, sh, layout::HUNDRED, 256, ((f + 255) / 256) as u16);
-    make_groups(s, sh, layout::THOUSAND, 4096, ((f + 4095) / 4096) as u16);
+    make_groups(
+        s,
+        sh,
+        layout::region::REGION_GROUP_16,
+        16,
+        ((f + 15) / 16) as u16,
+    );
+    make_groups(
+        s,
+        sh,
+        layout::region::REGION_GROUP_256,
+        256,
+        ((f + 255) / 256) as u16,
+    );
+    make_groups(
+        s,
+        sh,
+        layout::region::REGION_GROUP_4096,
+        4096,
+        ((f + 4095) / 4096) as u16,
+    );
 }
 
 // The row index: place and rank are the same number.

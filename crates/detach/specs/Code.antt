@@ -14,6 +14,7 @@ use Rattle.layout.specs.declared.Shape.{Shape}
 use Rattle.layout.specs.Layout.{Mem, head, entry, load, save, Write.at, writes}
 use Rattle.layout.specs.Fields.{headLifecycle, headEpoch, headFirstEmpty, headFirstDetached, headFirstEntry, entryFrame, entryNext, slotNextFree, slotPreviousFree}
 use Rattle.layout.specs.Sizes.{pageSize, pagesMax}
+use Rattle.layout.specs.Values.{lifeActive}
 use Rattle.representation.specs.Represents.{wordIn, frameOf, slotWord}
 use Rattle.head.specs.declared.TableHead.{TableHead}
 use Rattle.head.specs.Head.{headAt, takenBy, emptyBy, detachedBy, nextEpoch, freeP, detachedP}
@@ -101,13 +102,13 @@ unfolding detachW look
 detach-is ws sh b p e x f w₁ w₂ w₃ e₁ e₂ e₃ a₁ a₂ a₃ = rw (a₃, a₂, a₁, e₃, e₂, e₁)
 
 -- `first_empty`
-pub first-yes : (m : Mem) (b w h : ℕ) (t : Bool) → w ≡ m (head b headLifecycle) → t ≡ eqb w 0 → t ≡ true → h ≡ m (head b headFirstEmpty) → h ≡ firstEmpty m b
+pub first-yes : (m : Mem) (b w h : ℕ) (t : Bool) → w ≡ m (head b headLifecycle) → t ≡ eqb w lifeActive → t ≡ true → h ≡ m (head b headFirstEmpty) → h ≡ firstEmpty m b
 unfolding firstEmpty
-first-yes m b w h t e q y d = yes-is _ _ _ _ (ap (λ (x : ℕ). eqb x 0) (sym e) ∙ sym q ∙ y) d
+first-yes m b w h t e q y d = yes-is _ _ _ _ (ap (λ (x : ℕ). eqb x lifeActive) (sym e) ∙ sym q ∙ y) d
 
-pub first-no : (m : Mem) (b w : ℕ) (t : Bool) → w ≡ m (head b headLifecycle) → t ≡ eqb w 0 → t ≡ false → 0 ≡ firstEmpty m b
+pub first-no : (m : Mem) (b w : ℕ) (t : Bool) → w ≡ m (head b headLifecycle) → t ≡ eqb w lifeActive → t ≡ false → 0 ≡ firstEmpty m b
 unfolding firstEmpty
-first-no m b w t e q y = no-is _ _ _ _ (ap (λ (x : ℕ). eqb x 0) (sym e) ∙ sym q ∙ y) refl
+first-no m b w t e q y = no-is _ _ _ _ (ap (λ (x : ℕ). eqb x lifeActive) (sym e) ∙ sym q ∙ y) refl
 
 -- `take_empty_page`
 module _ (ws os : List ℕ) (sh : Shape) (base b : ℕ) (t : Bool) (e : t ≡ ltb b (sh .tables)) where

@@ -88,7 +88,7 @@ module _ (n : Mem) (b p : ℕ) where
   abbrev joined : Mem
   joined = upds n (joinDetachedP n b p)
 
-  join-page : (q f : ℕ) → joined (entry (entryAt joined b q) f) ≡ pick (eqb f 3 && eqb q p) (n (head b headFirstDetached)) (pick (eqb f 0 && eqb q p) 0 (n (entry (entryAt n b q) f)))
+  join-page : (q f : ℕ) → joined (entry (entryAt joined b q) f) ≡ pick (eqb f entryNext && eqb q p) (n (head b headFirstDetached)) (pick (eqb f entryFrame && eqb q p) 0 (n (entry (entryAt n b q) f)))
   join-page q f = rw (eqb-add (n (head b headFirstEntry)) q p)
 
   join-frame : (k : ℕ) → frameOf joined b k ≡ pick (eqb (k / pageSize) p) 0 (frameOf n b k)

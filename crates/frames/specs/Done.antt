@@ -15,6 +15,7 @@ use Rattle.invariant.specs.Orders.{Sound}
 use Rattle.layout.specs.declared.Shape.{Shape}
 use Rattle.layout.specs.Layout.{Addr.reg, Mem, total, head, entry, load}
 use Rattle.layout.specs.Fields.{headFirstEntry}
+use Rattle.layout.specs.RegionNames.{regionRoot, regionHead, regionEntry, regionOwner, regionGroup16, regionGroup4096, regionCell}
 use Rattle.representation.specs.Represents.{slotWord, linkOf, TableIs, isMarked}
 use Rattle.storage.specs.Order.{same?}
 use Rattle.storage.specs.Sight.{Spot, Spot.hd, Spot.pg, Spot.sl, look}
@@ -32,17 +33,17 @@ use Rattle.frames.specs.Words.{pooled-between, OnlyPool, paged-pool, Ste
 -- ---- the pool's words are no table's
 
 module _ (f : ℕ) (m n : Mem) (o : OnlyPool f m n) where
-  pool-off : (k x y g : ℕ) → (k ≡ 3 → ⊥) → (4 ≤ k → k ≤ 6 → ⊥) → (k ≡ 0 → ⊥) → n (reg k x y g) ≡ m (reg k x y g)
+  pool-off : (k x y g : ℕ) → (k ≡ regionOwner → ⊥) → (regionGroup16 ≤ k → k ≤ regionGroup4096 → ⊥) → (k ≡ regionRoot → ⊥) → n (reg k x y g) ≡ m (reg k x y g)
   pool-off k x y g a b c = o (reg k x y g) (⊎-elim (λ i. a (i .0)) (⊎-elim (λ i. b (i .0) (i .1)) (λ i. c (i .0))))
 
   pool-head : (b g : ℕ) → n (head b g) ≡ m (head b g)
-  pool-head b g = pool-off 1 b 0 g (λ e. omega arith) (λ e d. omega arith) (λ e. omega arith)
+  pool-head b g = pool-off regionHead b 0 g (λ e. omega arith) (λ e d. omega arith) (λ e. omega arith)
 
   pool-entry : (x g : ℕ) → n (entry x g) ≡ m (entry x g)
-  pool-entry x g = pool-off 2 x 0 g (λ e. omega arith) (λ e d. omega arith) (λ e. omega arith)
+  pool-entry x g = pool-off regionEntry x 0 g (λ e. omega arith) (λ e d. omega arith) (λ e. omega arith)
 
   pool-slot : (b k g : ℕ) → slotWord n b k g ≡ slotWord m b k g
-  pool-slot b = slot-kept m n b (all-stay m n pool-head pool-entry (λ x j g. pool-off 7 x j g (λ e. omega arith) (λ e d. omega arith) (λ e. omega arith)) b)
+  pool-slot b = slot-kept m n b (all-stay m n pool-head pool-entry (λ x j g. pool-off regionCell x j g (λ e. omega arith) (λ e d. omega arith) (λ e. omega arith)) b)
 
   pool-rows : RowsStay m n
   pool-rows = rows-stay m n (λ k x y g l. pool-off k x y g (λ e. omega arith) (λ e d. omega arith) (λ e. omega arith))

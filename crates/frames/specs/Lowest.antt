@@ -18,6 +18,7 @@ use Rattle.model.specs.Counting.{bit-same, sum-some}
 use Rattle.invariant.specs.Orders.{attached-below}
 use Rattle.layout.specs.declared.Shape.{Shape}
 use Rattle.layout.specs.Layout.{Mem, owner, group, load}
+use Rattle.layout.specs.RegionNames.{regionOwner, regionGroup16}
 use Rattle.representation.specs.Represents.{FramesAre}
 use Rattle.representation.specs.Unique.{rising-above}
 use Rattle.storage.specs.Order.{occurs-head}
@@ -28,16 +29,16 @@ use Rattle.frames.specs.Frames.{free-below}
 use Rattle.frames.specs.Ops.{firstOf, hasFree, lowestAt, first-is}
 
 -- what the test says of a count and of an owner
-count-has : (m : Mem) (i g : ℕ) → 0 < m (group i g) → hasFree m (4 + i) g ≡ true
-count-has m i g h = rw (ne-eqb (4 + i) 3 (λ e. omega arith), ne-eqb (m (group i g)) 0 (λ e. omega arith))
+count-has : (m : Mem) (i g : ℕ) → 0 < m (group i g) → hasFree m (regionGroup16 + i) g ≡ true
+count-has m i g h = rw (ne-eqb (regionGroup16 + i) regionOwner (λ e. omega arith), ne-eqb (m (group i g)) 0 (λ e. omega arith))
 
-count-none : (m : Mem) (i g : ℕ) → m (group i g) ≡ 0 → hasFree m (4 + i) g ≡ false
-count-none m i g h = rw (ne-eqb (4 + i) 3 (λ e. omega arith), eq-eqb (m (group i g)) 0 h)
+count-none : (m : Mem) (i g : ℕ) → m (group i g) ≡ 0 → hasFree m (regionGroup16 + i) g ≡ false
+count-none m i g h = rw (ne-eqb (regionGroup16 + i) regionOwner (λ e. omega arith), eq-eqb (m (group i g)) 0 h)
 
-owner-has : (m : Mem) (g : ℕ) → m (owner g) ≡ 0 → hasFree m 3 g ≡ true
+owner-has : (m : Mem) (g : ℕ) → m (owner g) ≡ 0 → hasFree m regionOwner g ≡ true
 owner-has m g h = rw (eq-eqb (m (owner g)) 0 h)
 
-owner-none : (m : Mem) (g : ℕ) → 0 < m (owner g) → hasFree m 3 g ≡ false
+owner-none : (m : Mem) (g : ℕ) → 0 < m (owner g) → hasFree m regionOwner g ≡ false
 owner-none m g h = rw (ne-eqb (m (owner g)) 0 (λ e. omega arith))
 
 -- a group below that of the lowest has none of the list
@@ -47,8 +48,8 @@ below-none f l r z g h = sum-zero z (λ j. occurs (g * z + j) (f ∷ l))
 
 module _ (m : Mem) (n f : ℕ) (l : List ℕ) (r : Counted m n (f ∷ l)) (up : Rising (f ∷ l)) (below : f < n) where
   -- of 16 groups of level i the first that has a free frame is that of f
-  level-first : (i : ℕ) → i < 3 → (a : ℕ) → a ≤ f / span i → f / span i < a + 16 → firstOf (hasFree m (4 + i)) a 16 ≡ f / span i
-  level-first i li a h k = first-is (hasFree m (4 + i)) a 16 (f / span i) h k
+  level-first : (i : ℕ) → i < 3 → (a : ℕ) → a ≤ f / span i → f / span i < a + 16 → firstOf (hasFree m (regionGroup16 + i)) a 16 ≡ f / span i
+  level-first i li a h k = first-is (hasFree m (regionGroup16 + i)) a 16 (f / span i) h k
       (λ g y x. count-none m i g
       (r .groups i li g (omega (arith, mul-le-mul-right {m = suc g} {n = f / span i} (span i) x, div-add-mod' f (span i))) ∙ below-none f l up (span i) g x))
       (count-has m i (f / span i)
@@ -62,7 +63,7 @@ module _ (m : Mem) (n f : ℕ) (l : List ℕ) (r : Counted m n (f ∷ l)) (up : 
     level-first 1 (omega arith) (f / 4096 * 16) (omega arith) (omega arith),
     level-first 0 (omega arith) (f / 256 * 16) (omega arith) (omega arith),
   )
-      (first-is (hasFree m 3) (f / 16 * 16) 16 f (omega arith) (omega arith)
+      (first-is (hasFree m regionOwner) (f / 16 * 16) 16 f (omega arith) (omega arith)
       (λ g y x. owner-none m g (owned g (omega arith) (rising-above g f l up x)))
       (owner-has m f (r .free f (occurs-head f l))))
 

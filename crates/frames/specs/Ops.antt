@@ -11,6 +11,7 @@ use Rattle.words.specs.Pick.{pick, yes-is, no-is}
 use Rattle.layout.specs.declared.Shape.{Shape}
 use Rattle.layout.specs.Layout.{Addr.reg, Mem, root, owner, group, load, Write, Write.at, writes}
 use Rattle.layout.specs.Fields.{rootFreeFrames}
+use Rattle.layout.specs.RegionNames.{regionOwner, regionGroup16, regionGroup256, regionGroup4096}
 use Rattle.storage.specs.Order.{same?}
 use Rattle.storage.specs.Ops.{up}
 use Rattle.frames.specs.Pool.{down}
@@ -53,11 +54,11 @@ firstOf p x (suc n) = pick (p x) x (firstOf p (suc x) n)
 
 -- whether number x of region k has a free frame: an owner is 0, a count is not
 abbrev pub hasFree : Mem → ℕ → ℕ → Bool
-hasFree m k x = pick (eqb k 3) (eqb (m (reg k x 0 0)) 0) (not (eqb (m (reg k x 0 0)) 0))
+hasFree m k x = pick (eqb k regionOwner) (eqb (m (reg k x 0 0)) 0) (not (eqb (m (reg k x 0 0)) 0))
 
 -- the first group of 4,096 with a free frame, its first of 256, its first of 16, and the first free frame in it
 unfoldable pub lowestAt : Mem → ℕ
-lowestAt m = firstOf (hasFree m 3) (firstOf (hasFree m 4) (firstOf (hasFree m 5) (firstOf (hasFree m 6) 0 16 * 16) 16 * 16) 16 * 16) 16
+lowestAt m = firstOf (hasFree m regionOwner) (firstOf (hasFree m regionGroup16) (firstOf (hasFree m regionGroup256) (firstOf (hasFree m regionGroup4096) 0 16 * 16) 16 * 16) 16 * 16) 16
 
 -- what the loop goes by: from x on, up to e
 module _ (p : ℕ → Bool) (a n e x : ℕ) (h : firstOf p a n ≡ firstOf p x (e - x)) where

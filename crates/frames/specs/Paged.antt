@@ -9,7 +9,8 @@ use Rattle.model.specs.State.{State}
 use Rattle.model.specs.Counting.{sum-next, runs-apart}
 use Rattle.layout.specs.declared.Shape.{Shape}
 use Rattle.layout.specs.Layout.{Addr, Addr.reg, Mem, root, head, entry, owner, cell, same, same-is, Write.at, upd}
-use Rattle.layout.specs.Fields.{headPageLimit, headPages, headFirstEntry, entryFrame, slotPlace}
+use Rattle.layout.specs.Fields.{rootFreeFrames, headPageLimit, headCursor, headPages, headFirstDetached, headFirstEntry, entryFrame, slotPlace}
+use Rattle.layout.specs.RegionNames.{regionRoot, regionHead, regionEntry, regionOwner, regionGroup16, regionGroup4096, regionCell, regionObject}
 use Rattle.representation.specs.Represents.{entryAt, slotWord, TableIs, Represents}
 use Rattle.representation.specs.Told.{link-some}
 use Rattle.storage.specs.Sight.{OnlyTable}
@@ -20,25 +21,25 @@ use Rattle.storage.specs.Whole.{Placed}
 abbrev pub Has : Mem → ℕ → ℕ → Type 0
 Has m b x = (p : ℕ) × (p < m (head b headPages)) × (m (entry (entryAt m b p) entryFrame) ≡ suc x)
 
--- the addresses that a change of table b's pages in the frame fr may change: the head but for the limit, the mask, the lifecycle and the first entry; all of the table's
+-- the addresses that a change of table b's pages in the frame fr may change: the head but for the limit, the mask, the lifecycle, the cursor and the first entry; all of the table's
 -- page entries; the owner of fr; the counts of free frames; and slots in fr and in the table's frames
 abbrev pub Pages : Mem → ℕ → ℕ → Addr → Type 0
 Pages m b fr (reg k x y f) =
-    ((k ≡ 0) × (f ≡ 7))
-    ⊎ ((k ≡ 1) × (x ≡ b) × (4 ≤ f) × (f ≤ 9))
-    ⊎ ((k ≡ 2) × (m (head b headFirstEntry) ≤ x) × (x < m (head b headFirstEntry) + m (head b headPageLimit)))
-    ⊎ ((k ≡ 3) × (x ≡ fr))
-    ⊎ ((4 ≤ k) × (k ≤ 6))
-    ⊎ ((k ≡ 7) × ((x ≡ fr) ⊎ Has m b x))
+    ((k ≡ regionRoot) × (f ≡ rootFreeFrames))
+    ⊎ ((k ≡ regionHead) × (x ≡ b) × (headCursor < f) × (f ≤ headFirstDetached))
+    ⊎ ((k ≡ regionEntry) × (m (head b headFirstEntry) ≤ x) × (x < m (head b headFirstEntry) + m (head b headPageLimit)))
+    ⊎ ((k ≡ regionOwner) × (x ≡ fr))
+    ⊎ ((regionGroup16 ≤ k) × (k ≤ regionGroup4096))
+    ⊎ ((k ≡ regionCell) × ((x ≡ fr) ⊎ Has m b x))
 
 -- ONLY THE PAGES of table b and the frame fr: every other address keeps its word
 abbrev pub OnlyPaged : ℕ → ℕ → Mem → Mem → Type 0
 OnlyPaged b fr m n = (a : Addr) → (Pages m b fr a → ⊥) → n a ≡ m a
 
 -- an address that is none of these
-pub outside : (m : Mem) (b fr k x y f : ℕ) → (k ≡ 0 → f ≡ 7 → ⊥) → (k ≡ 1 → x ≡ b → 4 ≤ f → f ≤ 9 → ⊥)
-    → (k ≡ 2 → m (head b headFirstEntry) ≤ x → x < m (head b headFirstEntry) + m (head b headPageLimit) → ⊥) → (k ≡ 3 → x ≡ fr → ⊥) → (4 ≤ k → k ≤ 6 → ⊥)
-    → (k ≡ 7 → (x ≡ fr) ⊎ Has m b x → ⊥) → Pages m b fr (reg k x y f) → ⊥
+pub outside : (m : Mem) (b fr k x y f : ℕ) → (k ≡ regionRoot → f ≡ rootFreeFrames → ⊥) → (k ≡ regionHead → x ≡ b → headCursor < f → f ≤ headFirstDetached → ⊥)
+    → (k ≡ regionEntry → m (head b headFirstEntry) ≤ x → x < m (head b headFirstEntry) + m (head b headPageLimit) → ⊥) → (k ≡ regionOwner → x ≡ fr → ⊥) → (regionGroup16 ≤ k → k ≤ regionGroup4096 → ⊥)
+    → (k ≡ regionCell → (x ≡ fr) ⊎ Has m b x → ⊥) → Pages m b fr (reg k x y f) → ⊥
 outside m b fr k x y f r h e o g c =
     ⊎-elim (λ i. r (i .0) (i .1)) (⊎-elim (λ i. h (i .0) (i .1) (i .2) (i .3)) (⊎-elim (λ i. e (i .0) (i .1) (i .2)) (⊎-elim (λ i. o (i .0) (i .1))
     (⊎-elim (λ i. g (i .0) (i .1)) (λ i. c (i .0) (i .1))))))
@@ -54,18 +55,18 @@ pub paged-write : (b fr : ℕ) (m n : Mem) → OnlyPaged b fr m n → (a : Addr)
 paged-write b fr m n = only-write (Pages m b fr) m n
 
 module _ (b fr : ℕ) (m n : Mem) (o : OnlyPaged b fr m n) where
-  pub paged-root : (f : ℕ) → (f ≡ 7 → ⊥) → n (root f) ≡ m (root f)
-  paged-root f h = o (root f) (outside m b fr 0 0 0 f (λ e q. h q) (λ e q s t. omega arith) (λ e q s. omega arith) (λ e q. omega arith) (λ e q. omega arith) (λ e q. omega arith))
+  pub paged-root : (f : ℕ) → (f ≡ rootFreeFrames → ⊥) → n (root f) ≡ m (root f)
+  paged-root f h = o (root f) (outside m b fr regionRoot 0 0 f (λ e q. h q) (λ e q s t. omega arith) (λ e q s. omega arith) (λ e q. omega arith) (λ e q. omega arith) (λ e q. omega arith))
 
   -- the first entry, the limit, the mask and the lifecycle of every table
-  pub paged-head : (c f : ℕ) → (4 ≤ f → f ≤ 9 → ⊥) → n (head c f) ≡ m (head c f)
-  paged-head c f h = o (head c f) (outside m b fr 1 c 0 f (λ e q. omega arith) (λ e q s t. h s t) (λ e q s. omega arith) (λ e q. omega arith) (λ e q. omega arith) (λ e q. omega arith))
+  pub paged-head : (c f : ℕ) → (headCursor < f → f ≤ headFirstDetached → ⊥) → n (head c f) ≡ m (head c f)
+  paged-head c f h = o (head c f) (outside m b fr regionHead c 0 f (λ e q. omega arith) (λ e q s t. h s t) (λ e q s. omega arith) (λ e q. omega arith) (λ e q. omega arith) (λ e q. omega arith))
 
   pub paged-first : (c : ℕ) → n (head c headFirstEntry) ≡ m (head c headFirstEntry)
-  paged-first c = paged-head c 10 (λ s t. omega arith)
+  paged-first c = paged-head c headFirstEntry (λ s t. omega arith)
 
   -- regions above the frames
-  pub paged-high : (k x y f : ℕ) → 8 ≤ k → n (reg k x y f) ≡ m (reg k x y f)
+  pub paged-high : (k x y f : ℕ) → regionObject ≤ k → n (reg k x y f) ≡ m (reg k x y f)
   paged-high k x y f l = o (reg k x y f) (outside m b fr k x y f (λ e q. omega arith) (λ e q s t. omega arith) (λ e q s. omega arith) (λ e q. omega arith) (λ e q. omega arith) (λ e q. omega arith))
 
   -- the row index and the rows
@@ -127,13 +128,13 @@ module _ (sh : Shape) (m : Mem) (s : State) (r : Represents sh m s) (pl : Placed
     -- its words stay
     other-stays : Stays m n c
     other-stays = record {
-      heads = λ f. o (head c f) (outside m b fr 1 c 0 f (λ e q. omega arith) (λ e q i j. ne q) (λ e q i. omega arith) (λ e q. omega arith) (λ e q. omega arith) (λ e q. omega arith));
-      pages = λ p f h. o (entry (entryAt m c p) f) (outside m b fr 2 (m (head c headFirstEntry) + p) 0 f (λ e q. omega arith) (λ e q i j. omega arith)
+      heads = λ f. o (head c f) (outside m b fr regionHead c 0 f (λ e q. omega arith) (λ e q i j. ne q) (λ e q i. omega arith) (λ e q. omega arith) (λ e q. omega arith) (λ e q. omega arith));
+      pages = λ p f h. o (entry (entryAt m c p) f) (outside m b fr regionEntry (m (head c headFirstEntry) + p) 0 f (λ e q. omega arith) (λ e q i j. omega arith)
           (λ e q i. ne (entries-apart sh m s r pl c b p (m (head c headFirstEntry) + p - m (head b headFirstEntry)) lc lb
           (omega (arith, r .tables c lc .size, pl .sound c lc .size)) (omega (arith, r .tables b lb .limit)) (omega arith)))
           (λ e q. omega arith) (λ e q. omega arith) (λ e q. omega arith));
       cells = λ p x j f h e. let w : Has m c x = (p, h, e) in
-          o (cell x j f) (outside m b fr 7 x j f (λ e q. omega arith) (λ e q i j. omega arith) (λ e q i. omega arith) (λ e q. omega arith) (λ e q. omega arith)
+          o (cell x j f) (outside m b fr regionCell x j f (λ e q. omega arith) (λ e q i j. omega arith) (λ e q i. omega arith) (λ e q. omega arith) (λ e q. omega arith)
           (λ e. ⊎-elim (λ (d : x ≡ fr). ne (alone c lc (rw d at w))) (λ d. ne (has-apart sh m s r pl c b x lc lb w d))));
     }
 

@@ -9,6 +9,7 @@ use borrow.Author.Tests.{eq-eqb, ne-eqb}
 use Rattle.layout.specs.declared.Shape.{Shape}
 use Rattle.layout.specs.Layout.{Addr, Addr.reg, Mem, total, root, owner, group, load, upds, InAll, length-writes, load-writes, in-root, in-owner, in-sixteen, in-hundred, in-thousand}
 use Rattle.layout.specs.Fields.{rootFreeFrames}
+use Rattle.layout.specs.RegionNames.{regionRoot, regionOwner, regionGroup16, regionGroup4096}
 use Rattle.storage.specs.Kept.{PoolSame}
 use Rattle.storage.specs.Ops.{up}
 use Rattle.frames.specs.Paged.{OnlyPaged, only-write}
@@ -30,7 +31,7 @@ pooled-between step m m′ n n′ f o a c p = record {
 
 -- the owner of f and the counts
 abbrev pub Pool : ℕ → Addr → Type 0
-Pool f (reg k x y g) = ((k ≡ 3) × (x ≡ f)) ⊎ ((4 ≤ k) × (k ≤ 6)) ⊎ ((k ≡ 0) × (g ≡ 7))
+Pool f (reg k x y g) = ((k ≡ regionOwner) × (x ≡ f)) ⊎ ((regionGroup16 ≤ k) × (k ≤ regionGroup4096)) ⊎ ((k ≡ regionRoot) × (g ≡ rootFreeFrames))
 
 -- ONLY THE POOL: every other address keeps its word
 abbrev pub OnlyPool : ℕ → Mem → Mem → Type 0

@@ -11,7 +11,7 @@ fn has_free(s: &[u64], sh: Shape, k: u64, x: u64) -> bool
     ensures { λ r. ⌜ r ≡ hasFree (loadAt (now (s .entry)) sh) k x ⌝ }
 {
     let w = layout::load(s, sh, k, x, 0, 0);
-    if words::eq(k, layout::OWNER) {
+    if words::eq(k, layout::region::REGION_OWNER) {
         return words::eq(w, 0);
     }
     words::ne(w, 0)
@@ -38,10 +38,10 @@ fn first_free(s: &[u64], sh: Shape, k: u64, from: u64) -> u64
 pub fn lowest_free(s: &[u64], sh: Shape) -> u64
     ensures { λ r. ⌜ r ≡ lowestAt (loadAt (now (s .entry)) sh) ⌝ }
 {
-    let c = first_free(s, sh, layout::THOUSAND, 0);
-    let b = first_free(s, sh, layout::HUNDRED, c * 16);
-    let a = first_free(s, sh, layout::SIXTEEN, b * 16);
-    first_free(s, sh, layout::OWNER, a * 16)
+    let c = first_free(s, sh, layout::region::REGION_GROUP_4096, 0);
+    let b = first_free(s, sh, layout::region::REGION_GROUP_256, c * 16);
+    let a = first_free(s, sh, layout::region::REGION_GROUP_16, b * 16);
+    first_free(s, sh, layout::region::REGION_OWNER, a * 16)
 }
 
 // The words of frame f in the pool: its owner, the counts of its groups of 16, 256 and 4,096, and the count of all.
@@ -49,9 +49,9 @@ fn put_pool(s: &mut [u64], sh: Shape, f: u64, o: u64, a: u64, b: u64, c: u64, n:
     ensures { λ _. ⌜ now (s .exit) ≡ writes (now (s .entry)) sh (poolP f o a b c n) ⌝ }
 {
     layout::put_owner(s, sh, f, o);
-    layout::save(s, sh, layout::SIXTEEN, f / 16, 0, 0, a);
-    layout::save(s, sh, layout::HUNDRED, f / 256, 0, 0, b);
-    layout::save(s, sh, layout::THOUSAND, f / 4096, 0, 0, c);
+    layout::save(s, sh, layout::region::REGION_GROUP_16, f / 16, 0, 0, a);
+    layout::save(s, sh, layout::region::REGION_GROUP_256, f / 256, 0, 0, b);
+    layout::save(s, sh, layout::region::REGION_GROUP_4096, f / 4096, 0, 0, c);
     layout::put_root(s, sh, field::ROOT_FREE_FRAMES, n);
 }
 
@@ -60,9 +60,9 @@ pub fn take_frame(s: &mut [u64], sh: Shape, f: u64, e: u64)
     ensures words { λ _. ⌜ now (s .exit) ≡ takeFrameW (now (s .entry)) sh f e ⌝ }
 {
     let o = words::inc(e);
-    let a = words::dec(layout::load(s, sh, layout::SIXTEEN, f / 16, 0, 0));
-    let b = words::dec(layout::load(s, sh, layout::HUNDRED, f / 256, 0, 0));
-    let c = words::dec(layout::load(s, sh, layout::THOUSAND, f / 4096, 0, 0));
+    let a = words::dec(layout::load(s, sh, layout::region::REGION_GROUP_16, f / 16, 0, 0));
+    let b = words::dec(layout::load(s, sh, layout::region::REGION_GROUP_256, f / 256, 0, 0));
+    let c = words::dec(layout::load(s, sh, layout::region::REGION_GROUP_4096, f / 4096, 0, 0));
     let n = words::dec(layout::root_word(s, sh, field::ROOT_FREE_FRAMES));
     put_pool(s, sh, f, o, a, b, c, n);
 }
@@ -71,9 +71,9 @@ pub fn take_frame(s: &mut [u64], sh: Shape, f: u64, e: u64)
 pub fn give_frame(s: &mut [u64], sh: Shape, f: u64)
     ensures words { λ _. ⌜ now (s .exit) ≡ giveFrameW (now (s .entry)) sh f ⌝ }
 {
-    let a = words::inc(layout::load(s, sh, layout::SIXTEEN, f / 16, 0, 0));
-    let b = words::inc(layout::load(s, sh, layout::HUNDRED, f / 256, 0, 0));
-    let c = words::inc(layout::load(s, sh, layout::THOUSAND, f / 4096, 0, 0));
+    let a = words::inc(layout::load(s, sh, layout::region::REGION_GROUP_16, f / 16, 0, 0));
+    let b = words::inc(layout::load(s, sh, layout::region::REGION_GROUP_256, f / 256, 0, 0));
+    let c = words::inc(layout::load(s, sh, layout::region::REGION_GROUP_4096, f / 4096, 0, 0));
     let n = words::inc(layout::root_word(s, sh, field::ROOT_FREE_FRAMES));
     put_pool(s, sh, f, 0, a, b, c, n);
 }

@@ -24,7 +24,7 @@ use Rattle.layout.specs.declared.Shape.{Shape}
 use Rattle.layout.specs.Layout.{Mem, head, load, Write, writes, length-writes}
 use Rattle.layout.specs.Turns.{turns, length-turns}
 use Rattle.layout.specs.Fields.{headFirstFree, headFreeSlots, headFirstEntry, slotTag, slotNextFree, slotPreviousFree, slotPlace, slotPosition}
-use Rattle.layout.specs.Sizes.{pageSize}
+use Rattle.layout.specs.Sizes.{pageSize, number32Max}
 use Rattle.representation.specs.Represents.{entryAt, slotWord, TableIs, FramesAre, isMarked}
 use Rattle.representation.specs.Told.{marked-full}
 use Rattle.storage.specs.Order.{occurs-head, head-in}
@@ -63,7 +63,7 @@ length-joined ws sh b p f =
 
 pub length-attach : (ws : List ℕ) (sh : Shape) (b p f : ℕ) → length (attachW ws sh b p f) ≡ length ws
 unfolding attachW takeFrameW
-length-attach ws sh b p f = length-writes (joinedW ws sh b p f) sh (stepP down (load (joinedW ws sh b p f) sh) f (up (min (load ws sh (head b headFirstEntry)) 4294967295 + p))) ∙ length-joined ws sh b p f
+length-attach ws sh b p f = length-writes (joinedW ws sh b p f) sh (stepP down (load (joinedW ws sh b p f) sh) f (up (min (load ws sh (head b headFirstEntry)) number32Max + p))) ∙ length-joined ws sh b p f
 
 marked-here : (x : Slot) (g : ℕ) → x ≡ vacant g → isMarked x ≡ true → ⊥
 marked-here x g e d = clash (sym (ap isMarked e) ∙ d) refl
@@ -86,7 +86,7 @@ module _ (ws : List ℕ) (sh : Shape) (s : State) (h : Held ws sh s) (b : ℕ) (
     out = λ i. omega (arith, has-owner sh (load ws sh) s r (h .placed) b f l i, r .frames .free f free-here);
   }
 
-  entry-is : min (load ws sh (head b headFirstEntry)) 4294967295 + p ≡ entryAt (load ws sh) b p
+  entry-is : min (load ws sh (head b headFirstEntry)) number32Max + p ≡ entryAt (load ws sh) b p
   entry-is = omega (arith, ripe .pages, h .reps .shaped .limits .few-pages, h .reps .shaped .limits .few-tables)
 
   entry-low : entryAt (load ws sh) b p < 0xffff_ffff_ffff_ffff
@@ -165,7 +165,7 @@ module _ (ws : List ℕ) (sh : Shape) (s : State) (h : Held ws sh s) (b : ℕ) (
       let a : isMarked (s .tables b .slots k) ≡ true = sym (ap isMarked c) ∙ e in
       let off : load ws sh (head b headFirstFree) ≡ suc k → ⊥ = λ z. clash (free-vacant (s .tables b) (h .placed .sound b l) k
       (head-in (λ i. slotWord (load ws sh) b i slotNextFree) (λ i. slotWord (load ws sh) b i slotPreviousFree) (load ws sh (head b headFirstFree)) 0 (s .tables b .free) k (h .reps .memory .tables b l .free) z)) (marked-full (s .tables b .slots k) a) in
-      let v : (i : ℕ) → slotWord (load (attachW ws sh b p f) sh) b k i ≡ pick (eqb i 3 && eqb (load ws sh (head b headFirstFree)) (suc k)) (suc (p * pageSize)) (slotWord (load ws sh) b k i)
+      let v : (i : ℕ) → slotWord (load (attachW ws sh b p f) sh) b k i ≡ pick (eqb i slotPreviousFree && eqb (load ws sh (head b headFirstFree)) (suc k)) (suc (p * pageSize)) (slotWord (load ws sh) b k i)
       = λ i. ap (λ (c : Spot → ℕ). c (sl k i)) shows ∙ other-slot ws sh b (s .tables b) p f ripe k i (eqb-false (k / pageSize) p y) in
       (a, v 0, v 2, v 3 ∙ rw (ne-eqb (load ws sh (head b headFirstFree)) (suc k) off)))
 

@@ -14,7 +14,7 @@ use Rattle.layout.specs.declared.Shape.{Shape}
 use Rattle.layout.specs.Layout.{Mem, head, entry, load, save, writes}
 use Rattle.layout.specs.Turns.{turns, turns-more}
 use Rattle.layout.specs.Fields.{headPageLimit, headPages, headFreeSlots, headFirstDetached, headFirstEntry, entryFrame, entryHigh, entryBusy}
-use Rattle.layout.specs.Sizes.{lastPage, batchMax}
+use Rattle.layout.specs.Sizes.{lastPage, batchMax, number32Max}
 use Rattle.head.specs.declared.TableHead.{TableHead}
 use Rattle.head.specs.Head.{headAt, agedBy, nextEpoch, epochP}
 use Rattle.storage.specs.Ops.{up}
@@ -40,7 +40,7 @@ unfolding builtW
 built-end ws sh f p g h j n us a e l k = let d : j ≡ slotsOf till p = omega arith in e ∙ ap (turns ws sh (slotsP f p g h)) d
 
 -- `attach_page`
-pub attach-is : (ws : List ℕ) (sh : Shape) (b p f : ℕ) (e₀ e : ℕ) (w₁ w₂ : List ℕ) → e₀ ≡ load ws sh (head b headFirstEntry) → e ≡ min e₀ 4294967295 → w₁ ≡ joinedW ws sh b p f
+pub attach-is : (ws : List ℕ) (sh : Shape) (b p f : ℕ) (e₀ e : ℕ) (w₁ w₂ : List ℕ) → e₀ ≡ load ws sh (head b headFirstEntry) → e ≡ min e₀ number32Max → w₁ ≡ joinedW ws sh b p f
     → w₂ ≡ takeFrameW w₁ sh f (e + p) → w₂ ≡ attachW ws sh b p f
 unfolding attachW
 attach-is ws sh b p f e₀ e w₁ w₂ a c d q = rw (q, d, c, a)

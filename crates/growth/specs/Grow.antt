@@ -25,6 +25,7 @@ use Rattle.layout.specs.declared.Shape.{Shape}
 use Rattle.layout.specs.Layout.{Addr.reg, Mem, head, entry, load}
 use Rattle.layout.specs.Fields.{headPages, headFirstDetached, entryNext}
 use Rattle.layout.specs.Sizes.{lastPage, batchMax}
+use Rattle.layout.specs.RegionNames.{regionObject}
 use Rattle.representation.specs.Represents.{entryAt, Linked, TableIs}
 use Rattle.storage.specs.Reps.{Held}
 use Rattle.frames.specs.Paged.{paged-high}
@@ -114,7 +115,7 @@ next-turn (d ∷ ds) n p e = (ds, inr (ap (λ (x : ℕ). x ∷ ds) (sym e)))
 
 -- the objects, the row index and the rows keep their words
 abbrev pub Kept : Shape → List ℕ → List ℕ → Type 0
-Kept sh ws vs = (k x y i : ℕ) → 8 ≤ k → load vs sh (reg k x y i) ≡ load ws sh (reg k x y i)
+Kept sh ws vs = (k x y i : ℕ) → regionObject ≤ k → load vs sh (reg k x y i) ≡ load ws sh (reg k x y i)
 
 module _ (sh : Shape) (b : ℕ) where
   -- one page

@@ -19,8 +19,8 @@ use Rattle.invariant.specs.Orders.{Room}
 use Rattle.layout.specs.declared.Shape.{Shape}
 use Rattle.layout.specs.Layout.{Addr, Mem, head, entry, cell, load, Write, Write.at, writes, upd, upds, In, InAll, in-head, in-entry, in-cell, length-writes, load-writes}
 use Rattle.layout.specs.Turns.{turns, turnsM, length-turns, load-turns}
-use Rattle.layout.specs.Fields.{headPages, headFirstFree, headFreeSlots, headFirstEmpty, headFirstDetached, headFirstEntry, entryFrame, entryHigh, entryBusy, entryNext, entryPrevious, slotTag, slotGeneration, slotNextFree, slotPreviousFree}
-use Rattle.layout.specs.Sizes.{pageSize, pagesMax, slotsMax, framesMax}
+use Rattle.layout.specs.Fields.{headEpoch, headPages, headFirstFree, headFreeSlots, headFirstEmpty, headFirstDetached, headFirstEntry, entryFrame, entryHigh, entryBusy, entryNext, entryPrevious, slotTag, slotGeneration, slotNextFree, slotPreviousFree}
+use Rattle.layout.specs.Sizes.{pageSize, pagesMax, slotsMax, framesMax, entrySize}
 use Rattle.representation.specs.Represents.{entryAt, wordIn, frameOf, slotWord}
 use Rattle.storage.specs.Order.{head-in}
 use Rattle.storage.specs.Sight.{Spot.sl, look, Put.toSlot, OnlyTable, Can, frame-is, still-only, still-frame, put-only, put-in, put-shows, linkFrame, cellP, slotP, pageP, writesAll, updsAll, length-all, load-all}
@@ -96,7 +96,7 @@ module _ (ws : List ℕ) (sh : Shape) (b : ℕ) (t : Table) (p f : ℕ) (r : Rip
   own-page : (q : ℕ) → q < t .limit → In sh (entry (load ws sh (head b headFirstEntry) + q) entryFrame) × (load ws sh (head b headFirstEntry) + q < sh .pages)
   own-page q h = (in-entry sh (load ws sh (head b headFirstEntry) + q) entryFrame (omega (arith, r .pages)) (omega arith), omega (arith, r .pages))
 
-  in-pageP : (l i v : ℕ) → i < 5 → ((q : ℕ) → l ≡ suc q → q < t .limit) → InAll sh (pageP (load ws sh (head b headFirstEntry)) l i v)
+  in-pageP : (l i v : ℕ) → i < entrySize → ((q : ℕ) → l ≡ suc q → q < t .limit) → InAll sh (pageP (load ws sh (head b headFirstEntry)) l i v)
   in-pageP zero i v h c = tt
   in-pageP (suc q) i v h c = (in-entry sh (load ws sh (head b headFirstEntry) + q) i (own-page q (c q refl) .1) h, tt)
 
@@ -140,7 +140,7 @@ module _ (ws : List ℕ) (sh : Shape) (b : ℕ) (t : Table) (p f : ℕ) (r : Rip
   low-entry : (q i : ℕ) → q < t .limit → Pages (load ws sh) b f (entry (load ws sh (head b headFirstEntry) + q) i)
   low-entry q i h = inr (inr (inl (refl, omega arith, omega (arith, r .ready .table .limit))))
 
-  head-entry : (i : ℕ) → 4 ≤ i → i ≤ 9 → Pages (load ws sh) b f (head b i)
+  head-entry : (i : ℕ) → headEpoch ≤ i → i ≤ headFirstDetached → Pages (load ws sh) b f (head b i)
   head-entry i a c = inr (inl (refl, refl, a, c))
 
   in-frame : (j i : ℕ) → Pages (load ws sh) b f (cell f j i)
@@ -195,8 +195,8 @@ module _ (ws : List ℕ) (sh : Shape) (b : ℕ) (t : Table) (p f : ℕ) (r : Rip
   page-then q i = ap (λ (x : ℕ). mJoined (load ws sh) b p f (entry (x + q) i)) first-kept
 
   page-other : (q i : ℕ) → (q ≡ p → ⊥) → mJoined (load ws sh) b p f (entry (entryAt (mJoined (load ws sh) b p f) b q) i)
-      ≡ pick (eqb i 4 && eqb (load ws sh (head b headFirstEmpty)) (suc q)) (suc p) (load ws sh (entry (entryAt (load ws sh) b q) i))
-  page-other q i n = page-then q i ∙ joined-page (load ws sh) b p f q i n ∙ ap (λ (x : ℕ). pick (eqb i 4 && eqb (load ws sh (head b headFirstEmpty)) (suc q)) x (load ws sh (entry (entryAt (load ws sh) b q) i))) up-page
+      ≡ pick (eqb i entryPrevious && eqb (load ws sh (head b headFirstEmpty)) (suc q)) (suc p) (load ws sh (entry (entryAt (load ws sh) b q) i))
+  page-other q i n = page-then q i ∙ joined-page (load ws sh) b p f q i n ∙ ap (λ (x : ℕ). pick (eqb i entryPrevious && eqb (load ws sh (head b headFirstEmpty)) (suc q)) x (load ws sh (entry (entryAt (load ws sh) b q) i))) up-page
 
   -- frames of slots
   frame-on : (k : ℕ) → k / pageSize ≡ p → k < maxSlots → frameOf (mJoined (load ws sh) b p f) b k ≡ suc f
@@ -236,7 +236,7 @@ module _ (ws : List ℕ) (sh : Shape) (b : ℕ) (t : Table) (p f : ℕ) (r : Rip
   mSlot = upds (load ws sh) (slotP (linkFrame (load ws sh) b (load ws sh (head b headFirstFree))) (load ws sh (head b headFirstFree)) slotPreviousFree (p * pageSize + 1))
 
   pub other-slot : (k i : ℕ) → (k / pageSize ≡ p → ⊥)
-      → slotWord (mJoined (load ws sh) b p f) b k i ≡ pick (eqb i 3 && eqb (load ws sh (head b headFirstFree)) (suc k)) (suc (p * pageSize)) (slotWord (load ws sh) b k i)
+      → slotWord (mJoined (load ws sh) b p f) b k i ≡ pick (eqb i slotPreviousFree && eqb (load ws sh (head b headFirstFree)) (suc k)) (suc (p * pageSize)) (slotWord (load ws sh) b k i)
   unfolding look
   other-slot k i n =
       let fit = r .ready .fit in
@@ -247,7 +247,7 @@ module _ (ws : List ℕ) (sh : Shape) (b : ℕ) (t : Table) (p f : ℕ) (r : Rip
       ∙ words (frameOf (load ws sh) b k) refl
       ∙ sym (ap (λ (x : ℕ). wordIn mSlot x (k % pageSize) i) fr)
       ∙ put-shows sh (load ws sh) b fit (load ws sh) (λ a c. refl) (toSlot (load ws sh (head b headFirstFree)) slotPreviousFree (p * pageSize + 1)) can-old (sl k i)
-      ∙ ap (λ (x : ℕ). pick (eqb i 3 && eqb (load ws sh (head b headFirstFree)) (suc k)) x (slotWord (load ws sh) b k i)) link
+      ∙ ap (λ (x : ℕ). pick (eqb i slotPreviousFree && eqb (load ws sh (head b headFirstFree)) (suc k)) x (slotWord (load ws sh) b k i)) link
     where
       words : (x : ℕ) → frameOf (load ws sh) b k ≡ x → wordIn (mJoined (load ws sh) b p f) x (k % pageSize) i ≡ wordIn mSlot x (k % pageSize) i
       words zero e = refl

@@ -19,7 +19,7 @@ use Rattle.storage.specs.Ops.{up, joinW}
 use Rattle.storage.specs.Late.{linkFrom, link-of, linkedW, join-by, linked-last, entry-last, slot-keeps}
 use Rattle.layout.specs.Turns.{turns}
 use Rattle.layout.specs.Fields.{headPages, headFirstFree, headFreeSlots, headFirstEmpty, headFirstDetached, headFirstEntry, entryFrame, entryHigh, entryBusy, entryNext, slotPreviousFree}
-use Rattle.layout.specs.Sizes.{pageSize, slotsMax}
+use Rattle.layout.specs.Sizes.{pageSize, slotsMax, number32Max}
 use Rattle.growth.specs.Words.{slotsP, builtW, entryP, fresh, sizeWith, detachedWith, joinedW}
 
 -- the generation of page p and the link of the first detached page then, by the head
@@ -97,7 +97,7 @@ pub page-is : (ws : List ℕ) (sh : Shape) (b p f : ℕ) (h t : TableHead) (d g 
     → w₅ ≡ joinedW ws sh b p f
 unfolding joinedW headAt
 page-is ws sh b p f h t d g fr w₁ w₂ w₃ w₄ w₅ l e₁ e₂ e₃ e₄ e₅ a₁ a₂ a₃ a₄ a₅ =
-    let k : min p 4294967295 ≡ p = omega arith in
+    let k : min p number32Max ≡ p = omega arith in
     let m : Mem = load ws sh in
     let u : List ℕ = builtW ws sh f p (fresh m b p) (m (head b headFirstFree)) in
     let v : List ℕ = writes u sh (slotP (linkFrame m b (m (head b headFirstFree))) (m (head b headFirstFree)) slotPreviousFree (p * pageSize + 1)) in

@@ -19,7 +19,7 @@ use Rattle.model.specs.Sums.{without-none, length-push, length-range}
 use Rattle.invariant.specs.Pages.{till-sane, page-in, page-slots, vacant-there, busy-other, busy-none}
 use Rattle.invariant.specs.Orders.{Sound, Room, absent-past, attached-of}
 use Rattle.layout.specs.Layout.{Mem}
-use Rattle.layout.specs.Fields.{headPages, headFirstFree, headFreeSlots, headFirstEmpty, headFirstDetached, entryFrame, entryHigh, entryBusy, entryNext, entryPrevious, slotTag, slotGeneration, slotNextFree, slotPreviousFree, slotFlags}
+use Rattle.layout.specs.Fields.{headEpoch, headPages, headFirstFree, headFreeSlots, headFirstEmpty, headFirstDetached, entryFrame, entryHigh, entryBusy, entryNext, entryPrevious, slotTag, slotGeneration, slotNextFree, slotPreviousFree, slotFlags}
 use Rattle.layout.specs.Values.{tagVacant}
 use Rattle.layout.specs.Sizes.{pageSize}
 use Rattle.representation.specs.Represents.{linkOf, tagged, Chain, Linked}
@@ -30,7 +30,7 @@ use Rattle.growth.specs.Push.{before, top, Run, chain-run, chain-behind}
 
 -- what a table that showed v shows when page p, of n slots of the generation g, was joined in frame f
 pub record Joined (v w : Spot → ℕ) (p f g n : ℕ) : Type 0 where
-  pub heads : (i : ℕ) → i ≤ 4 → w (hd i) ≡ v (hd i)
+  pub heads : (i : ℕ) → i ≤ headEpoch → w (hd i) ≡ v (hd i)
   pub size : w (hd headPages) ≡ pick (eqb p (v (hd headPages))) (suc (v (hd headPages))) (v (hd headPages))
   pub first : w (hd headFirstFree) ≡ p * pageSize + n
   pub count : w (hd headFreeSlots) ≡ v (hd headFreeSlots) + n
@@ -71,8 +71,8 @@ module _ (m : Mem) (v w : Spot → ℕ) (t : Table) (z : Seen m v t) (o : Sound 
       (λ e. let y : p ≡ t .size = eqb-true p (t .size) e in let k : q < suc (t .size) = rw e at h in omega arith)
       (λ e. rw e at h)
 
-  page-words : (q i : ℕ) → (q ≡ p → ⊥) → i < 4 → w (pg q i) ≡ v (pg q i)
-  page-words q i n h = j .pages q i n ∙ rw (ne-eqb i 4 (λ y. omega arith))
+  page-words : (q i : ℕ) → (q ≡ p → ⊥) → i < entryPrevious → w (pg q i) ≡ v (pg q i)
+  page-words q i n h = j .pages q i n ∙ rw (ne-eqb i entryPrevious (λ y. omega arith))
 
   frames : (q : ℕ) → q < attach till t p f .size → w (pg q entryFrame) ≡ linkOf (attach till t p f .pages q .frame)
   unfolding attach

@@ -12,7 +12,7 @@ use Rattle.layout.specs.Layout.{Mem, head, entry, cell, load, save, Write, Writ
 use Rattle.layout.specs.Turns.{turns}
 use Rattle.layout.specs.Fields.{headPageLimit, headEpoch, headPages, headFirstFree, headFreeSlots, headFirstDetached, headFirstEntry, entryFrame, entryHigh, entryBusy, entryNext, slotTag, slotGeneration, slotNextFree, slotPreviousFree}
 use Rattle.layout.specs.Values.{tagVacant}
-use Rattle.layout.specs.Sizes.{pageSize, lastPage, slotsMax, batchMax}
+use Rattle.layout.specs.Sizes.{pageSize, lastPage, slotsMax, batchMax, number32Max}
 use Rattle.representation.specs.Represents.{entryAt}
 use Rattle.storage.specs.Sight.{linkFrame, slotP, writesAll}
 use Rattle.storage.specs.Ops.{up, joinW}
@@ -73,7 +73,7 @@ joinedW ws sh b p f =
 
 -- ATTACH: and page p's entry has the frame
 unfoldable pub attachW : List ℕ → Shape → ℕ → ℕ → ℕ → List ℕ
-attachW ws sh b p f = takeFrameW (joinedW ws sh b p f) sh f (min (load ws sh (head b headFirstEntry)) 4294967295 + p)
+attachW ws sh b p f = takeFrameW (joinedW ws sh b p f) sh f (min (load ws sh (head b headFirstEntry)) number32Max + p)
 
 -- ---- the plan of pages
 

@@ -130,7 +130,7 @@ pub fn attach_page(s: &mut [u64], sh: Shape, b: u64, p: u32, f: u64)
 {
     let e = words::smaller(
         layout::head_word(s, sh, b, field::HEAD_FIRST_ENTRY),
-        4294967295,
+        size::NUMBER_32_MAX,
     );
     join_page(s, sh, b, p, f);
     frames::take_frame(s, sh, f, e + (p as u64));

@@ -11,7 +11,7 @@ use Rattle.layout.specs.declared.Shape.{Shape}
 use Rattle.layout.specs.Layout.{Mem, head, save, Write, Write.at, writes}
 use Rattle.layout.specs.Fields.{headLifecycle, headCursor, headEpoch, headPages, headFirstFree, headFreeSlots, headFirstEmpty, headFirstDetached, headFirstEntry}
 use Rattle.layout.specs.Values.{lifeTearingDown, lifeRetired}
-use Rattle.layout.specs.Sizes.{pageSize, slotsMax}
+use Rattle.layout.specs.Sizes.{pageSize, slotsMax, number32Max}
 use Rattle.head.specs.declared.TableHead.{TableHead}
 
 -- the head of table b
@@ -77,7 +77,7 @@ attachedBy h p = record {
   cursor = h .cursor;
   epoch = h .epoch;
   pages = pagesWith (h .pages) p;
-  «first_free» = min p 4294967295 * pageSize + slotsOf till p;
+  «first_free» = min p number32Max * pageSize + slotsOf till p;
   free = min (h .free) slotsMax + slotsOf till p;
   «first_empty» = h .«first_empty»;
   «first_detached» = h .«first_detached»;
@@ -188,7 +188,7 @@ pub pages-old : (n p : ℕ) → (p ≡ n → ⊥) → n ≡ pagesWith n p
 pages-old n p e = no-is (eqb p n) n (min (p + 1) 0xffff_ffff_ffff_ffff) n (ne-eqb p n e) refl
 
 -- ---- the words of `attached`
-pub attached-is : (h : TableHead) (p n k c f w : ℕ) → n ≡ slotsOf till p → k ≡ min p 4294967295 → c ≡ min (h .free) slotsMax → w ≡ pagesWith (h .pages) p → f ≡ k * pageSize + n
+pub attached-is : (h : TableHead) (p n k c f w : ℕ) → n ≡ slotsOf till p → k ≡ min p number32Max → c ≡ min (h .free) slotsMax → w ≡ pagesWith (h .pages) p → f ≡ k * pageSize + n
     → _≡_ {A = TableHead} (record { life = h .life; cursor = h .cursor; epoch = h .epoch; pages = w; «first_free» = f; free = c + n; «first_empty» = h .«first_empty»; «first_detached» = h .«first_detached»; entry = h .entry })
     (attachedBy h p)
 attached-is h p n k c f w e₁ e₂ e₃ e₄ e₅ = rw (e₅, e₄, e₃, e₂, e₁)

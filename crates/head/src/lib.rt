@@ -124,7 +124,7 @@ pub fn attached(h: TableHead, p: u64) -> TableHead
     ensures { λ r. ⌜ r ≡ attachedBy h p ⌝ }
 {
     let n = slots_of(p) as u64;
-    let first = words::smaller(p, 4294967295) * size::PAGE_SIZE + n;
+    let first = words::smaller(p, size::NUMBER_32_MAX) * size::PAGE_SIZE + n;
     let free = words::smaller(h.free, size::SLOTS_MAX) + n;
     let pages = pages_with(h.pages, p);
     TableHead {

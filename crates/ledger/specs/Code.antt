@@ -11,7 +11,7 @@ use Rattle.words.specs.All.{all}
 use Rattle.layout.specs.declared.Shape.{Shape}
 use Rattle.layout.specs.Layout.{Mem, root, cell, index, rank, row, item}
 use Rattle.layout.specs.Fields.{rootNextId, rootUsedRows, rowId, rowKind, rowTable, rowLength, itemSlot, itemOperation, itemMoved}
-use Rattle.layout.specs.Values.{tagReserved, tagTransferReserved, kindReservation, kindClaim}
+use Rattle.layout.specs.Values.{tagReserved, tagTransferReserved, kindReservation, kindClaim, kindParcel}
 use Rattle.layout.specs.Sizes.{pageSize, batchMax}
 use Rattle.representation.specs.Represents.{wordIn, frameOf, slotWord}
 use Rattle.storage.specs.Code.{word-some}
@@ -25,7 +25,7 @@ module _ (m : Mem) (sh : Shape) where
   pub handle-no : (x j : ℕ) → (HandleOk m sh x j → ⊥) → false ≡ handleB m sh x j
   handle-no x j n = refused (handleB m sh x j) (handle-is m sh x j) n
 
-  pub open-no : (w b : ℕ) → (w ≡ 3 → ⊥) → (OpenOk m sh b → ⊥) → false ≡ openB m sh w b
+  pub open-no : (w b : ℕ) → (w ≡ kindParcel → ⊥) → (OpenOk m sh b → ⊥) → false ≡ openB m sh w b
   open-no w b d n = refused (openB m sh w b) (λ e. open-is m sh w b e d) n
 
   pub row-no : (x last : ℕ) → (RowOk m sh x last → ⊥) → false ≡ rowB m sh x last
@@ -65,11 +65,11 @@ module _ (m : Mem) (sh : Shape) (b x j : ℕ) where
 
   pub item-claim : (w : ℕ) (r : Bool) → w ≡ kindClaim → r ≡ claimB m sh b x j → r ≡ itemB m sh w b x j
   unfolding itemB
-  item-claim w r e q = rw (ne-eqb w 1 (λ z. omega arith), eq-eqb w 2 e) q
+  item-claim w r e q = rw (ne-eqb w kindReservation (λ z. omega arith), eq-eqb w kindClaim e) q
 
   pub item-parcel : (w : ℕ) (r : Bool) → (w ≡ kindReservation → ⊥) → (w ≡ kindClaim → ⊥) → r ≡ handleB m sh x j → r ≡ itemB m sh w b x j
   unfolding itemB
-  item-parcel w r d e q = rw (ne-eqb w 1 d, ne-eqb w 2 e) q
+  item-parcel w r d e q = rw (ne-eqb w kindReservation d, ne-eqb w kindClaim e) q
 
 -- hits
 module _ (m : Mem) (t x j k : ℕ) where
@@ -103,7 +103,7 @@ and-yes true = refl
 and-yes false = refl
 
 pub row-last : (m : Mem) (sh : Shape) (x last w b n : ℕ) (r : Bool) → last < m (row x rowId) → m (row x rowId) < m (root rootNextId) → w ≡ m (row x rowKind) → b ≡ m (row x rowTable) → n ≡ m (row x rowLength)
-    → 1 ≤ w → w ≤ 3 → 1 ≤ n → n ≤ batchMax → openB m sh w b ≡ true → r ≡ all n (itemB m sh w b x) → r ≡ rowB m sh x last
+    → kindReservation ≤ w → w ≤ kindParcel → 1 ≤ n → n ≤ batchMax → openB m sh w b ≡ true → r ≡ all n (itemB m sh w b x) → r ≡ rowB m sh x last
 unfolding rowB
 row-last m sh x last w b n r h₀ h₁ ew eb en h₂ h₃ h₄ h₅ o q =
     rw (lt-ltb last (m (row x rowId)) h₀, lt-ltb (m (row x rowId)) (m (root rootNextId)) h₁, ← ew, ← eb, ← en, le-leb 1 w h₂, le-leb w 3 h₃, le-leb 1 n h₄, le-leb n batchMax h₅, o) (q ∙ sym (and-yes (all n (itemB m sh w b x))))

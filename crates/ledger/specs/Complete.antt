@@ -166,7 +166,7 @@ module _ (m : Mem) (sh : Shape) (s : State) (tables : sh .tables ≡ s .tableCou
     operation = λ z. absurd (omega arith);
   }
 
-opens-there : (m : Mem) (x v : ℕ) → m (row x rowKind) ≡ v → 1 ≤ v → v ≤ 2 → opensIn (m (row x rowTable)) (bodyBy m x v) ≡ true
+opens-there : (m : Mem) (x v : ℕ) → m (row x rowKind) ≡ v → kindReservation ≤ v → v ≤ kindClaim → opensIn (m (row x rowTable)) (bodyBy m x v) ≡ true
 opens-there m x zero e a b = absurd (omega arith)
 opens-there m x (suc zero) e a b = same (m (row x rowTable))
 opens-there m x (suc (suc zero)) e a b = same (m (row x rowTable))
@@ -273,7 +273,7 @@ module _ (sh : Shape) (m : Mem) (s : State) (p : Represents sh m s) (w : WellFor
             position = tally-two (λ i. hitB m (tagOf t) x i k) 0 (m (row x rowLength)) (slotWord m (m (row x rowTable)) k slotPosition) j (omega (arith, u .once)) (omega arith) (omega (arith, u .mark .position)) (omega arith) (omega arith) (u .mark .hit) h;
           }
 
-  active-here : (r : ℕ) → r < m (root rootUsedRows) → 1 ≤ m (row (m (index r)) rowKind) → m (row (m (index r)) rowKind) ≤ 2 → m (row (m (index r)) rowTable) < sh .tables → m (head (m (row (m (index r)) rowTable)) headLifecycle) ≡ lifeActive
+  active-here : (r : ℕ) → r < m (root rootUsedRows) → 1 ≤ m (row (m (index r)) rowKind) → m (row (m (index r)) rowKind) ≤ kindClaim → m (row (m (index r)) rowTable) < sh .tables → m (head (m (row (m (index r)) rowTable)) headLifecycle) ≡ lifeActive
   unfolding rowsView
   active-here r lr lo hi lb =
       let some-row : anyOpen (m (row (m (index r)) rowTable)) (s .book .rows) ≡ true

@@ -29,12 +29,12 @@ pub record OpenOk (m : Mem) (sh : Shape) (b : ℕ) : Type 0 where
   pub table : b < sh .tables
   pub active : m (head b headLifecycle) ≡ lifeActive
 
-pub open-is : (m : Mem) (sh : Shape) (w b : ℕ) → openB m sh w b ≡ true → (w ≡ 3 → ⊥) → OpenOk m sh b
+pub open-is : (m : Mem) (sh : Shape) (w b : ℕ) → openB m sh w b ≡ true → (w ≡ kindParcel → ⊥) → OpenOk m sh b
 unfolding openB
 open-is m sh w b e n = let p = passed (ltb b (sh .tables) ∷ eqb (m (head b headLifecycle)) lifeActive ∷ []) (pick-no (eqb w kindParcel) true _ e (ne-eqb w kindParcel n)) in
     record { table = ltb-true b (sh .tables) (p .0); active = eqb-true (m (head b headLifecycle)) lifeActive (p .1 .0) }
 
-pub open-yes : (m : Mem) (sh : Shape) (w b : ℕ) → ((w ≡ 3 → ⊥) → OpenOk m sh b) → openB m sh w b ≡ true
+pub open-yes : (m : Mem) (sh : Shape) (w b : ℕ) → ((w ≡ kindParcel → ⊥) → OpenOk m sh b) → openB m sh w b ≡ true
 unfolding openB
 open-yes m sh w b f = bool (eqb w kindParcel)
     (λ e. rw e)

@@ -7,7 +7,7 @@ use lib.ListN.{length}
 use Rattle.model.specs.State.{Handle, Entry, Entry.moved, Entry.copied, Body, Body.reservation, Body.claim, Body.parcel, Row}
 use Rattle.layout.specs.Layout.{Mem, root, index, row, item}
 use Rattle.layout.specs.Fields.{rootUsedRows, rowId, rowKind, rowTable, rowLength, itemSlot, itemOperation, itemMoved, itemObject, itemRights, itemFlags, itemGranted}
-use Rattle.layout.specs.Values.{kindClaim, kindParcel}
+use Rattle.layout.specs.Values.{kindReservation, kindClaim, kindParcel}
 use Rattle.representation.specs.Represents.{Items, BodyIs, HandleIs, EntryIs, RowsAre}
 
 -- ---- the view
@@ -34,6 +34,11 @@ bodyBy m x zero = parcel (from (handleAt m x) 0 (m (row x rowLength)))
 bodyBy m x (suc zero) = reservation (m (row x rowTable)) (from (λ j. m (item x j itemSlot)) 0 (m (row x rowLength)))
 bodyBy m x (suc (suc zero)) = claim (m (row x rowTable)) (from (itemAt m x) 0 (m (row x rowLength)))
 bodyBy m x (suc (suc (suc w))) = parcel (from (handleAt m x) 0 (m (row x rowLength)))
+
+-- the same by the names of what a row is, checked
+bodyBy-names : (m : Mem) (x : ℕ) → (bodyBy m x kindReservation ≡ reservation (m (row x rowTable)) (from (λ j. m (item x j itemSlot)) 0 (m (row x rowLength))))
+    × (bodyBy m x kindClaim ≡ claim (m (row x rowTable)) (from (itemAt m x) 0 (m (row x rowLength)))) × (bodyBy m x kindParcel ≡ parcel (from (handleAt m x) 0 (m (row x rowLength))))
+bodyBy-names m x = (refl, refl, refl)
 
 abbrev pub bodyAt : Mem → ℕ → Body
 bodyAt m x = bodyBy m x (m (row x rowKind))

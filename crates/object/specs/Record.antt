@@ -51,5 +51,5 @@ countIn x = x .count
 pub lowered-more : (x y : ObjectRecord) → 1 < x .count → y ≡ withCount x (x .stage) (x .count - 1) → y ≡ loweredBy x
 lowered-more x y h e = e ∙ rw (lt-ltb 1 (x .count) h)
 
-pub lowered-last : (x y : ObjectRecord) → x .count ≤ 1 → y ≡ withCount x 2 0 → y ≡ loweredBy x
+pub lowered-last : (x y : ObjectRecord) → x .count ≤ 1 → y ≡ withCount x stageRetired 0 → y ≡ loweredBy x
 lowered-last x y h e = let z : x .count - 1 ≡ 0 = omega arith in e ∙ rw (le-ltb 1 (x .count) h, z)

@@ -15,6 +15,7 @@ use Rattle.model.specs.Objects.{withCount, activated, raise, lower, retiredByOw
 use Rattle.layout.specs.declared.Shape.{Shape}
 use Rattle.layout.specs.Layout.{Addr, Addr.reg, Mem, total, object, load, save, same, same-is, isIn, length-save, load-save-any, Write, writes, upds, in-object, length-writes, load-writes}
 use Rattle.layout.specs.Fields.{objectStage, objectActive}
+use Rattle.layout.specs.RegionNames.{regionObject}
 use Rattle.representation.specs.Represents.{stageWord, ObjectIs}
 use Rattle.storage.specs.Kept.{Stays, RowsStay}
 use Rattle.storage.specs.Reps.{Held}
@@ -25,7 +26,7 @@ use Rattle.object.specs.Whole.{OnlyObject, object-stays, object-rows, he
 
 -- ---- what a step shows, whatever the words
 
-apart-object : (o g k x y f : ℕ) → (k ≡ 8 → x ≡ o → ⊥) → same (object o g) (reg k x y f) ≡ false
+apart-object : (o g k x y f : ℕ) → (k ≡ regionObject → x ≡ o → ⊥) → same (object o g) (reg k x y f) ≡ false
 apart-object o g k x y f h = bool (same (object o g) (reg k x y f))
     (λ e. let q : reg k x y f ≡ object o g = same-is (object o g) (reg k x y f) e in absurd (h (cc) (cc)))
     (λ e. e)
@@ -40,8 +41,8 @@ module _ (f : ObjectRecord → ObjectRecord) (ws : List ℕ) (sh : Shape) (o : �
   unfolding stepW
   step-only h k x y g n = let r : ObjectRecord = f (recordAt (load ws sh) o) in let a : Addr = reg k x y g in
       load-save-any (save ws sh (object o objectStage) (r .stage)) sh (omega (arith, length-save ws sh (object o objectStage) (r .stage))) (object o objectActive) (r .count) a
-      ∙ rw (apart-object o 6 k x y g n, and-false (isIn sh (object o objectActive)))
-      (load-save-any ws sh h (object o objectStage) (r .stage) a ∙ rw (apart-object o 5 k x y g n, and-false (isIn sh (object o objectStage))))
+      ∙ rw (apart-object o objectActive k x y g n, and-false (isIn sh (object o objectActive)))
+      (load-save-any ws sh h (object o objectStage) (r .stage) a ∙ rw (apart-object o objectStage k x y g n, and-false (isIn sh (object o objectStage))))
 
   -- so that tables and rows keep theirs
   module _ (h : total sh ≤ length ws) where

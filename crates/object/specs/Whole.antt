@@ -13,29 +13,30 @@ use Rattle.model.specs.Change.{withObjects}
 use Rattle.layout.specs.declared.Shape.{Shape}
 use Rattle.layout.specs.Layout.{Addr.reg, Mem, head, load}
 use Rattle.layout.specs.ShapeOf.{roots-kept}
-use Rattle.layout.specs.Fields.{slotPlace}
+use Rattle.layout.specs.Fields.{rootNextId, rootUsedRows, rootFreeFrames, slotPlace}
+use Rattle.layout.specs.RegionNames.{regionRoot, regionHead, regionEntry, regionOwner, regionGroup16, regionCell, regionObject}
 use Rattle.representation.specs.Represents.{entryAt, slotWord, ObjectIs, Represents}
 use Rattle.storage.specs.Kept.{Stays, all-stay, slot-kept, table-kept, PoolSame, frames-kept, object-kept, RowsStay, rows-stay, mark-kept, book-kept}
 use Rattle.storage.specs.Reps.{Held}
 
 -- n differs from m in the record of object o alone
 abbrev pub OnlyObject : ℕ → Mem → Mem → Type 0
-OnlyObject o m n = (k x y f : ℕ) → (k ≡ 8 → x ≡ o → ⊥) → n (reg k x y f) ≡ m (reg k x y f)
+OnlyObject o m n = (k x y f : ℕ) → (k ≡ regionObject → x ≡ o → ⊥) → n (reg k x y f) ≡ m (reg k x y f)
 
 module _ (o : ℕ) (m n : Mem) (only : OnlyObject o m n) where
   off-head : (b f : ℕ) → n (head b f) ≡ m (head b f)
-  off-head b f = only 1 b 0 f (λ e. omega arith)
+  off-head b f = only regionHead b 0 f (λ e. omega arith)
 
   -- every table's words stay
   pub object-stays : (b : ℕ) → Stays m n b
-  object-stays = all-stay m n off-head (λ e f. only 2 e 0 f (λ q. omega arith)) (λ fr j f. only 7 fr j f (λ e. omega arith))
+  object-stays = all-stay m n off-head (λ e f. only regionEntry e 0 f (λ q. omega arith)) (λ fr j f. only regionCell fr j f (λ e. omega arith))
 
   -- and the rows
   pub object-rows : RowsStay m n
   object-rows = rows-stay m n (λ k x y f l. only k x y f (λ e. omega arith))
 
   object-pool : PoolSame m n
-  object-pool = record { owners = λ g. only 3 g 0 0 (λ e. omega arith); groups = λ i l g. only (4 + i) g 0 0 (λ e. omega arith); count = only 0 0 0 7 (λ e. omega arith) }
+  object-pool = record { owners = λ g. only regionOwner g 0 0 (λ e. omega arith); groups = λ i l g. only (regionGroup16 + i) g 0 0 (λ e. omega arith); count = only regionRoot 0 0 rootFreeFrames (λ e. omega arith) }
 
   -- THE STATE WITH THE OBJECT
   pub with-object : (sh : Shape) (s : State) → Represents sh m s → (x : Object) → ObjectIs n o x → Represents sh n (withObjects s (put (s .objects) o x))
@@ -47,12 +48,12 @@ module _ (o : ℕ) (m n : Mem) (only : OnlyObject o m n) where
     pageCount = r .pageCount;
     first = λ b l. off-head b 10 ∙ r .first b l;
     tables = λ b l. table-kept m n b (object-stays b) (s .tables b) (r .tables b l) (λ k e. object-rows .rows (slotWord m b k slotPlace) 0)
-        (λ p f h. only 2 (entryAt m b p) 0 f (λ q. omega arith)) (λ p f h. only 2 (entryAt m b p) 0 f (λ q. omega arith));
+        (λ p f h. only regionEntry (entryAt m b p) 0 f (λ q. omega arith)) (λ p f h. only regionEntry (entryAt m b p) 0 f (λ q. omega arith));
     frames = frames-kept m n s (withObjects s (put (s .objects) o x)) object-pool (λ c. off-head c 10) refl refl (λ c p f l h e. (l, h, e)) (r .frames);
     objects = λ i l. bool (eqb i o)
         (λ e. rw (e, eqb-true i o e) is)
-        (λ e. rw e (object-kept m n i (s .objects i) (λ f. only 8 i 0 f (λ z. eqb-false i o e)) (r .objects i l)));
-    book = book-kept m n object-rows s (withObjects s (put (s .objects) o x)) refl (only 0 0 0 5 (λ e. omega arith)) (only 0 0 0 6 (λ e. omega arith))
+        (λ e. rw e (object-kept m n i (s .objects i) (λ f. only regionObject i 0 f (λ z. eqb-false i o e)) (r .objects i l)));
+    book = book-kept m n object-rows s (withObjects s (put (s .objects) o x)) refl (only regionRoot 0 0 rootNextId (λ e. omega arith)) (only regionRoot 0 0 rootUsedRows (λ e. omega arith))
         (λ b k l h. let w : (f : ℕ) → slotWord n b k f ≡ slotWord m b k f = slot-kept m n b (object-stays b) k in
         mark-kept m n object-rows s b k (w 0) (w 2) (w 3) (r .book .marks b k l h)) (r .book);
   }
@@ -65,7 +66,7 @@ held-object ws ws′ sh s o x h long only is = record {
     shaped = let q = h .reps .shaped in record {
       limits = q .limits;
       room = omega (arith, long, q .room);
-      roots = roots-kept sh (load ws sh) (load ws′ sh) (λ f i. only 0 0 0 f (λ e. omega arith)) (q .roots);
+      roots = roots-kept sh (load ws sh) (load ws′ sh) (λ f i. only regionRoot 0 0 f (λ e. omega arith)) (q .roots);
     };
     memory = with-object o (load ws sh) (load ws′ sh) only sh s (h .reps .memory) x is;
   };

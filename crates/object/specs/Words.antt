@@ -70,10 +70,10 @@ raiseRefusal m o =
     0)
 
 -- `raise_refusal`
-module _ (m : Mem) (o stage : ℕ) (d : stage ≡ m (object o objectStage)) (t₁ : Bool) (e₁ : t₁ ≡ eqb stage 2) where
+module _ (m : Mem) (o stage : ℕ) (d : stage ≡ m (object o objectStage)) (t₁ : Bool) (e₁ : t₁ ≡ eqb stage stageRetired) where
   stage-tells : eqb (recordAt m o .stage) stageRetired ≡ t₁
   unfolding recordAt
-  stage-tells = sym (e₁ ∙ ap (λ (z : ℕ). eqb z 2) d)
+  stage-tells = sym (e₁ ∙ ap (λ (z : ℕ). eqb z stageRetired) d)
 
   pub raise-retired : t₁ ≡ true → 9 ≡ raiseRefusal m o
   unfolding raiseRefusal

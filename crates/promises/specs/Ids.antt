@@ -162,7 +162,7 @@ module _ (f : ℕ → ℕ) (z : f 0 ≡ 0) (ys : List ℕ) where
       → readRecord first mustOf mayOf ws ≡ some (fs, rest) → readRecord first mustOf mayOf (then-ys [] ws) ≡ some (fieldsBy f 0 fs, then-ys [] rest)
   record-go first mustOf mayOf q [] fs rest e = apart e
   record-go first mustOf mayOf q (m ∷ ws) fs rest e =
-      let judge : Fields × List ℕ → Reading Fields = λ r. pick (goodRecord first (mustOf (must (r .0) 0)) (mayOf (must (r .0) 0)) m (r .0)) (some r) none in
+      let judge : Fields × List ℕ → Reading Fields = λ r. pick (goodRecord first (mustOf (must (r .0) opField)) (mayOf (must (r .0) opField)) m (r .0)) (some r) none in
       let t = then-some (readFields fieldCount m ws) judge (fs, rest) e in
       let a : Fields × List ℕ = t .0 in
       let p = pick-some (goodRecord first (mustOf (must (a .0) 0)) (mayOf (must (a .0) 0)) m (a .0)) a (fs, rest) (t .2) in
@@ -236,10 +236,10 @@ module _ (f : ℕ → ℕ) (z : f 0 ≡ 0) (ys : List ℕ) where
   items-go fs (trim i n) ws q rest e = ap with-go e
   items-go fs (abort i) ws q rest e = ap with-go e
   items-go fs (publish i is) ws q rest e =
-      let t = then-some (readMany readParcelItem (must fs 3) ws) (λ r. some (publish i (r .0), r .1)) (q, rest) e in
+      let t = then-some (readMany readParcelItem (must fs countField) ws) (λ r. some (publish i (r .0), r .1)) (q, rest) e in
       let a : List ℕ × List ℕ = t .0 in
       ap (λ (n : ℕ). andThen (readMany readParcelItem n (then-ys [] ws)) λ r. some (publish (f i) (r .0), r .1)) (must-same f fs countField refl)
-      ∙ ap (λ (x : Reading (List ℕ)). andThen x λ r. some (publish (f i) (r .0), r .1)) (many-go readParcelItem f parcel-item-go (must fs 3) ws (a .0) (a .1) (t .1))
+      ∙ ap (λ (x : Reading (List ℕ)). andThen x λ r. some (publish (f i) (r .0), r .1)) (many-go readParcelItem f parcel-item-go (must fs countField) ws (a .0) (a .1) (t .1))
       ∙ ap with-go (t .2)
   items-go fs (getInfo c w) ws q rest e = ap with-go e
   items-go fs (resolve c w r k) ws q rest e = ap with-go e
@@ -247,11 +247,11 @@ module _ (f : ℕ → ℕ) (z : f 0 ≡ 0) (ys : List ℕ) where
   items-go fs (close c w) ws q rest e = ap with-go e
   items-go fs (scanHandles c k) ws q rest e = ap with-go e
   items-go fs (prepareTransfer c route o k qs) ws q rest e =
-      let t = then-some (readMany readTransferItem (must fs 3) ws) (λ r. some (prepareTransfer c route o k (r .0), r .1)) (q, rest) e in
+      let t = then-some (readMany readTransferItem (must fs countField) ws) (λ r. some (prepareTransfer c route o k (r .0), r .1)) (q, rest) e in
       let a : List Item × List ℕ = t .0 in
       ap (λ (n : ℕ). andThen (readMany readTransferItem n (then-ys [] ws)) λ r. some (prepareTransfer c route o k (r .0), r .1)) (must-same f fs countField refl)
       ∙ ap (λ (x : Reading (List Item)). andThen x λ r. some (prepareTransfer c route o k (r .0), r .1))
-      (many-go readTransferItem (λ q. q) transfer-item-go (must fs 3) ws (a .0) (a .1) (t .1) ∙ ap (λ (l : List Item). some (l, then-ys [] (a .1))) (map-same (a .0)))
+      (many-go readTransferItem (λ q. q) transfer-item-go (must fs countField) ws (a .0) (a .1) (t .1) ∙ ap (λ (l : List Item). some (l, then-ys [] (a .1))) (map-same (a .0)))
       ∙ ap with-go (t .2)
   items-go fs (prepareConsumption c w r k o) ws q rest e = ap with-go e
   items-go fs (rollback i) ws q rest e = ap with-go e
@@ -313,15 +313,15 @@ module _ (f : ℕ → ℕ) (z : f 0 ≡ 0) (ys : List ℕ) where
   unfolding readRequest fieldKinds
   request-go ws q rest e =
       let head : List ℕ → Reading Fields = λ v. readRecord anOp (λ op. getD musts op 0) (λ op. getD mays op 0) v in
-      let make : Fields × List ℕ → Reading Request = λ r. andThen (plainRequest (must (r .0) 0)) λ make. withItems (r .0) (make (r .0)) (r .1) in
+      let make : Fields × List ℕ → Reading Request = λ r. andThen (plainRequest (must (r .0) opField)) λ make. withItems (r .0) (make (r .0)) (r .1) in
       let t = then-some (head ws) make (q, rest) e in
       let r : Fields × List ℕ = t .0 in
-      let u = then-some (plainRequest (must (r .0) 0)) (λ m. withItems (r .0) (m (r .0)) (r .1)) (q, rest) (t .2) in
+      let u = then-some (plainRequest (must (r .0) opField)) (λ m. withItems (r .0) (m (r .0)) (r .1)) (q, rest) (t .2) in
       let m : Fields → Request = u .0 in
       ap (λ (x : Reading Fields). andThen x make) (record-go anOp (λ op. getD musts op 0) (λ op. getD mays op 0) refl ws (r .0) (r .1) (t .1))
-      ∙ ap (λ (k : ℕ). andThen (plainRequest k) λ x. withItems (fieldsBy f 0 (r .0)) (x (fieldsBy f 0 (r .0))) (then-ys [] (r .1))) (must-same f (r .0) 0 refl)
+      ∙ ap (λ (k : ℕ). andThen (plainRequest k) λ x. withItems (fieldsBy f 0 (r .0)) (x (fieldsBy f 0 (r .0))) (then-ys [] (r .1))) (must-same f (r .0) opField refl)
       ∙ ap (λ (x : Option (Fields → Request)). andThen x λ x. withItems (fieldsBy f 0 (r .0)) (x (fieldsBy f 0 (r .0))) (then-ys [] (r .1))) (u .1)
-      ∙ ap (λ (x : Request). withItems (fieldsBy f 0 (r .0)) x (then-ys [] (r .1))) (made-op (must (r .0) 0) m (u .1) (r .0))
+      ∙ ap (λ (x : Request). withItems (fieldsBy f 0 (r .0)) x (then-ys [] (r .1))) (made-op (must (r .0) opField) m (u .1) (r .0))
       ∙ items-go (r .0) (m (r .0)) (r .1) q rest (u .2)
 
   -- records until the list ends, and the requests of ys after them

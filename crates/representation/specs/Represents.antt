@@ -1,5 +1,5 @@
 -- When words represent a state of the model: docs/formats.md, "The state's words". The words are seen as a memory, from addresses to numbers.
-use mathlib.Core.Path.{_≡_}
+use mathlib.Core.Path.{_≡_, refl}
 use mathlib.Core.Bool.{Bool, true, false}
 use mathlib.Core.List.{List, [], _∷_}
 use mathlib.Core.Option.{Option, none, some}
@@ -14,7 +14,7 @@ use Rattle.layout.specs.declared.Shape.{Shape}
 use Rattle.layout.specs.Layout.{Mem, root, head, entry, owner, group, cell, object, index, rank, row, item, load}
 use Rattle.layout.specs.ShapeOf.{Shaped}
 use Rattle.layout.specs.Fields.{rootNextId, rootUsedRows, rootFreeFrames, headPageLimit, headMask, headLifecycle, headCursor, headEpoch, headPages, headFirstFree, headFreeSlots, headFirstEmpty, headFirstDetached, headFirstEntry, entryFrame, entryHigh, entryBusy, entryNext, entryPrevious, slotTag, slotGeneration, slotNextFree, slotPreviousFree, slotPlace, slotPosition, slotObject, slotRights, slotFlags, objectKoid, objectKind, objectClass, objectSupported, objectExportable, objectStage, objectActive, objectLimit, rowId, rowKind, rowTable, rowLength, itemSlot, itemOperation, itemMoved, itemObject, itemRights, itemFlags, itemGranted}
-use Rattle.layout.specs.Values.{tagTransferReserved, kindReservation, kindClaim, kindParcel, lifeActive, lifeTearingDown, lifeRetired, stageNew, stageActive, stageRetired, classLeaf, classRendezvousOnly, classNever, operationMove, operationCopy}
+use Rattle.layout.specs.Values.{tagVacant, tagReserved, tagTransferReserved, tagOccupied, kindReservation, kindClaim, kindParcel, lifeActive, lifeTearingDown, lifeRetired, stageNew, stageActive, stageRetired, classLeaf, classRendezvousOnly, classNever, operationMove, operationCopy}
 use Rattle.layout.specs.Sizes.{pageSize}
 
 -- Reading the memory
@@ -48,6 +48,12 @@ tagged m (suc zero) g x y w = reserved g (m (row x rowId))
 tagged m (suc (suc zero)) g x y w = transferReserved g (m (row x rowId))
 tagged m (suc (suc (suc zero))) g x y w = occupied g (record { object = x; rights = y; flags = w })
 tagged m (suc (suc (suc (suc n)))) g x y w = absent
+
+-- the same by the tags' names, checked
+pub tagged-names : (m : Mem) (g x y w : ℕ)
+    → (tagged m tagVacant g x y w ≡ vacant g) × (tagged m tagReserved g x y w ≡ reserved g (m (row x rowId)))
+    × (tagged m tagTransferReserved g x y w ≡ transferReserved g (m (row x rowId))) × (tagged m tagOccupied g x y w ≡ occupied g (record { object = x; rights = y; flags = w }))
+tagged-names m g x y w = (refl, refl, refl, refl)
 
 abbrev pub slotFrom : Mem → ℕ → ℕ → Slot
 slotFrom m zero j = absent

@@ -15,7 +15,7 @@ use Rattle.model.specs.Storage.{slotsOf}
 use Rattle.layout.specs.declared.Shape.{Shape}
 use Rattle.layout.specs.Layout.{Addr, Mem, head, entry, load}
 use Rattle.layout.specs.Fields.{headPages, entryFrame}
-use Rattle.layout.specs.Values.{tagReserved, tagTransferReserved, stageRetired}
+use Rattle.layout.specs.Values.{tagReserved, tagTransferReserved, lifeActive, stageRetired, classNever}
 use Rattle.layout.specs.Sizes.{pageSize}
 use Rattle.representation.specs.Represents.{entryAt, linkOf, frameOf, LifeIs, classWord, stageWord, isMarked}
 
@@ -35,15 +35,15 @@ marked-full (reserved g i) e = refl
 marked-full (transferReserved g i) e = refl
 marked-full (occupied g h) e = refl
 
-pub class-small : (c : Class) → classWord c ≤ 2
+pub class-small : (c : Class) → classWord c ≤ classNever
 class-small leaf = omega arith
 class-small rendezvousOnly = omega arith
 class-small never = omega arith
 
-pub life-tells : (w c : ℕ) (l : Lifecycle) → LifeIs w c l → eqb w 0 ≡ isActive l
-life-tells w c active e = eq-eqb w 0 e
-life-tells w c (tearingDown n) e = ne-eqb w 0 (λ z. omega arith)
-life-tells w c retired e = ne-eqb w 0 (λ z. omega arith)
+pub life-tells : (w c : ℕ) (l : Lifecycle) → LifeIs w c l → eqb w lifeActive ≡ isActive l
+life-tells w c active e = eq-eqb w lifeActive e
+life-tells w c (tearingDown n) e = ne-eqb w lifeActive (λ z. omega arith)
+life-tells w c retired e = ne-eqb w lifeActive (λ z. omega arith)
 
 pub retired-tells : (g : Stage) → eqb (stageWord g) stageRetired ≡ isNowRetired g
 retired-tells stillNew = refl

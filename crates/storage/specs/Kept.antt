@@ -13,9 +13,10 @@ use Rattle.model.specs.Base.{occurs}
 use Rattle.model.specs.State.{till, Handle, Slot.reserved, Slot.transferReserved, Table, Object, Entry, Entry.moved, Entry.copied, Body, Body.reservation, Body.claim, Body.parcel, Row, State}
 use Rattle.invariant.specs.Orders.{Sound}
 use Rattle.layout.specs.Layout.{Addr.reg, Mem, root, head, entry, owner, group, cell, object, index, rank, row, item}
-use Rattle.layout.specs.Fields.{rootNextId, rootUsedRows, rootFreeFrames, headPages, headFirstFree, headFirstEmpty, headFirstDetached, headFirstEntry, entryFrame, entryNext, entryPrevious, slotTag, slotGeneration, slotNextFree, slotPreviousFree, slotPlace, slotPosition, slotObject, slotRights, slotFlags, rowId, rowTable, rowLength, itemSlot, itemOperation}
+use Rattle.layout.specs.Fields.{rootNextId, rootUsedRows, rootFreeFrames, headPages, headFirstFree, headFirstEmpty, headFirstDetached, headFirstEntry, entryFrame, entryNext, entryPrevious, slotTag, slotGeneration, slotNextFree, slotPreviousFree, slotPlace, slotPosition, slotObject, slotRights, slotFlags, indexPlace, indexRank, rowId, rowTable, rowLength, itemSlot, itemOperation}
 use Rattle.layout.specs.Values.{tagTransferReserved, operationMove}
 use Rattle.layout.specs.Sizes.{pageSize}
+use Rattle.layout.specs.RegionNames.{regionIndex, regionRow}
 use Rattle.representation.specs.Represents.{entryAt, wordIn, frameOf, slotWord, tagged, slotFrom, slotIn, TableIs, FramesAre, ObjectIs, HandleIs, EntryIs, Items, BodyIs, RowsAre, isMarked, BookIs}
 use Rattle.storage.specs.Order.{chain-frame, linked-frame}
 use Rattle.storage.specs.Sight.{frame-is}
@@ -177,12 +178,12 @@ pub record RowsStay (m n : Mem) : Type 0 where
   pub items : (r j f : ℕ) → n (item r j f) ≡ m (item r j f)
 
 -- they are the regions above the objects
-pub rows-stay : (m n : Mem) → ((k x y f : ℕ) → 9 ≤ k → n (reg k x y f) ≡ m (reg k x y f)) → RowsStay m n
+pub rows-stay : (m n : Mem) → ((k x y f : ℕ) → regionIndex ≤ k → n (reg k x y f) ≡ m (reg k x y f)) → RowsStay m n
 rows-stay m n o = record {
-  places = λ i. o 9 i 0 0 (omega arith);
-  ranks = λ r. o 9 r 0 1 (omega arith);
-  rows = λ r f. o 10 r 0 f (omega arith);
-  items = λ r j f. o 10 r (suc j) f (omega arith);
+  places = λ i. o regionIndex i 0 indexPlace (omega arith);
+  ranks = λ r. o regionIndex r 0 indexRank (omega arith);
+  rows = λ r f. o regionRow r 0 f (omega arith);
+  items = λ r j f. o regionRow r (suc j) f (omega arith);
 }
 
 -- what the book says of a marked slot: BookIs.marks, of one slot
@@ -200,9 +201,9 @@ module _ (m n : Mem) (o : RowsStay m n) where
     where
       go : (a₀ a₂ a₃ c₀ c₂ c₃ : ℕ) → c₀ ≡ a₀ → c₂ ≡ a₂ → c₃ ≡ a₃
           → (a₂ < s .book .capacity) × (m (rank a₂) < length (s .book .rows)) × (a₃ < m (row a₂ rowLength)) × (m (row a₂ rowTable) ≡ b) × (m (item a₂ a₃ (a₀ - 1)) ≡ k)
-          × (a₀ ≡ 2 → m (item a₂ a₃ itemOperation) ≡ operationMove)
+          × (a₀ ≡ tagTransferReserved → m (item a₂ a₃ itemOperation) ≡ operationMove)
           → (c₂ < s .book .capacity) × (n (rank c₂) < length (s .book .rows)) × (c₃ < n (row c₂ rowLength)) × (n (row c₂ rowTable) ≡ b) × (n (item c₂ c₃ (c₀ - 1)) ≡ k)
-          × (c₀ ≡ 2 → n (item c₂ c₃ itemOperation) ≡ operationMove)
+          × (c₀ ≡ tagTransferReserved → n (item c₂ c₃ itemOperation) ≡ operationMove)
       go a₀ a₂ a₃ c₀ c₂ c₃ q₀ q₂ q₃ p =
           rw (q₀, q₂, q₃) (p .0, rw (o .ranks a₂) (p .1), rw (o .rows a₂ 3) (p .2), o .rows a₂ 2 ∙ p .3, o .items a₂ a₃ (a₀ - 1) ∙ p .4, λ e. o .items a₂ a₃ 0 ∙ p .5 e)
 

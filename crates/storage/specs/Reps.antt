@@ -19,7 +19,8 @@ use Rattle.layout.specs.declared.Shape.{Shape}
 use Rattle.layout.specs.Layout.{Mem, rank, row, item, load}
 use Rattle.layout.specs.ShapeOf.{roots-kept}
 use Rattle.layout.specs.Fields.{slotTag, slotPlace, slotPosition, rowId, rowTable, rowLength, itemOperation, itemMoved}
-use Rattle.layout.specs.Values.{operationMove}
+use Rattle.layout.specs.Values.{tagTransferReserved, operationMove}
+use Rattle.layout.specs.RegionNames.{regionRoot}
 use Rattle.representation.specs.Represents.{slotWord, isMarked, Reps, Rep}
 use Rattle.representation.specs.Told.{marked-full}
 use Rattle.storage.specs.Order.{same?, occurs-head}
@@ -63,13 +64,13 @@ module _ (ws ws′ : List ℕ) (sh : Shape) (s : State) (h : Held ws sh s) (b : 
   stay = table-rows b (load ws sh) (load ws′ sh) (turn .only)
 
   -- a mark that the slot's words name
-  pub mark-is : (x j f tag : ℕ) → c 0 ≡ tag → c 2 ≡ x → c 3 ≡ j → f ≡ tag - 1 → Names (load ws sh) s b k x j f → MarkIs (load ws′ sh) s b k
+  pub mark-is : (x j f tag : ℕ) → c slotTag ≡ tag → c slotPlace ≡ x → c slotPosition ≡ j → f ≡ tag - 1 → Names (load ws sh) s b k x j f → MarkIs (load ws′ sh) s b k
   mark-is x j f tag e₀ e₂ e₃ d p =
       go (slotWord (load ws′ sh) b k slotTag) (slotWord (load ws′ sh) b k slotPlace) (slotWord (load ws′ sh) b k slotPosition) (turn .slot 0 ∙ e₀) (turn .slot 2 ∙ e₂) (turn .slot 3 ∙ e₃)
     where
       go : (a₀ a₂ a₃ : ℕ) → a₀ ≡ tag → a₂ ≡ x → a₃ ≡ j
           → (a₂ < s .book .capacity) × (load ws′ sh (rank a₂) < length (s .book .rows)) × (a₃ < load ws′ sh (row a₂ rowLength)) × (load ws′ sh (row a₂ rowTable) ≡ b) × (load ws′ sh (item a₂ a₃ (a₀ - 1)) ≡ k)
-          × (a₀ ≡ 2 → load ws′ sh (item a₂ a₃ itemOperation) ≡ operationMove)
+          × (a₀ ≡ tagTransferReserved → load ws′ sh (item a₂ a₃ itemOperation) ≡ operationMove)
       go a₀ a₂ a₃ q₀ q₂ q₃ = rw (q₀, q₂, q₃) (
         p .place,
         rw (stay .ranks x) (p .used),
@@ -87,7 +88,7 @@ module _ (ws ws′ : List ℕ) (sh : Shape) (s : State) (h : Held ws sh s) (b : 
       shaped = let q = h .reps .shaped in record {
         limits = q .limits;
         room = omega (arith, turn .long, q .room);
-        roots = roots-kept sh (load ws sh) (load ws′ sh) (λ f a. off-table b (load ws sh) (load ws′ sh) (turn .only) 0 0 0 f (λ e. omega arith) (λ e. omega arith) (λ e. omega arith)) (q .roots);
+        roots = roots-kept sh (load ws sh) (load ws′ sh) (λ f a. off-table b (load ws sh) (load ws′ sh) (turn .only) regionRoot 0 0 f (λ e. omega arith) (λ e. omega arith) (λ e. omega arith)) (q .roots);
       };
       memory = with-table sh (load ws sh) s (h .reps .memory) (h .placed) b l (load ws′ sh) (turn .only) u (turn .table) al
           (λ j e. ⊎-elim

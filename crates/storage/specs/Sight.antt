@@ -13,8 +13,9 @@ use Rattle.words.specs.Pick.{pick, bool, clash, both}
 use Rattle.model.specs.State.{maxSlots}
 use Rattle.layout.specs.declared.Shape.{Shape}
 use Rattle.layout.specs.Layout.{Addr, Addr.reg, Mem, total, head, entry, cell, load, same, same-is, in-head, in-entry, in-cell, Write, Write.at, writes, upd, upds, InAll, load-writes, length-writes}
-use Rattle.layout.specs.Fields.{headPages, headFirstEntry, entryFrame}
-use Rattle.layout.specs.Sizes.{pageSize}
+use Rattle.layout.specs.Fields.{headPages, headFirstFree, headFirstEmpty, headFirstEntry, entryFrame, entryHigh}
+use Rattle.layout.specs.Sizes.{pageSize, entrySize, slotSize}
+use Rattle.layout.specs.RegionNames.{regionHead, regionEntry, regionCell}
 use Rattle.representation.specs.Represents.{entryAt, wordIn, frameOf, slotWord}
 
 -- a word of a table: field f of its head, of its page p, of its slot k
@@ -123,9 +124,9 @@ pub record Still (m n : Mem) (b : ℕ) : Type 0 where
 -- the addresses of table b that these stores may change: the orders' heads and the free count, marks, counts and links of its pages, and slots in its frames
 abbrev pub Foot : Mem → ℕ → Addr → Type 0
 Foot m b (reg k x y f) =
-    ((k ≡ 1) × (x ≡ b) × (6 ≤ f) × (f ≤ 8))
-    ⊎ ((k ≡ 2) × (m (head b headFirstEntry) ≤ x) × (x < m (head b headFirstEntry) + m (head b headPages)) × (1 ≤ f))
-    ⊎ ((k ≡ 7) × ((p : ℕ) × (p < m (head b headPages)) × (m (entry (entryAt m b p) entryFrame) ≡ suc x)))
+    ((k ≡ regionHead) × (x ≡ b) × (headFirstFree ≤ f) × (f ≤ headFirstEmpty))
+    ⊎ ((k ≡ regionEntry) × (m (head b headFirstEntry) ≤ x) × (x < m (head b headFirstEntry) + m (head b headPages)) × (entryHigh ≤ f))
+    ⊎ ((k ≡ regionCell) × ((p : ℕ) × (p < m (head b headPages)) × (m (entry (entryAt m b p) entryFrame) ≡ suc x)))
 
 -- ONLY TABLE b: every other address keeps its word
 abbrev pub OnlyTable : ℕ → Mem → Mem → Type 0
@@ -133,9 +134,9 @@ OnlyTable b m n = (a : Addr) → (Foot m b a → ⊥) → n a ≡ m a
 
 -- a store that may be made
 abbrev pub Can : Mem → ℕ → Put → Type 0
-Can m b (toHead f x) = (6 ≤ f) × (f ≤ 8)
-Can m b (toPage l f x) = (1 ≤ f) × (f < 5) × ((p : ℕ) → l ≡ suc p → p < m (head b headPages))
-Can m b (toSlot l f x) = (f < 6) × ((k : ℕ) → l ≡ suc k → 0 < frameOf m b k)
+Can m b (toHead f x) = (headFirstFree ≤ f) × (f ≤ headFirstEmpty)
+Can m b (toPage l f x) = (entryHigh ≤ f) × (f < entrySize) × ((p : ℕ) → l ≡ suc p → p < m (head b headPages))
+Can m b (toSlot l f x) = (f < slotSize) × ((k : ℕ) → l ≡ suc k → 0 < frameOf m b k)
 
 abbrev pub CanAll : Mem → ℕ → List Put → Type 0
 CanAll m b [] = Unit {0}

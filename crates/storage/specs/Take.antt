@@ -20,8 +20,8 @@ use Rattle.invariant.specs.Pointwise.{place-alike, place-slots}
 use Rattle.invariant.specs.Pages.{till-sane, vacant-there, busy-own, busy-other, vacant-idle}
 use Rattle.invariant.specs.Orders.{Sound, attached-below, attached-of, below-of}
 use Rattle.layout.specs.Layout.{Mem, row}
-use Rattle.layout.specs.Fields.{headFirstFree, headFreeSlots, headFirstEmpty, headFirstDetached, entryHigh, entryBusy, entryNext, entryPrevious, slotTag, slotGeneration, slotNextFree, slotPreviousFree, slotPlace, slotFlags, rowId}
-use Rattle.layout.specs.Values.{tagVacant}
+use Rattle.layout.specs.Fields.{headFirstFree, headFreeSlots, headFirstEmpty, headFirstDetached, entryHigh, entryBusy, entryNext, entryPrevious, slotTag, slotGeneration, slotNextFree, slotPreviousFree, slotPlace, slotPosition, slotFlags, rowId}
+use Rattle.layout.specs.Values.{tagVacant, tagReserved}
 use Rattle.layout.specs.Sizes.{pageSize}
 use Rattle.representation.specs.Represents.{linkOf, tagged, Chain}
 use Rattle.storage.specs.Order.{occurs-head, chain-unlink, chain-without, next-in, prev-in, linked-frame}
@@ -37,9 +37,9 @@ abbrev pub leaveV : (Spot → ℕ) → ℕ → Spot → ℕ
 leaveV v p = puts v (leaveP v p)
 
 -- the links of the pages are not touched by the first two
-pub page-links : (v : Spot → ℕ) (k r j p q g n f : ℕ) → 3 ≤ f → markV (reserveV v k r j) p g n (pg q f) ≡ v (pg q f)
+pub page-links : (v : Spot → ℕ) (k r j p q g n f : ℕ) → entryNext ≤ f → markV (reserveV v k r j) p g n (pg q f) ≡ v (pg q f)
 unfolding reserveP markP
-page-links v k r j p q g n f h = rw (ne-eqb f 1 (λ e. omega arith), ne-eqb f 2 (λ e. omega arith))
+page-links v k r j p q g n f h = rw (ne-eqb f entryHigh (λ e. omega arith), ne-eqb f entryBusy (λ e. omega arith))
 
 -- the words of slot k then
 abbrev pub reservedWords : (Spot → ℕ) → ℕ → ℕ → ℕ → ℕ → ℕ
@@ -52,7 +52,7 @@ unfolding reserveP markP leaveP
 take-own v k r j f = (refl, refl)
 
 -- its mark
-pub reserved-mark : (v : Spot → ℕ) (k r j : ℕ) → (reservedWords v k r j 0 ≡ 1) × (reservedWords v k r j 2 ≡ r) × (reservedWords v k r j 3 ≡ j)
+pub reserved-mark : (v : Spot → ℕ) (k r j : ℕ) → (reservedWords v k r j slotTag ≡ tagReserved) × (reservedWords v k r j slotPlace ≡ r) × (reservedWords v k r j slotPosition ≡ j)
 unfolding reserveP
 reserved-mark v k r j = (rw (eq-eqb (suc k) (suc k) refl), rw (eq-eqb (suc k) (suc k) refl), rw (eq-eqb (suc k) (suc k) refl))
 

@@ -20,7 +20,8 @@ use Rattle.invariant.specs.Orders.{Sound}
 use Rattle.invariant.specs.StorageState.{storage-of, sound-of}
 use Rattle.layout.specs.declared.Shape.{Shape}
 use Rattle.layout.specs.Layout.{Addr.reg, Mem, root, head, entry, owner, cell}
-use Rattle.layout.specs.Fields.{headPages, headFirstEntry, entryFrame, slotPlace}
+use Rattle.layout.specs.Fields.{rootFreeFrames, headPages, headFirstEntry, entryFrame, slotPlace}
+use Rattle.layout.specs.RegionNames.{regionRoot, regionHead, regionEntry, regionOwner, regionGroup16, regionCell, regionObject}
 use Rattle.representation.specs.Represents.{entryAt, slotWord, TableIs, isMarked, Represents}
 use Rattle.representation.specs.Told.{link-some}
 use Rattle.storage.specs.Sight.{Fit, OnlyTable}
@@ -78,7 +79,7 @@ module _ (sh : Shape) (m : Mem) (s : State) (r : Represents sh m s) (pl : Placed
 -- ---- addresses of no table
 
 -- regions other than the heads, the page entries and the frames keep their words
-pub off-table : (b : ℕ) (m n : Mem) → OnlyTable b m n → (k x y f : ℕ) → (k ≡ 1 → ⊥) → (k ≡ 2 → ⊥) → (k ≡ 7 → ⊥) → n (reg k x y f) ≡ m (reg k x y f)
+pub off-table : (b : ℕ) (m n : Mem) → OnlyTable b m n → (k x y f : ℕ) → (k ≡ regionHead → ⊥) → (k ≡ regionEntry → ⊥) → (k ≡ regionCell → ⊥) → n (reg k x y f) ≡ m (reg k x y f)
 off-table b m n o k x y f h i j = o (reg k x y f) (⊎-elim (λ q. h (q .0)) (⊎-elim (λ q. i (q .0)) (λ q. j (q .0))))
 
 -- and those above the objects
@@ -88,9 +89,9 @@ table-rows b m n o = rows-stay m n (λ k x y f h. off-table b m n o k x y f (λ 
 -- the pool's
 pub table-pool : (b : ℕ) (m n : Mem) → OnlyTable b m n → PoolSame m n
 table-pool b m n o = record {
-  owners = λ g. off-table b m n o 3 g 0 0 (λ e. omega arith) (λ e. omega arith) (λ e. omega arith);
-  groups = λ i l g. off-table b m n o (4 + i) g 0 0 (λ e. omega arith) (λ e. omega arith) (λ e. omega arith);
-  count = off-table b m n o 0 0 0 7 (λ e. omega arith) (λ e. omega arith) (λ e. omega arith);
+  owners = λ g. off-table b m n o regionOwner g 0 0 (λ e. omega arith) (λ e. omega arith) (λ e. omega arith);
+  groups = λ i l g. off-table b m n o (regionGroup16 + i) g 0 0 (λ e. omega arith) (λ e. omega arith) (λ e. omega arith);
+  count = off-table b m n o regionRoot 0 0 rootFreeFrames (λ e. omega arith) (λ e. omega arith) (λ e. omega arith);
 }
 
 -- ---- the other tables
@@ -124,7 +125,7 @@ put-like F f b u e c = bool (eqb c b) (λ q. rw (q, eqb-true c b q) e) (λ q. rw
 module _ (sh : Shape) (m : Mem) (s : State) (r : Represents sh m s) (pl : Placed s) (b : ℕ) (lb : b < s .tableCount) (n : Mem) (o : OnlyTable b m n)
     (u : Table) (is : TableIs n b u) (al : Alike till (s .tables b) u) where
   off-root : (f : ℕ) → n (root f) ≡ m (root f)
-  off-root f = off-table b m n o 0 0 0 f (λ e. omega arith) (λ e. omega arith) (λ e. omega arith)
+  off-root f = off-table b m n o regionRoot 0 0 f (λ e. omega arith) (λ e. omega arith) (λ e. omega arith)
 
   off-first : (c : ℕ) → n (head c headFirstEntry) ≡ m (head c headFirstEntry)
   off-first c = o (head c headFirstEntry) (⊎-elim (λ q. omega arith) (⊎-elim (λ q. omega arith) (λ q. omega arith)))
@@ -145,7 +146,7 @@ module _ (sh : Shape) (m : Mem) (s : State) (r : Represents sh m s) (pl : Placed
         (λ e. rw e (other-table sh m s r pl b lb n o c l (eqb-false c b e)));
     frames = frames-kept m n s (withTable s b u) (table-pool b m n o) off-first refl refl
         (λ c p f l h e. (l, rw (put-like (λ t. t .size) (s .tables) b u (al .size) c) at h, sym (put-like (λ t. t .pages p .frame) (s .tables) b u (al .frame p) c) ∙ e)) (r .frames);
-    objects = λ x l. object-kept m n x (s .objects x) (λ f. off-table b m n o 8 x 0 f (λ e. omega arith) (λ e. omega arith) (λ e. omega arith)) (r .objects x l);
+    objects = λ x l. object-kept m n x (s .objects x) (λ f. off-table b m n o regionObject x 0 f (λ e. omega arith) (λ e. omega arith) (λ e. omega arith)) (r .objects x l);
     book = book-kept m n (table-rows b m n o) s (withTable s b u) refl (off-root 5) (off-root 6)
         (λ c k l h. bool (eqb c b)
         (λ e. rw (eqb-true c b e) (marked k (rw e at h)))

@@ -22,10 +22,10 @@ use layout::value;
 pub fn page_word(s: &[u64], sh: Shape, e: u64, p: u64, f: u64) -> u64
     ensures { λ r. ⌜ r ≡ loadAt (now (s .entry)) sh (entry (e + p) f) ⌝ }
 {
-    if e >= 4294967296 {
+    if e > size::NUMBER_32_MAX {
         return 0;
     }
-    if p >= 4294967296 {
+    if p > size::NUMBER_32_MAX {
         return 0;
     }
     layout::entry_word(s, sh, e + p, f)
@@ -34,10 +34,10 @@ pub fn page_word(s: &[u64], sh: Shape, e: u64, p: u64, f: u64) -> u64
 pub fn put_page(s: &mut [u64], sh: Shape, e: u64, p: u64, f: u64, v: u64)
     ensures { λ _. ⌜ now (s .exit) ≡ saveAt (now (s .entry)) sh (entry (e + p) f) v ⌝ }
 {
-    if e >= 4294967296 {
+    if e > size::NUMBER_32_MAX {
         return;
     }
-    if p >= 4294967296 {
+    if p > size::NUMBER_32_MAX {
         return;
     }
     layout::put_entry(s, sh, e + p, f, v);

@@ -9,6 +9,7 @@ use Rattle.words.specs.Pick.{pick, bool, both, refuted}
 use Rattle.words.specs.All.{all}
 use Rattle.model.specs.State.{till}
 use Rattle.model.specs.Storage.{slotsOf}
+use Rattle.codec.specs.Codec.{generationLimit}
 use Rattle.layout.specs.declared.Shape.{Shape}
 use Rattle.layout.specs.declared.CellWords.{CellWords}
 use Rattle.layout.specs.Layout.{Mem, root, head, entry, owner, group, cell}
@@ -45,7 +46,7 @@ frameB m sh life e n (suc f) = ltb f (sh .frames) && (eqb (m (owner f)) (suc e) 
 
 -- the page of entry e, with n slots
 unfoldable pub pageB : Mem → Shape → ℕ → ℕ → ℕ → Bool
-pageB m sh life e n = leb 1 (m (entry e entryHigh)) && (leb (m (entry e entryHigh)) 4294967295 && frameB m sh life e n (m (entry e entryFrame)))
+pageB m sh life e n = leb 1 (m (entry e entryHigh)) && (leb (m (entry e entryHigh)) generationLimit && frameB m sh life e n (m (entry e entryFrame)))
 
 -- the first n pages from entry e on
 unfoldable pub pagesB : Mem → Shape → ℕ → ℕ → ℕ → Bool
@@ -94,7 +95,7 @@ linkB m sh e zero = true
 linkB m sh e (suc f) = ltb f (sh .frames) && eqb (m (owner f)) (suc e)
 
 unfoldable pub entryB : Mem → Shape → ℕ → Bool
-entryB m sh e = leb 1 (m (entry e entryHigh)) && (leb (m (entry e entryHigh)) 4294967295 && linkB m sh e (m (entry e entryFrame)))
+entryB m sh e = leb 1 (m (entry e entryHigh)) && (leb (m (entry e entryHigh)) generationLimit && linkB m sh e (m (entry e entryFrame)))
 
 unfoldable pub entriesB : Mem → Shape → ℕ → ℕ → Bool
 entriesB m sh e n = all n λ p. entryB m sh (e + p)
@@ -116,11 +117,11 @@ pub life-is : (w c : ℕ) → lifeB w c ≡ true → (w ≤ lifeRetired) × (w �
 unfolding lifeB
 life-is w c q = bool (eqb w lifeTearingDown)
     (λ e. let y = eqb-true w lifeTearingDown e in (omega arith, λ h. leb-true c slotsMax (rw e at q)))
-    (λ e. (leb-true w 2 (rw e at q), λ h. absurd (eqb-false w 1 e h)))
+    (λ e. (leb-true w lifeRetired (rw e at q), λ h. absurd (eqb-false w lifeTearingDown e h)))
 
 pub life-yes : (w c : ℕ) → w ≤ lifeRetired → (w ≡ lifeTearingDown → c ≤ slotsMax) → lifeB w c ≡ true
 unfolding lifeB
-life-yes w c h g = bool (eqb w lifeTearingDown) (λ e. rw e (le-leb c slotsMax (g (eqb-true w lifeTearingDown e)))) (λ e. rw e (le-leb w 2 h))
+life-yes w c h g = bool (eqb w lifeTearingDown) (λ e. rw e (le-leb c slotsMax (g (eqb-true w lifeTearingDown e)))) (λ e. rw e (le-leb w lifeRetired h))
 
 pub head-is : (m : Mem) (b e : ℕ) → headB m b e ≡ true → HeadIs m b e
 unfolding headB

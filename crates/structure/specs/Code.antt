@@ -14,11 +14,14 @@ use Rattle.model.specs.Base.{bit, sum}
 use Rattle.model.specs.Tests.{bit-small}
 use Rattle.model.specs.Sums.{sum-equal}
 use Rattle.model.specs.Counting.{sum-append}
+use Rattle.codec.specs.Codec.{generationLimit}
 use Rattle.layout.specs.declared.Shape.{Shape}
 use Rattle.layout.specs.declared.CellWords.{CellWords}
 use Rattle.layout.specs.Layout.{Mem, Addr.reg, root, head, entry, owner, group, in-no, load, load-out}
 use Rattle.layout.specs.Fields.{rootFreeFrames, headPageLimit, headPages, headFirstEntry, entryFrame, entryHigh}
 use Rattle.layout.specs.Sizes.{pagesMax, slotsMax}
+use Rattle.layout.specs.Values.{tagOccupied, lifeTearingDown, lifeRetired}
+use Rattle.layout.specs.RegionNames.{regionGroup16}
 use Rattle.structure.specs.Facts.{limitsTo, isFree, freeFrom, attachedIn, attachedTo}
 use Rattle.structure.specs.Checks.{lifeB, headB, boundOf, handleC, slotC, linkB, entryB, entriesB, spanB, spansB, groupsB, levelsB, framesB, outlineB, head-is}
 
@@ -54,21 +57,21 @@ present-none x e = rw (eq-eqb x 0 e)
 pub present-one : (x : ℕ) → (x ≡ 0 → ⊥) → 1 ≡ bit (not (eqb x 0))
 present-one x e = rw (ne-eqb x 0 e)
 
-pub life-one : (w c : ℕ) → w ≡ 1 → leb c slotsMax ≡ lifeB w c
+pub life-one : (w c : ℕ) → w ≡ lifeTearingDown → leb c slotsMax ≡ lifeB w c
 unfolding lifeB
-life-one w c e = rw (eq-eqb w 1 e)
+life-one w c e = rw (eq-eqb w lifeTearingDown e)
 
-pub life-other : (w c : ℕ) → (w ≡ 1 → ⊥) → leb w 2 ≡ lifeB w c
+pub life-other : (w c : ℕ) → (w ≡ lifeTearingDown → ⊥) → leb w lifeRetired ≡ lifeB w c
 unfolding lifeB
-life-other w c e = rw (ne-eqb w 1 e)
+life-other w c e = rw (ne-eqb w lifeTearingDown e)
 
 -- ---- slots
 
-pub bound-none : (O life : ℕ) → life ≡ 2 → 0 ≡ boundOf O life
-bound-none O life h = rw (eq-eqb life 2 h)
+pub bound-none : (O life : ℕ) → life ≡ lifeRetired → 0 ≡ boundOf O life
+bound-none O life h = rw (eq-eqb life lifeRetired h)
 
-pub bound-some : (O life : ℕ) → (life ≡ 2 → ⊥) → O ≡ boundOf O life
-bound-some O life h = rw (ne-eqb life 2 h)
+pub bound-some : (O life : ℕ) → (life ≡ lifeRetired → ⊥) → O ≡ boundOf O life
+bound-some O life h = rw (ne-eqb life lifeRetired h)
 
 module _ (bound : ℕ) (c : CellWords) where
   pub handle-far : bound ≤ c .object → false ≡ handleC bound c
@@ -82,22 +85,22 @@ module _ (bound : ℕ) (c : CellWords) where
   module _ (high : ℕ) where
     pub slot-new : c .generation < 1 → false ≡ slotC bound high c
     unfolding slotC
-    slot-new g = rw (lt-leb 1 (c .generation) g) (sym (and-false (leb (c .tag) 3)))
+    slot-new g = rw (lt-leb 1 (c .generation) g) (sym (and-false (leb (c .tag) tagOccupied)))
 
     pub slot-far : 1 ≤ c .generation → high < c .generation → false ≡ slotC bound high c
     unfolding slotC
-    slot-far g h = rw (le-leb 1 (c .generation) g, lt-leb (c .generation) high h) (sym (and-false (leb (c .tag) 3)))
+    slot-far g h = rw (le-leb 1 (c .generation) g, lt-leb (c .generation) high h) (sym (and-false (leb (c .tag) tagOccupied)))
 
     module _ (g : 1 ≤ c .generation) (h : c .generation ≤ high) where
-      pub slot-held : (r : Bool) → c .tag ≡ 3 → r ≡ handleC bound c → r ≡ slotC bound high c
+      pub slot-held : (r : Bool) → c .tag ≡ tagOccupied → r ≡ handleC bound c → r ≡ slotC bound high c
       unfolding slotC
-      slot-held r t e = e ∙ rw (le-leb (c .tag) 3 (omega arith), le-leb 1 (c .generation) g, le-leb (c .generation) high h, eq-eqb (c .tag) 3 t)
+      slot-held r t e = e ∙ rw (le-leb (c .tag) tagOccupied (omega arith), le-leb 1 (c .generation) g, le-leb (c .generation) high h, eq-eqb (c .tag) tagOccupied t)
 
-      pub slot-rest : (c .tag ≡ 3 → ⊥) → ltb (c .tag) 3 ≡ slotC bound high c
+      pub slot-rest : (c .tag ≡ tagOccupied → ⊥) → ltb (c .tag) tagOccupied ≡ slotC bound high c
       unfolding slotC
-      slot-rest n = rw (le-leb 1 (c .generation) g, le-leb (c .generation) high h, ne-eqb (c .tag) 3 n) (bool (ltb (c .tag) 3)
-          (λ e. rw (e, le-leb (c .tag) 3 (omega (arith, ltb-true (c .tag) 3 e))))
-          (λ e. rw (e, lt-leb (c .tag) 3 (omega (arith, ltb-false (c .tag) 3 e, n)))))
+      slot-rest n = rw (le-leb 1 (c .generation) g, le-leb (c .generation) high h, ne-eqb (c .tag) tagOccupied n) (bool (ltb (c .tag) tagOccupied)
+          (λ e. rw (e, le-leb (c .tag) tagOccupied (omega (arith, ltb-true (c .tag) tagOccupied e))))
+          (λ e. rw (e, lt-leb (c .tag) tagOccupied (omega (arith, ltb-false (c .tag) tagOccupied e, n)))))
 
 -- ---- pages
 
@@ -123,13 +126,13 @@ module _ (m : Mem) (sh : Shape) (e high : ℕ) (eh : high ≡ m (entry e entryHi
   unfolding entryB
   entry-low h = rw (← eh, lt-leb 1 high h)
 
-  pub entry-far : 4294967295 < high → false ≡ entryB m sh e
+  pub entry-far : generationLimit < high → false ≡ entryB m sh e
   unfolding entryB
-  entry-far h = rw (← eh, lt-leb high 4294967295 h) (sym (and-false (leb 1 high)))
+  entry-far h = rw (← eh, lt-leb high generationLimit h) (sym (and-false (leb 1 high)))
 
-  pub entry-link : (l : ℕ) (r : Bool) → 1 ≤ high → high ≤ 4294967295 → l ≡ m (entry e entryFrame) → r ≡ linkB m sh e l → r ≡ entryB m sh e
+  pub entry-link : (l : ℕ) (r : Bool) → 1 ≤ high → high ≤ generationLimit → l ≡ m (entry e entryFrame) → r ≡ linkB m sh e l → r ≡ entryB m sh e
   unfolding entryB
-  entry-link l r h g el er = rw (← eh, le-leb 1 high h, le-leb high 4294967295 g, ← el) er
+  entry-link l r h g el er = rw (← eh, le-leb 1 high h, le-leb high generationLimit g, ← el) er
 
 module _ (m : Mem) (sh : Shape) (e n : ℕ) where
   abbrev pub entryTest : ℕ → Bool
@@ -244,13 +247,13 @@ module _ (m : Mem) (F level size n : ℕ) where
   abbrev pub groupTest : ℕ → Bool
   groupTest g = eqb (m (group level g)) (freeFrom m F (g * size) size)
 
-  pub group-no : (g k free w : ℕ) → g < n → k ≡ 4 + level → free ≡ freeFrom m F (g * size) size → w ≡ m (reg k g 0 0) → (w ≡ free → ⊥) → false ≡ groupsB m F level size n
+  pub group-no : (g k free w : ℕ) → g < n → k ≡ regionGroup16 + level → free ≡ freeFrom m F (g * size) size → w ≡ m (reg k g 0 0) → (w ≡ free → ⊥) → false ≡ groupsB m F level size n
   unfolding groupsB
   group-no g k free w h ek ef ew ne =
       let t : groupTest g ≡ false = rw (← ef, ← ek, ← ew) (ne-eqb w free ne) in
       sym (all-stop n groupTest g h t)
 
-  pub group-yes : (g k free w : ℕ) → all g groupTest ≡ true → k ≡ 4 + level → free ≡ freeFrom m F (g * size) size → w ≡ m (reg k g 0 0) → w ≡ free → all (g + 1) groupTest ≡ true
+  pub group-yes : (g k free w : ℕ) → all g groupTest ≡ true → k ≡ regionGroup16 + level → free ≡ freeFrom m F (g * size) size → w ≡ m (reg k g 0 0) → w ≡ free → all (g + 1) groupTest ≡ true
   group-yes g k free w a ek ef ew eq = all-more g groupTest a (rw (← ef, ← ek, ← ew) (eq-eqb w free eq))
 
   pub groups-end : (g : ℕ) → all g groupTest ≡ true → n ≤ g → true ≡ groupsB m F level size n
@@ -279,7 +282,7 @@ module _ (ws : List ℕ) (sh : Shape) where
 
 module _ (m : Mem) (F level size : ℕ) (is : LevelIs m F level size) where
   -- one more group
-  pub under-more : (k first i x v y : ℕ) → k ≡ 4 + level → x ≡ freeFrom m F (first * size) (i * size) → v ≡ m (reg k (first + i) 0 0) → y ≡ x + v → y ≡ freeFrom m F (first * size) ((i + 1) * size)
+  pub under-more : (k first i x v y : ℕ) → k ≡ regionGroup16 + level → x ≡ freeFrom m F (first * size) (i * size) → v ≡ m (reg k (first + i) 0 0) → y ≡ x + v → y ≡ freeFrom m F (first * size) ((i + 1) * size)
   under-more k first i x v y ek ex ev ey =
       let a : ℕ = first * size in let b : ℕ = i * size in
       let e : (i + 1) * size ≡ i * size + size = add-mul i 1 size ∙ omega arith in
@@ -288,7 +291,7 @@ module _ (m : Mem) (F level size : ℕ) (is : LevelIs m F level size) where
       ev ∙ ap (λ (z : ℕ). m (reg z (first + i) 0 0)) ek ∙ is (first + i) ∙ sum-equal size _ _ (λ j h. ap (λ (z : ℕ). bit (isFree m F z)) (omega (arith, d))) in
       rw e (ey ∙ sym (sum-append (i * size) size (λ j. bit (isFree m F (first * size + j))) ∙ omega (arith, ex, w)))
 
-  pub under-small : (k i v : ℕ) → k ≡ 4 + level → v ≡ m (reg k i 0 0) → v ≤ size
+  pub under-small : (k i v : ℕ) → k ≡ regionGroup16 + level → v ≡ m (reg k i 0 0) → v ≤ size
   under-small k i v ek ev = omega (arith, ev ∙ ap (λ (z : ℕ). m (reg z i 0 0)) ek ∙ is i, free-small m F (i * size) size)
 
 pub under-start : (m : Mem) (F a size : ℕ) → 0 ≡ freeFrom m F a (0 * size)

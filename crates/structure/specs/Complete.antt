@@ -17,7 +17,7 @@ use Rattle.model.specs.Counting.{bit-same, sum-some, sum-ones, sum-occurs}
 use Rattle.layout.specs.declared.Shape.{Shape}
 use Rattle.layout.specs.Layout.{Mem, head, entry, owner, cell}
 use Rattle.layout.specs.Fields.{headPageLimit, headLifecycle, headCursor, headPages, entryFrame, entryHigh, slotTag, slotGeneration, slotObject, slotRights, slotFlags}
-use Rattle.layout.specs.Values.{tagOccupied}
+use Rattle.layout.specs.Values.{tagOccupied, lifeRetired}
 use Rattle.layout.specs.Sizes.{pageSize, slotsMax}
 use Rattle.representation.specs.Represents.{entryAt, tagged, LifeIs, TableIs, Represents}
 use Rattle.representation.specs.Told.{link-some}
@@ -30,7 +30,7 @@ use Rattle.structure.specs.View.{pages-with}
 
 -- ---- lifecycles
 
-life-small : (w c : ℕ) (l : Lifecycle) → LifeIs w c l → w ≤ 2
+life-small : (w c : ℕ) (l : Lifecycle) → LifeIs w c l → w ≤ lifeRetired
 life-small w c active i = omega arith
 life-small w c (tearingDown n) i = omega arith
 life-small w c retired i = omega arith
@@ -41,7 +41,7 @@ life-cursor w c active i r e = absurd (omega arith)
 life-cursor w c (tearingDown n) i r e = omega arith
 life-cursor w c retired i r e = absurd (omega arith)
 
-life-gone : (w c : ℕ) (l : Lifecycle) → LifeIs w c l → w ≡ 2 → isRetired l ≡ true
+life-gone : (w c : ℕ) (l : Lifecycle) → LifeIs w c l → w ≡ lifeRetired → isRetired l ≡ true
 life-gone w c active i e = absurd (omega arith)
 life-gone w c (tearingDown n) i e = absurd (omega arith)
 life-gone w c retired i e = refl
@@ -117,7 +117,7 @@ module _ (sh : Shape) (m : Mem) (s : State) (r : Represents sh m s) (w : WellFor
           let a : isAttached (s .tables b) (k / pageSize) ≡ true = rw q (ap isSome (page-frame f e)) in
           w .orders b .there k ∙ rw (a, lt-ltb k maxSlots (omega arith))
 
-      tag-small : m (cell f j slotTag) ≤ 3
+      tag-small : m (cell f j slotTag) ≤ tagOccupied
       tag-small = tag-there m (m (cell f j slotTag)) (m (cell f j slotGeneration)) (m (cell f j slotObject)) (m (cell f j slotRights)) (m (cell f j slotFlags)) (sym (ap isAbsent slot-is-at) ∙ present)
 
       occupied-at : m (cell f j slotTag) ≡ tagOccupied → isOccupied (s .tables b .slots k) ≡ true

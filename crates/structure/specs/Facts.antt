@@ -6,10 +6,11 @@ use lib.Dec.{eqb, ltb}
 use Rattle.model.specs.Base.{bit, sum}
 use Rattle.model.specs.State.{till}
 use Rattle.model.specs.Storage.{slotsOf}
+use Rattle.codec.specs.Codec.{generationLimit}
 use Rattle.layout.specs.declared.Shape.{Shape}
 use Rattle.layout.specs.Layout.{Mem, root, head, entry, owner, group, cell}
 use Rattle.layout.specs.Fields.{rootFreeFrames, headPageLimit, headMask, headLifecycle, headCursor, headPages, headFirstEntry, entryFrame, entryHigh, entryBusy, slotTag, slotGeneration, slotObject, slotFlags}
-use Rattle.layout.specs.Values.{tagVacant, tagOccupied, lifeTearingDown}
+use Rattle.layout.specs.Values.{tagVacant, tagOccupied, lifeTearingDown, lifeRetired}
 use Rattle.layout.specs.Sizes.{pagesMax, slotsMax}
 use Rattle.representation.specs.Represents.{entryAt}
 
@@ -42,25 +43,25 @@ pub record HeadIs (m : Mem) (b e : ℕ) : Type 0 where
   pub some-limit : 1 ≤ m (head b headPageLimit)
   pub few-limit : m (head b headPageLimit) ≤ pagesMax
   pub mask : m (head b headMask) < 2 ^ 56
-  pub life : m (head b headLifecycle) ≤ 2
+  pub life : m (head b headLifecycle) ≤ lifeRetired
   pub cursor : m (head b headLifecycle) ≡ lifeTearingDown → m (head b headCursor) ≤ slotsMax
   pub size : m (head b headPages) ≤ m (head b headPageLimit)
   pub first : m (head b headFirstEntry) ≡ e
 
 -- slot j of frame f, on a page with that high mark, in a table with that lifecycle, beside O objects
 pub record SlotIs (m : Mem) (O life high f j : ℕ) : Type 0 where
-  pub tag : m (cell f j slotTag) ≤ 3
+  pub tag : m (cell f j slotTag) ≤ tagOccupied
   pub some-generation : 1 ≤ m (cell f j slotGeneration)
   pub few-generation : m (cell f j slotGeneration) ≤ high
   pub object : m (cell f j slotTag) ≡ tagOccupied → m (cell f j slotObject) < O
   pub flags : m (cell f j slotTag) ≡ tagOccupied → m (cell f j slotFlags) ≤ 3
   -- "a retired one [has] no occupied slot"
-  pub retired : m (cell f j slotTag) ≡ tagOccupied → life ≡ 2 → ⊥
+  pub retired : m (cell f j slotTag) ≡ tagOccupied → life ≡ lifeRetired → ⊥
 
 -- the page of entry e, with n slots, in a table with that lifecycle
 pub record PageIs (m : Mem) (sh : Shape) (life e n : ℕ) : Type 0 where
   pub some-high : 1 ≤ m (entry e entryHigh)
-  pub few-high : m (entry e entryHigh) ≤ 4294967295
+  pub few-high : m (entry e entryHigh) ≤ generationLimit
   pub link : m (entry e entryFrame) ≤ sh .frames
   -- an attached page's frame names it
   pub named : (f : ℕ) → m (entry e entryFrame) ≡ suc f → m (owner f) ≡ suc e

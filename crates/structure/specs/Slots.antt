@@ -16,7 +16,7 @@ use Rattle.model.specs.Sums.{sum-equal}
 use Rattle.model.specs.Counting.{bit-same, bit-other, sum-front}
 use Rattle.layout.specs.Layout.{Mem, head, entry, cell}
 use Rattle.layout.specs.Fields.{headPages, entryFrame, entryHigh, slotTag, slotGeneration, slotObject, slotRights, slotFlags}
-use Rattle.layout.specs.Values.{tagVacant}
+use Rattle.layout.specs.Values.{tagVacant, tagOccupied, lifeActive, lifeTearingDown, lifeRetired}
 use Rattle.layout.specs.Sizes.{pageSize, slotsMax}
 use Rattle.representation.specs.Represents.{entryAt, linkOf, frameOf, tagged, slotFrom, slotIn, LifeIs}
 use Rattle.representation.specs.Told.{frame-at}
@@ -62,19 +62,23 @@ lifeView zero c = active
 lifeView (suc zero) c = tearingDown c
 lifeView (suc (suc n)) c = retired
 
-pub life-view : (w c : ℕ) → w ≤ 2 → LifeIs w c (lifeView w c)
+-- the same by the lifecycles' names, checked
+lifeView-names : (c : ℕ) → (lifeView lifeActive c ≡ active) × (lifeView lifeTearingDown c ≡ tearingDown c) × (lifeView lifeRetired c ≡ retired)
+lifeView-names c = (refl, refl, refl)
+
+pub life-view : (w c : ℕ) → w ≤ lifeRetired → LifeIs w c (lifeView w c)
 life-view zero c h = refl
 life-view (suc zero) c h = (refl, refl)
 life-view (suc (suc zero)) c h = refl
 life-view (suc (suc (suc n))) c h = absurd (omega arith)
 
-pub life-range : (w c : ℕ) → (w ≡ 1 → c ≤ slotsMax) → LifeRange (lifeView w c)
+pub life-range : (w c : ℕ) → (w ≡ lifeTearingDown → c ≤ slotsMax) → LifeRange (lifeView w c)
 unfolding maxSlots
 life-range zero c h = tt
 life-range (suc zero) c h = omega (arith, h refl)
 life-range (suc (suc n)) c h = tt
 
-pub life-retired : (w c : ℕ) → w ≤ 2 → isRetired (lifeView w c) ≡ true → w ≡ 2
+pub life-retired : (w c : ℕ) → w ≤ lifeRetired → isRetired (lifeView w c) ≡ true → w ≡ lifeRetired
 life-retired zero c h e = clash e refl
 life-retired (suc zero) c h e = clash e refl
 life-retired (suc (suc n)) c h e = omega arith
@@ -107,42 +111,42 @@ slot-in m b k f e = ap (λ (fr : ℕ). slotFrom m fr (k % pageSize)) e
 -- ---- tags
 
 module _ (m : Mem) where
-  pub tag-there : (t g x y w : ℕ) → isAbsent (tagged m t g x y w) ≡ false → t ≤ 3
+  pub tag-there : (t g x y w : ℕ) → isAbsent (tagged m t g x y w) ≡ false → t ≤ tagOccupied
   tag-there zero g x y w e = omega arith
   tag-there (suc zero) g x y w e = omega arith
   tag-there (suc (suc zero)) g x y w e = omega arith
   tag-there (suc (suc (suc zero))) g x y w e = omega arith
   tag-there (suc (suc (suc (suc t)))) g x y w e = clash refl e
 
-  pub tagged-there : (t g x y w : ℕ) → t ≤ 3 → isAbsent (tagged m t g x y w) ≡ false
+  pub tagged-there : (t g x y w : ℕ) → t ≤ tagOccupied → isAbsent (tagged m t g x y w) ≡ false
   tagged-there zero g x y w h = refl
   tagged-there (suc zero) g x y w h = refl
   tagged-there (suc (suc zero)) g x y w h = refl
   tagged-there (suc (suc (suc zero))) g x y w h = refl
   tagged-there (suc (suc (suc (suc t)))) g x y w h = absurd (omega arith)
 
-  pub tagged-generation : (t g x y w : ℕ) → t ≤ 3 → generation (tagged m t g x y w) ≡ g
+  pub tagged-generation : (t g x y w : ℕ) → t ≤ tagOccupied → generation (tagged m t g x y w) ≡ g
   tagged-generation zero g x y w h = refl
   tagged-generation (suc zero) g x y w h = refl
   tagged-generation (suc (suc zero)) g x y w h = refl
   tagged-generation (suc (suc (suc zero))) g x y w h = refl
   tagged-generation (suc (suc (suc (suc t)))) g x y w h = absurd (omega arith)
 
-  pub tagged-busy : (t g x y w : ℕ) → t ≤ 3 → isBusy (tagged m t g x y w) ≡ not (eqb t 0)
+  pub tagged-busy : (t g x y w : ℕ) → t ≤ tagOccupied → isBusy (tagged m t g x y w) ≡ not (eqb t tagVacant)
   tagged-busy zero g x y w h = refl
   tagged-busy (suc zero) g x y w h = refl
   tagged-busy (suc (suc zero)) g x y w h = refl
   tagged-busy (suc (suc (suc zero))) g x y w h = refl
   tagged-busy (suc (suc (suc (suc t)))) g x y w h = absurd (omega arith)
 
-  pub tagged-occupied : (t g x y w : ℕ) → isOccupied (tagged m t g x y w) ≡ true → t ≡ 3
+  pub tagged-occupied : (t g x y w : ℕ) → isOccupied (tagged m t g x y w) ≡ true → t ≡ tagOccupied
   tagged-occupied zero g x y w e = clash e refl
   tagged-occupied (suc zero) g x y w e = clash e refl
   tagged-occupied (suc (suc zero)) g x y w e = clash e refl
   tagged-occupied (suc (suc (suc zero))) g x y w e = refl
   tagged-occupied (suc (suc (suc (suc t)))) g x y w e = clash e refl
 
-  pub tagged-range : (s : State) (t g x y w : ℕ) → (t ≡ 3 → x < s .objectCount) → (t ≡ 3 → w ≤ 3) → y < 2 ^ 64 → SlotRange s (tagged m t g x y w)
+  pub tagged-range : (s : State) (t g x y w : ℕ) → (t ≡ tagOccupied → x < s .objectCount) → (t ≡ tagOccupied → w ≤ 3) → y < 2 ^ 64 → SlotRange s (tagged m t g x y w)
   unfolding knownFlags
   tagged-range s zero g x y w h i j = tt
   tagged-range s (suc zero) g x y w h i j = tt
@@ -151,7 +155,7 @@ module _ (m : Mem) where
   tagged-range s (suc (suc (suc (suc t)))) g x y w h i j = tt
 
   -- and back
-  pub tagged-held : (s : State) (t g x y w : ℕ) → t ≡ 3 → SlotRange s (tagged m t g x y w) → (x < s .objectCount) × (w ≤ 3)
+  pub tagged-held : (s : State) (t g x y w : ℕ) → t ≡ tagOccupied → SlotRange s (tagged m t g x y w) → (x < s .objectCount) × (w ≤ 3)
   unfolding knownFlags
   tagged-held s t g x y w e r = let r3 : HandleRange s (record { object = x; rights = y; flags = w }) = rw e at r in (r3 .object, r3 .flags)
 
@@ -170,7 +174,7 @@ busy-sum f k (suc n) =
 
 -- the busy slots of an attached page
 pub busy-page : (m : Mem) (b p f : ℕ) (slots : ℕ → Slot) → ((k : ℕ) → slots k ≡ slotIn m b k) → p < m (head b headPages) → m (entry (entryAt m b p) entryFrame) ≡ suc f
-    → ((j : ℕ) → j < slotsOf till p → m (cell f j slotTag) ≤ 3) → busyOf till slots p ≡ busyCells m f (slotsOf till p)
+    → ((j : ℕ) → j < slotsOf till p → m (cell f j slotTag) ≤ tagOccupied) → busyOf till slots p ≡ busyCells m f (slotsOf till p)
 busy-page m b p f slots s h e t =
     busy-sum slots (p * pageSize) (slotsOf till p)
     ∙ sum-equal (slotsOf till p) (λ j. bit (isBusy (slots (p * pageSize + j)))) (λ j. bit (not (eqb (m (cell f j slotTag)) tagVacant))) (λ j i.

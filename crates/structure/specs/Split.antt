@@ -9,10 +9,12 @@ use Rattle.words.specs.Pick.{bool, both}
 use Rattle.words.specs.All.{all, all-at, all-same}
 use Rattle.model.specs.State.{till}
 use Rattle.model.specs.Storage.{slotsOf}
+use Rattle.codec.specs.Codec.{generationLimit}
 use Rattle.layout.specs.declared.Shape.{Shape}
 use Rattle.layout.specs.Layout.{Mem, head, entry, owner, cell}
 use Rattle.layout.specs.Cells.{cellAt}
 use Rattle.layout.specs.Fields.{headLifecycle, headPages, entryFrame, entryHigh, entryBusy, slotObject}
+use Rattle.layout.specs.Values.{lifeRetired}
 use Rattle.structure.specs.Facts.{limitsTo, HeadIs}
 use Rattle.structure.specs.Checks.{headB, handleB, slotB, slotsB, frameB, pageB, pagesB, tableB, tablesB, framesB, structureB, boundOf, handleC, slotC, linkB, entryB, entriesB, spanB, spansB, outlineB, head-is}
 
@@ -46,7 +48,7 @@ all-both (suc n) p q = ap (λ (b : Bool). b && (p n && q n)) (all-both n p q) �
 -- a slot's words tell
 pub slot-by : (m : Mem) (O life high f j : ℕ) → slotC (boundOf O life) high (cellAt m f j) ≡ slotB m O life high f j
 unfolding slotC handleC slotB handleB
-slot-by m O life high f j = bool (eqb life 2) (λ e. rw (e, le-ltb (m (cell f j slotObject)) 0 (omega arith))) (λ e. rw e)
+slot-by m O life high f j = bool (eqb life lifeRetired) (λ e. rw (e, le-ltb (m (cell f j slotObject)) 0 (omega arith))) (λ e. rw e)
 
 -- the slots of the page of entry e, whose frame is given as a link
 unfoldable pub slotsOn : Mem → Shape → ℕ → ℕ → ℕ → ℕ → Bool
@@ -69,7 +71,7 @@ module _ (m : Mem) (sh : Shape) where
   page-split : (life e n : ℕ) → pageB m sh life e n ≡ (entryB m sh e && slotsOn m sh life e n (m (entry e entryFrame)))
   unfolding pageB entryB
   page-split life e n =
-      let a : Bool = leb 1 (m (entry e entryHigh)) in let b : Bool = leb (m (entry e entryHigh)) 4294967295 in
+      let a : Bool = leb 1 (m (entry e entryHigh)) in let b : Bool = leb (m (entry e entryHigh)) generationLimit in
       let l : Bool = linkB m sh e (m (entry e entryFrame)) in let s : Bool = slotsOn m sh life e n (m (entry e entryFrame)) in
       ap (λ (x : Bool). a && (b && x)) (link-split life e n (m (entry e entryFrame))) ∙ ap (λ (x : Bool). a && x) (sym (and-assoc b l s)) ∙ sym (and-assoc a (b && l) s)
 
@@ -109,6 +111,6 @@ module _ (m : Mem) (sh : Shape) where
     outline-link b p f h l q =
         let a = all-at (m (head b headPages)) (λ k. entryB m sh (limitsTo m b + k)) (parts b h .1) p l in
         let e : ℕ = limitsTo m b + p in
-        let g = both (leb (m (entry e entryHigh)) 4294967295) (linkB m sh e (m (entry e entryFrame))) (both (leb 1 (m (entry e entryHigh))) (leb (m (entry e entryHigh)) 4294967295 && linkB m sh e (m (entry e entryFrame))) a .1) in
+        let g = both (leb (m (entry e entryHigh)) generationLimit) (linkB m sh e (m (entry e entryFrame))) (both (leb 1 (m (entry e entryHigh))) (leb (m (entry e entryHigh)) generationLimit && linkB m sh e (m (entry e entryFrame))) a .1) in
         let t : linkB m sh e (suc f) ≡ true = rw q at (g .1) in
         ltb-true f (sh .frames) (both (ltb f (sh .frames)) (eqb (m (owner f)) (suc e)) t .0)

@@ -10,6 +10,7 @@ use Rattle.words.specs.Pick.{both, both-is}
 use Rattle.words.specs.All.{all, all-at, all-yes}
 use Rattle.model.specs.State.{till}
 use Rattle.model.specs.Storage.{slotsOf}
+use Rattle.codec.specs.Codec.{generationLimit}
 use Rattle.layout.specs.declared.Shape.{Shape}
 use Rattle.layout.specs.Layout.{Mem, root, head, entry, owner, group}
 use Rattle.layout.specs.Fields.{rootFreeFrames, headLifecycle, headPages, entryFrame, entryHigh, entryBusy}
@@ -58,11 +59,11 @@ module _ (m : Mem) (sh : Shape) (life e n : ℕ) where
   pub page-is : pageB m sh life e n ≡ true → PageIs m sh life e n
   unfolding pageB FrameIs
   page-is q =
-      let t1 = both (leb 1 (m (entry e entryHigh))) _ q in let t2 = both (leb (m (entry e entryHigh)) 4294967295) _ (t1 .1) in
+      let t1 = both (leb 1 (m (entry e entryHigh))) _ q in let t2 = both (leb (m (entry e entryHigh)) generationLimit) _ (t1 .1) in
       let u : (f : ℕ) → m (entry e entryFrame) ≡ suc f → FrameIs m sh life e n f = λ f z. frame-is (m (entry e entryFrame)) f (t2 .1) z in
       record {
         some-high = leb-true 1 (m (entry e entryHigh)) (t1 .0);
-        few-high = leb-true (m (entry e entryHigh)) 4294967295 (t2 .0);
+        few-high = leb-true (m (entry e entryHigh)) generationLimit (t2 .0);
         link = frame-small (m (entry e entryFrame)) (sh .frames) (λ f z. u f z .0);
         named = λ f z. u f z .1;
         busy = λ f z. u f z .2;
@@ -73,7 +74,7 @@ module _ (m : Mem) (sh : Shape) (life e n : ℕ) where
   unfolding pageB FrameIs
   page-yes h = rw (
     le-leb 1 (m (entry e entryHigh)) (h .some-high),
-    le-leb (m (entry e entryHigh)) 4294967295 (h .few-high),
+    le-leb (m (entry e entryHigh)) generationLimit (h .few-high),
     frame-yes (m (entry e entryFrame)) (λ f z. (omega (arith, h .link), h .named f z, h .busy f z, h .slots f z)),
   )
 

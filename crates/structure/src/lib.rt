@@ -129,7 +129,7 @@ fn entry_ok(s: &[u64], sh: Shape, e: u64) -> bool
     if high < 1 {
         return false;
     }
-    if high > 0xffff_ffff {
+    if high > HandleCodec::GENERATION_LIMIT {
         return false;
     }
     link_ok(s, sh, e, layout::entry_word(s, sh, e, field::ENTRY_FRAME))
@@ -218,7 +218,7 @@ fn free_in(s: &[u64], sh: Shape, a: u32, n: u16) -> u64
 fn groups_ok(s: &[u64], sh: Shape, level: u8, size: u16, n: u16) -> bool
     ensures { λ r. ⌜ r ≡ groupsB (loadAt (now (s .entry)) sh) (sh .frames) level size n ⌝ }
 {
-    let region = layout::SIXTEEN + (level as u64);
+    let region = layout::region::REGION_GROUP_16 + (level as u64);
     let each = size as u32;
     let mut g: u16 = 0;
     while g < n {
@@ -236,7 +236,7 @@ fn free_under(s: &[u64], sh: Shape, level: u8, size: u16, first: u32) -> u64
     requires { ⌜ LevelIs (loadAt (now s) sh) (sh .frames) level size ⌝ }
     ensures { λ r. ⌜ r ≡ freeFrom (loadAt (now (s .entry)) sh) (sh .frames) (first * size) (16 * size) ⌝ }
 {
-    let region = layout::SIXTEEN + (level as u64);
+    let region = layout::region::REGION_GROUP_16 + (level as u64);
     let mut count: u64 = 0;
     let mut i: u64 = 0;
     while i < 16 {
@@ -251,7 +251,7 @@ fn sums_ok(s: &[u64], sh: Shape, level: u8, size: u16, n: u16) -> bool
     requires { ⌜ LevelIs (loadAt (now s) sh) (sh .frames) level size ⌝ }
     ensures { λ r. ⌜ r ≡ groupsB (loadAt (now (s .entry)) sh) (sh .frames) (level + 1) (16 * size) n ⌝ }
 {
-    let region = layout::HUNDRED + (level as u64);
+    let region = layout::region::REGION_GROUP_256 + (level as u64);
     let mut g: u16 = 0;
     while g < n {
         let free = free_under(s, sh, level, size, (g as u32) * 16);

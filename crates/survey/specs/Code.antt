@@ -19,8 +19,9 @@ use Rattle.layout.specs.Regions.{region, placeIn, in-place}
 use Rattle.layout.specs.Layout.{Mem, layout, total, head, entry, cell, load, in-cell}
 use Rattle.layout.specs.Cells.{cellAt}
 use Rattle.layout.specs.Fields.{headLifecycle, headPages, headFirstEntry, entryFrame, entryHigh, entryBusy, slotTag}
-use Rattle.layout.specs.Values.{tagVacant}
+use Rattle.layout.specs.Values.{tagVacant, tagOccupied, lifeRetired}
 use Rattle.layout.specs.Sizes.{pageSize, slotSize}
+use Rattle.layout.specs.RegionNames.{regionCell}
 use Rattle.structure.specs.Facts.{busyCells}
 use Rattle.structure.specs.Checks.{boundOf, handleC, slotC}
 use Rattle.structure.specs.Code.{sum-more}
@@ -38,12 +39,12 @@ slots-few p n e = omega arith
 -- ---- a slot
 
 -- where a slot of a frame stands
-pub cell-place : (n : ℕ) (sh : Shape) (f j : ℕ) (e : Extent) (at : ℕ) → e ≡ region (layout sh) 7 → f < sh .frames → j < pageSize → at ≡ e .low + (f * pageSize + j) * slotSize → at ≡ placeIn n e f j 0
-cell-place n sh f j e at q h k z = let p = in-place (region (layout sh) 7) f j 0 n (in-cell sh f j slotTag h k (omega arith)) in
+pub cell-place : (n : ℕ) (sh : Shape) (f j : ℕ) (e : Extent) (at : ℕ) → e ≡ region (layout sh) regionCell → f < sh .frames → j < pageSize → at ≡ e .low + (f * pageSize + j) * slotSize → at ≡ placeIn n e f j 0
+cell-place n sh f j e at q h k z = let p = in-place (region (layout sh) regionCell) f j 0 n (in-cell sh f j slotTag h k (omega arith)) in
     z ∙ rw q (omega (arith, p))
 
 -- all its words are lent
-pub cell-lent : (sh : Shape) (f j : ℕ) (e : Extent) → e ≡ region (layout sh) 7 → f < sh .frames → j < pageSize → e .low + (f * pageSize + j) * slotSize + slotSize ≤ total sh
+pub cell-lent : (sh : Shape) (f j : ℕ) (e : Extent) → e ≡ region (layout sh) regionCell → f < sh .frames → j < pageSize → e .low + (f * pageSize + j) * slotSize + slotSize ≤ total sh
 cell-lent sh f j e q h k = rw q (omega arith)
 
 module _ (m : Mem) (sh : Shape) (b k bound high : ℕ) (c : CellWords) (t : Bool) (et : t ≡ slotC bound high c) where
@@ -55,29 +56,29 @@ module _ (m : Mem) (sh : Shape) (b k bound high : ℕ) (c : CellWords) (t : Bool
   unfolding cellB
   slot-vacant z h = rw (sym et ∙ z, le-ltb 0 (c .tag) (omega arith))
 
-  pub slot-held : t ≡ true → (c .tag ≡ 0 → ⊥) → 3 ≤ c .tag → true ≡ cellB m sh b k bound high c
+  pub slot-held : t ≡ true → (c .tag ≡ tagVacant → ⊥) → tagOccupied ≤ c .tag → true ≡ cellB m sh b k bound high c
   unfolding cellB
-  slot-held z n h = rw (sym et ∙ z, lt-ltb 0 (c .tag) (omega arith), le-ltb (c .tag) 3 h)
+  slot-held z n h = rw (sym et ∙ z, lt-ltb 0 (c .tag) (omega arith), le-ltb (c .tag) tagOccupied h)
 
   pub slot-marked : (r : Bool) → t ≡ true → (c .tag ≡ 0 → ⊥) → c .tag < 3 → r ≡ markB m sh b k (c .tag) (c .object) (c .rights) → r ≡ cellB m sh b k bound high c
   unfolding cellB
-  slot-marked r z n h q = rw (sym et ∙ z, lt-ltb 0 (c .tag) (omega arith), lt-ltb (c .tag) 3 h) q
+  slot-marked r z n h q = rw (sym et ∙ z, lt-ltb 0 (c .tag) (omega arith), lt-ltb (c .tag) tagOccupied h) q
 
 -- an occupied slot that passes holds a handle of an object below the bound
-pub slot-holds : (m : Mem) (sh : Shape) (b k bound high : ℕ) (c : CellWords) (t : Bool) → t ≡ cellB m sh b k bound high c → t ≡ true → c .tag ≡ 3 → c .object < bound
+pub slot-holds : (m : Mem) (sh : Shape) (b k bound high : ℕ) (c : CellWords) (t : Bool) → t ≡ cellB m sh b k bound high c → t ≡ true → c .tag ≡ tagOccupied → c .object < bound
 unfolding cellB slotC handleC
 slot-holds m sh b k bound high c t e y h =
     let a = both (slotC bound high c) (markedB m sh b k c) (sym e ∙ y) .0 in
-    let g = both (leb 1 (c .generation)) (leb (c .generation) high && pick (eqb (c .tag) 3) (handleC bound c) true) (both (leb (c .tag) 3) _ a .1) .1 in
-    let d : handleC bound c ≡ true = rw (eq-eqb (c .tag) 3 h) at (both (leb (c .generation) high) (pick (eqb (c .tag) 3) (handleC bound c) true) g .1) in
+    let g = both (leb 1 (c .generation)) (leb (c .generation) high && pick (eqb (c .tag) tagOccupied) (handleC bound c) true) (both (leb (c .tag) tagOccupied) _ a .1) .1 in
+    let d : handleC bound c ≡ true = rw (eq-eqb (c .tag) tagOccupied h) at (both (leb (c .generation) high) (pick (eqb (c .tag) tagOccupied) (handleC bound c) true) g .1) in
     ltb-true (c .object) bound (both (ltb (c .object) bound) (leb (c .flags) 3) d .0)
 
 -- `note_slot`
-pub note-yes : (ws vs : List ℕ) (sh : Shape) (c : CellWords) → c .tag ≡ 3 → vs ≡ shiftW ws sh unit (c .object) → vs ≡ shifted ws sh unit (heldIn c)
-note-yes ws vs sh c h e = e ∙ rw (eq-eqb (c .tag) 3 h)
+pub note-yes : (ws vs : List ℕ) (sh : Shape) (c : CellWords) → c .tag ≡ tagOccupied → vs ≡ shiftW ws sh unit (c .object) → vs ≡ shifted ws sh unit (heldIn c)
+note-yes ws vs sh c h e = e ∙ rw (eq-eqb (c .tag) tagOccupied h)
 
-pub note-no : (ws : List ℕ) (sh : Shape) (c : CellWords) → (c .tag ≡ 3 → ⊥) → ws ≡ shifted ws sh unit (heldIn c)
-note-no ws sh c h = rw (ne-eqb (c .tag) 3 h)
+pub note-no : (ws : List ℕ) (sh : Shape) (c : CellWords) → (c .tag ≡ tagOccupied → ⊥) → ws ≡ shifted ws sh unit (heldIn c)
+note-no ws sh c h = rw (ne-eqb (c .tag) tagOccupied h)
 
 -- what a slot shows in the words that the walk has left, it showed in those that it began with
 module _ (ws vs : List ℕ) (sh : Shape) (os : List ℕ) (ev : vs ≡ shifted ws sh unit os) where
@@ -145,7 +146,7 @@ module _ (vs : List ℕ) (sh : Shape) (b p bound high f j : ℕ) where
   further-none ws count d = let e : count + (j - j) ≡ count = omega arith in rw e d
 
   pub further-more : (us zs : List ℕ) (i k : ℕ) (c : CellWords) (r : Bool) → j ≤ k → Further vs us sh b p bound high f j k → c ≡ cellAt (load us sh) f k → i ≡ p * pageSize + k
-      → r ≡ cellB (load us sh) sh b i bound high c → r ≡ true → c .tag ≡ 3 → zs ≡ shifted us sh unit (heldIn c) → Further vs zs sh b p bound high f j (k + 1)
+      → r ≡ cellB (load us sh) sh b i bound high c → r ≡ true → c .tag ≡ tagOccupied → zs ≡ shifted us sh unit (heldIn c) → Further vs zs sh b p bound high f j (k + 1)
   unfolding Further
   further-more us zs i k c r l g ec ei et z h e ws count d =
       done-more ws us zs sh b p bound high f k i (count + (k - j)) 1 (count + (k + 1 - j)) c r (g ws count d) ec ei et z e (rw h) (omega arith)
@@ -222,7 +223,7 @@ table-by m sh u b life z e k n ok el ez ee ek en q = q ∙ rw (en, ek, el, ez, e
 
 -- a table's bound is one of the state's
 pub bound-few : (u life k n : ℕ) → k ≡ boundOf u life → u ≤ n → k ≤ n
-bound-few u life k n e h = rw e (pick-has (λ (x : ℕ). x ≤ n) (eqb life 2) 0 u (λ q. omega arith) (λ q. h))
+bound-few u life k n e h = rw e (pick-has (λ (x : ℕ). x ≤ n) (eqb life lifeRetired) 0 u (λ q. omega arith) (λ q. h))
 
 pub survey-by : (m : Mem) (sh : Shape) (u : ℕ) (ok : Bool) → ok ≡ all (sh .tables) (tableB m sh u) → ok ≡ surveyB m sh u
 unfolding surveyB

@@ -6,6 +6,7 @@ ghost use Prim.Native.Nat.{_≤_, _<_};
 ghost use lib.ListN.{length};
 ghost use Rattle.layout.specs.Layout.{total, load as loadAt};
 ghost use Rattle.layout.specs.Cells.{cellAt};
+ghost use Rattle.layout.specs.Values.{tagOccupied};
 ghost use Rattle.layout.specs.Sizes.{pageSize};
 ghost use Rattle.counts.specs.Found.{gather};
 ghost use Rattle.counts.specs.Shift.{unit, shifted};
@@ -41,7 +42,7 @@ fn cell_in(s: &[u64], sh: Shape, f: u64, j: u64) -> CellWords
     requires { ⌜ total sh ≤ length (now s) ⌝ }
     ensures { λ r. ⌜ r ≡ cellAt (loadAt (now (s .entry)) sh) f j ⌝ }
 {
-    let e = layout::region_of(sh, layout::CELL);
+    let e = layout::region_of(sh, layout::region::REGION_CELL);
     let at = (e.low + (f * size::PAGE_SIZE + j) * size::SLOT_SIZE) as usize;
     CellWords {
         tag: s[at],
@@ -55,7 +56,7 @@ fn cell_in(s: &[u64], sh: Shape, f: u64, j: u64) -> CellWords
 
 // Counts the handle of a slot, if it is occupied.
 fn note_slot(s: &mut [u64], sh: Shape, c: CellWords)
-    requires { ⌜ (c .tag ≡ 3 → c .object < sh .objects) ⌝ }
+    requires { ⌜ (c .tag ≡ tagOccupied → c .object < sh .objects) ⌝ }
     requires { ⌜ total sh ≤ length (now s) ⌝ }
     ensures { λ _. ⌜ now (s .exit) ≡ shifted (now (s .entry)) sh unit (heldIn c) ⌝ }
 {

@@ -9,6 +9,7 @@ use Rattle.words.specs.Pick.{pick, yes-is, no-is}
 use Rattle.layout.specs.declared.Shape.{Shape}
 use Rattle.layout.specs.Layout.{Mem, root, head, index, row, load, writes}
 use Rattle.layout.specs.Fields.{rootUsedRows, headLifecycle, headCursor, slotObject, rowKind, rowTable}
+use Rattle.layout.specs.Values.{kindClaim, lifeActive, lifeTearingDown, lifeRetired}
 use Rattle.head.specs.declared.TableHead.{TableHead}
 use Rattle.head.specs.Head.{headAt, withLife, lifeP}
 use Rattle.representation.specs.Represents.{slotWord}
@@ -45,7 +46,7 @@ module _ (m : Mem) (b x what table : ℕ) (ew : what ≡ m (row x rowKind)) (et 
   unfolding opensAt
   opens-reservation r y e = yes-is _ _ _ _ (read-test _ _ _ _ ew q₁ ∙ y) (e ∙ ap (eqb b) et)
 
-  module _ (n : t₁ ≡ false) (t₂ : Bool) (q₂ : t₂ ≡ eqb what 2) where
+  module _ (n : t₁ ≡ false) (t₂ : Bool) (q₂ : t₂ ≡ eqb what kindClaim) where
     pub opens-claim : (r : Bool) → t₂ ≡ true → r ≡ eqb b table → r ≡ opensAt m b x
     unfolding opensAt
     opens-claim r y e = no-is _ _ _ _ (read-test _ _ _ _ ew q₁ ∙ n) (yes-is _ _ _ _ (read-test _ _ _ _ ew q₂ ∙ y) (e ∙ ap (eqb b) et))
@@ -81,7 +82,7 @@ module _ (m : Mem) (sh : Shape) (b : ℕ) (t : Bool) (e : t ≡ ltb b (sh .table
   unfolding tearing
   tearing-unknown n = no-is _ _ _ _ (sym e ∙ n) refl
 
-  pub tearing-known : (w : ℕ) (r : Bool) → t ≡ true → w ≡ m (head b headLifecycle) → r ≡ eqb w 1 → r ≡ tearing m sh b
+  pub tearing-known : (w : ℕ) (r : Bool) → t ≡ true → w ≡ m (head b headLifecycle) → r ≡ eqb w lifeTearingDown → r ≡ tearing m sh b
   unfolding tearing
   tearing-known w r y d q = yes-is _ _ _ _ (sym e ∙ y) (sym (read-test _ _ _ _ d q))
 
@@ -102,7 +103,7 @@ module _ (ws os : List ℕ) (sh : Shape) (base b c : ℕ) (t : Bool) (e : t ≡ 
   unfolding stoppingR
   stopping-unknown os′ n q = no-is _ _ _ _ (sym e ∙ n) (ap (both ws) q)
 
-  module _ (y : t ≡ true) (w : ℕ) (ew : w ≡ load ws sh (head b headLifecycle)) (u : Bool) (eu : u ≡ eqb w 0) where
+  module _ (y : t ≡ true) (w : ℕ) (ew : w ≡ load ws sh (head b headLifecycle)) (u : Bool) (eu : u ≡ eqb w lifeActive) where
     pub stopping-active : (ws′ os′ : List ℕ) → u ≡ true → both ws′ os′ ≡ stoppedR ws os sh base b c → both ws′ os′ ≡ stoppingR ws os sh base b c
     unfolding stoppingR
     stopping-active ws′ os′ z q = yes-is _ _ _ _ (sym e ∙ y) (yes-is _ _ _ _ (read-test _ _ _ _ ew eu ∙ z) q)
@@ -157,7 +158,7 @@ module _ (ws os : List ℕ) (sh : Shape) (base b : ℕ) (t : Bool) (e : t ≡ te
   finish-out os′ n q = no-is _ _ _ _ (sym e ∙ n) (ap (both ws) q)
 
   module _ (y : t ≡ true) (n : ℕ) (en : n ≡ nextLink (load ws sh) b 0) (u : Bool) (eu : u ≡ eqb n 0) where
-    pub finish-done : (ws′ os′ : List ℕ) → u ≡ true → ws′ ≡ lifeW ws sh b 2 0 → os′ ≡ answered os base (0 ∷ []) → both ws′ os′ ≡ teardownFinishR ws os sh base b
+    pub finish-done : (ws′ os′ : List ℕ) → u ≡ true → ws′ ≡ lifeW ws sh b lifeRetired 0 → os′ ≡ answered os base (0 ∷ []) → both ws′ os′ ≡ teardownFinishR ws os sh base b
     unfolding teardownFinishR
     finish-done ws′ os′ z p q = yes-is _ _ _ _ (sym e ∙ y) (yes-is _ _ _ _ (read-test _ _ _ _ en eu ∙ z) (rw (p, q)))
 

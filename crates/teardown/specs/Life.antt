@@ -16,6 +16,7 @@ use Rattle.layout.specs.Layout.{Mem, cell, head, load, Write, Write.at, upds, i
 use Rattle.layout.specs.ShapeOf.{roots-kept}
 use Rattle.layout.specs.Fields.{headLifecycle, headCursor, headFirstFree, slotTag, slotGeneration, slotNextFree, slotPreviousFree, slotObject, slotRights, slotFlags}
 use Rattle.layout.specs.Sizes.{pageSize}
+use Rattle.layout.specs.RegionNames.{regionHead, regionGroup16}
 use Rattle.representation.specs.Represents.{wordIn, frameOf, slotWord, slotFrom, slotIn, LifeIs, TableIs, Represents}
 use Rattle.storage.specs.Order.{chain-frame}
 use Rattle.storage.specs.Slots.{tagged-rows}
@@ -80,7 +81,7 @@ module _ (sh : Shape) (m : Mem) (s : State) (r : Represents sh m s) (b w c : ℕ
     tables = λ a l. bool (eqb a b)
         (λ e. let q : a ≡ b = eqb-true a b e in rw (e, q) (table-lived m b w c b (s .tables b) x (rw q at (r .tables a l)) (rw (eq-eqb b b refl) is)))
         (λ e. rw e (table-lived m b w c a (s .tables a) (s .tables a .life) (r .tables a l) (rw e (r .tables a l .life))));
-    frames = frames-kept m (lived m b w c) s (withTable s b u) (record { owners = λ g. refl; groups = λ i l g. rw (ne-eqb (4 + i) 1 (λ e. omega arith)); count = refl }) (λ a. refl) refl refl
+    frames = frames-kept m (lived m b w c) s (withTable s b u) (record { owners = λ g. refl; groups = λ i l g. rw (ne-eqb (regionGroup16 + i) regionHead (λ e. omega arith)); count = refl }) (λ a. refl) refl refl
         (λ a p f l h e. (l, rw (put-like (λ t. t .size) (s .tables) b u refl a) at h, sym (put-like (λ t. t .pages p .frame) (s .tables) b u refl a) ∙ e)) (r .frames);
     objects = λ o l. object-kept m (lived m b w c) o (s .objects o) (λ f. refl) (r .objects o l);
     book = book-kept m (lived m b w c) (stay m b w c) s (withTable s b u) refl refl refl

@@ -23,7 +23,7 @@ use Rattle.invariant.specs.StorageViews.{next-occupied}
 use Rattle.layout.specs.declared.Shape.{Shape}
 use Rattle.layout.specs.Layout.{Mem, head, load}
 use Rattle.layout.specs.Fields.{headLifecycle, headCursor, slotTag, slotGeneration, slotObject}
-use Rattle.layout.specs.Values.{lifeActive}
+use Rattle.layout.specs.Values.{tagOccupied, lifeActive, lifeTearingDown, lifeRetired}
 use Rattle.representation.specs.Represents.{linkOf, slotWord, LifeIs, TableIs, Rep}
 use Rattle.representation.specs.Told.{life-tells}
 use Rattle.storage.specs.Ops.{vacateW}
@@ -40,17 +40,17 @@ use Rattle.teardown.specs.Walk.{next-is}
 use Rattle.teardown.specs.Life.{life-held}
 use Rattle.teardown.specs.Open.{open-is}
 
--- ---- what a head's word 2 tells
+-- ---- what a head's lifecycle tells
 
--- 1 with the cursor in word 3
-life-tearing : (w c : ℕ) (x : Lifecycle) → LifeIs w c x → eqb w 1 ≡ true → x ≡ tearingDown c
-life-tearing w c active e q = absurd (omega (arith, eqb-true w 1 q))
+-- tearing down, with the cursor in its word
+life-tearing : (w c : ℕ) (x : Lifecycle) → LifeIs w c x → eqb w lifeTearingDown ≡ true → x ≡ tearingDown c
+life-tearing w c active e q = absurd (omega (arith, eqb-true w lifeTearingDown q))
 life-tearing w c (tearingDown n) e q = ap tearingDown (sym (e .1))
-life-tearing w c retired e q = absurd (omega (arith, eqb-true w 1 q))
+life-tearing w c retired e q = absurd (omega (arith, eqb-true w lifeTearingDown q))
 
-life-out : (w c : ℕ) (x : Lifecycle) → LifeIs w c x → eqb w 1 ≡ false → (f : ℕ → Decision) → (teardownCursor x refuse 18 then f) ≡ refusal 18
+life-out : (w c : ℕ) (x : Lifecycle) → LifeIs w c x → eqb w lifeTearingDown ≡ false → (f : ℕ → Decision) → (teardownCursor x refuse 18 then f) ≡ refusal 18
 life-out w c active e q f = refl
-life-out w c (tearingDown n) e q f = clash (eq-eqb w 1 (e .0)) q
+life-out w c (tearingDown n) e q f = clash (eq-eqb w lifeTearingDown (e .0)) q
 life-out w c retired e q f = refl
 
 -- a table changed, and then its lifecycle
@@ -72,7 +72,7 @@ module _ (ws : List ℕ) (sh : Shape) (s : State) (i : Rep ws sh s) where
     module _ (k : ℕ) (q : isOccupied (s .tables b .slots k) ≡ true) where
       -- by the words
       slot-is : s .tables b .slots k ≡ occupied (slotWord (load ws sh) b k slotGeneration) (handleOf (handleAt (load ws sh) b k))
-      slot-is = sym (its-table .slots k) ∙ slot-occupied (load ws sh) b k (eqb-true (slotWord (load ws sh) b k slotTag) 3 (slot-tells (load ws sh) b k ∙ ap isOccupied (its-table .slots k) ∙ q))
+      slot-is = sym (its-table .slots k) ∙ slot-occupied (load ws sh) b k (eqb-true (slotWord (load ws sh) b k slotTag) tagOccupied (slot-tells (load ws sh) b k ∙ ap isOccupied (its-table .slots k) ∙ q))
 
       known : slotWord (load ws sh) b k slotObject < s .objectCount
       known = object-known s (i .wellFormed) b l k (slotWord (load ws sh) b k slotGeneration) (handleOf (handleAt (load ws sh) b k)) slot-is
@@ -210,10 +210,10 @@ module _ (ws : List ℕ) (sh : Shape) (s : State) (i : Rep ws sh s) (os : List �
       rest u c = unless not (isSome (nextOccupied till u 0)) refuse 18 then accept (withTable s b (withLife u retired)) done
 
       go : tearing m sh b ≡ true → (x : Option ℕ) → nextOccupied till t 0 ≡ x
-          → Does ws os sh base s (teardownFinish b) (pick (eqb (nextLink m b 0) 0) (both (lifeW ws sh b 2 0) (answered os base (0 ∷ []))) (refuseR ws os base 18))
+          → Does ws os sh base s (teardownFinish b) (pick (eqb (nextLink m b 0) 0) (both (lifeW ws sh b lifeRetired 0) (answered os base (0 ∷ []))) (refuseR ws os base 18))
       go y none e = let l = tears ws sh s i b y .0 in
           rw (next-none ws sh s i b l 0 e)
-          (does-accepted os sh base s (teardownFinish b) (lifeW ws sh b 2 0) (withTable s b (withLife t retired)) done
+          (does-accepted os sh base s (teardownFinish b) (lifeW ws sh b lifeRetired 0) (withTable s b (withLife t retired)) done
           (life-held ws sh s (held-of ws sh s i) b l 2 0 retired refl .reps) (tears-on ws sh s i b y rest ∙ rw e))
       go y (some k) e = let q = next-some ws sh s i b (tears ws sh s i b y .0) 0 k e in
           rw (q .0, ne-eqb (k + 1) 0 (λ d. omega arith))

@@ -15,6 +15,7 @@ use Rattle.model.specs.Step.{nextOccupied}
 use Rattle.layout.specs.Layout.{Mem, head, entry, cell}
 use Rattle.layout.specs.Fields.{headPages, entryFrame, slotTag}
 use Rattle.layout.specs.Sizes.{pageSize, slotsMax}
+use Rattle.layout.specs.Values.{tagOccupied}
 use Rattle.representation.specs.Represents.{entryAt, linkOf, wordIn, frameOf, slotFrom, slotIn, TableIs}
 use Rattle.lookup.specs.Named.{slot-tells}
 use Rattle.lookup.specs.Scan.{lengthAt}
@@ -87,9 +88,9 @@ module _ (m : Mem) (b c k long : ℕ) (inv : nextLink m b c ≡ linkOf (firstOcc
         inv ∙ ap linkOf w
 
     -- it has one: the slot's tag tells
-    module _ (framed : t ≡ false) (g tag : ℕ) (u : Bool) (eg : g ≡ fr - 1) (ew : tag ≡ m (cell g (k % pageSize) slotTag)) (eu : u ≡ eqb tag 3) where
+    module _ (framed : t ≡ false) (g tag : ℕ) (u : Bool) (eg : g ≡ fr - 1) (ew : tag ≡ m (cell g (k % pageSize) slotTag)) (eu : u ≡ eqb tag tagOccupied) where
       tag-tells : isOccupied (slotIn m b k) ≡ u
-      tag-tells = sym (slot-tells m b k) ∙ ap (λ (x : ℕ). eqb x 3) (sym (frame-word m (k % pageSize) (frameOf m b k) fr g tag ef (eqb-false fr 0 (sym et ∙ framed)) eg ew)) ∙ sym eu
+      tag-tells = sym (slot-tells m b k) ∙ ap (λ (x : ℕ). eqb x tagOccupied) (sym (frame-word m (k % pageSize) (frameOf m b k) fr g tag ef (eqb-false fr 0 (sym et ∙ framed)) eg ew)) ∙ sym eu
 
       pub next-hit : u ≡ true → k + 1 ≡ nextLink m b c
       next-hit y = let z : k + 1 ≡ suc k = omega arith in

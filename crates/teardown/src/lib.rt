@@ -5,6 +5,7 @@
 // The end of a table: a stopping owner's handles one by one, and teardown, which takes a table from active to retired.
 ghost use mathlib.Core.Path.{_≡_};
 ghost use Rattle.layout.specs.Layout.{load as loadAt};
+ghost use Rattle.layout.specs.Values.{lifeTearingDown, lifeRetired};
 ghost use Rattle.answer.specs.Does.{both};
 ghost use Rattle.teardown.specs.Ops.{nextLink, removeW, lifeW, opensAt, openIn, tearing, stoppedR, stoppingR, teardownStartR, tornR, teardownStepR, teardownFinishR};
 use layout::Shape;
@@ -44,7 +45,7 @@ fn remove_slot(s: &mut [u64], sh: Shape, b: u64, k: u64)
 
 // Table b is tearing down, from a cursor on.
 fn put_tearing(s: &mut [u64], sh: Shape, b: u64, cursor: u64)
-    ensures { λ _. ⌜ now (s .exit) ≡ lifeW (now (s .entry)) sh b 1 cursor ⌝ }
+    ensures { λ _. ⌜ now (s .exit) ≡ lifeW (now (s .entry)) sh b lifeTearingDown cursor ⌝ }
 {
     let h = head::load(s, sh, b);
     let t = head::tear_local(h, cursor);
@@ -53,7 +54,7 @@ fn put_tearing(s: &mut [u64], sh: Shape, b: u64, cursor: u64)
 
 // Table b is retired.
 fn put_retired(s: &mut [u64], sh: Shape, b: u64)
-    ensures { λ _. ⌜ now (s .exit) ≡ lifeW (now (s .entry)) sh b 2 0 ⌝ }
+    ensures { λ _. ⌜ now (s .exit) ≡ lifeW (now (s .entry)) sh b lifeRetired 0 ⌝ }
 {
     let h = head::load(s, sh, b);
     let t = head::retire_local(h, 0);

@@ -16,7 +16,7 @@ use Rattle.format.specs.Fields.{routeField, forbiddenObjectField, forbiddenKind
 use Rattle.layout.specs.declared.Shape.{Shape}
 use Rattle.layout.specs.Layout.{Mem, object}
 use Rattle.layout.specs.Fields.{objectKoid, objectKind, objectClass}
-use Rattle.layout.specs.Values.{classLeaf, classRendezvousOnly}
+use Rattle.layout.specs.Values.{classLeaf, classRendezvousOnly, routeBuffered}
 use Rattle.layout.specs.Sizes.{batchMax}
 use Rattle.request.specs.declared.Optional.{Optional}
 use Rattle.request.specs.declared.Optional.the-variants.{Word, Absent}
@@ -80,7 +80,7 @@ copyDenied held op = isCopy op && not (contains held duplicateRight)
 
 -- Buffered bars RendezvousOnly, every route bars Never
 unfoldable pub routeBars : ℕ → ℕ → Bool
-routeBars route class = pick (eqb class classLeaf) false (pick (eqb class classRendezvousOnly) (eqb route 0) true)
+routeBars route class = pick (eqb class classLeaf) false (pick (eqb class classRendezvousOnly) (eqb route routeBuffered) true)
 
 -- "5 (rights)", four places
 unfoldable pub rightsRefusal : ℕ → Item → ℕ

@@ -17,9 +17,10 @@ use Rattle.model.specs.Book.{addRow, movedOf}
 use Rattle.invariant.specs.Pointwise.{place-slots}
 use Rattle.layout.specs.declared.Shape.{Shape}
 use Rattle.layout.specs.Layout.{Addr, Addr.reg, total, root, index, item, load, save, same, same-is, isIn, in-item, length-save, load-save-any, Write, Write.at, writes, load-writes}
-use Rattle.layout.specs.Fields.{rootUsedRows, itemOperation, itemMoved, itemObject, itemRights, itemFlags, itemGranted}
+use Rattle.layout.specs.Fields.{rootUsedRows, indexPlace, itemOperation, itemMoved, itemObject, itemRights, itemFlags, itemGranted}
 use Rattle.layout.specs.Values.{kindClaim, operationMove, operationCopy}
 use Rattle.layout.specs.Sizes.{batchMax}
+use Rattle.layout.specs.RegionNames.{regionRoot, regionIndex, regionRow}
 use Rattle.representation.specs.Represents.{EntryIs, Items}
 use Rattle.storage.specs.Order.{occurs-head}
 use Rattle.storage.specs.Ops.{moveW}
@@ -42,14 +43,14 @@ use Rattle.transfer.specs.Ops.{movedP, movedW, markItemW, markedW, claim
 -- the words differ in item j of the row in place x alone
 pub record Entered (ws ws′ : List ℕ) (sh : Shape) (x j : ℕ) : Type 0 where
   pub long : length ws′ ≡ length ws
-  pub rest : (k z y f : ℕ) → (k ≡ 10 → z ≡ x → y ≡ suc j → ⊥) → load ws′ sh (reg k z y f) ≡ load ws sh (reg k z y f)
+  pub rest : (k z y f : ℕ) → (k ≡ regionRow → z ≡ x → y ≡ suc j → ⊥) → load ws′ sh (reg k z y f) ≡ load ws sh (reg k z y f)
 
 enter-one : (ws : List ℕ) (sh : Shape) → total sh ≤ length ws → (x j : ℕ) (a : Addr) (f v : ℕ) → a ≡ item x j f → Entered ws (save ws sh a v) sh x j
 enter-one ws sh h x j a f v e = record {
   long = length-save ws sh a v;
   rest = λ k z y g n. load-save-any ws sh h a v (reg k z y g) ∙ bool (same a (reg k z y g))
       (λ d. let q : reg k z y g ≡ item x j f = same-is a (reg k z y g) d ∙ e in
-      let q₁ : k ≡ 10 = cc in let q₂ : z ≡ x = cc in let q₃ : y ≡ suc j = cc in absurd (n q₁ q₂ q₃))
+      let q₁ : k ≡ regionRow = cc in let q₂ : z ≡ x = cc in let q₃ : y ≡ suc j = cc in absurd (n q₁ q₂ q₃))
       (λ d. rw (d, and-false (isIn sh a)));
 }
 
@@ -147,7 +148,7 @@ module _ (sh : Shape) (x b i : ℕ) (es : List Entry) where
 
 module _ (ws ws₁ : List ℕ) (sh : Shape) (s : State) (h : Held ws sh s) (free : length (s .book .rows) < s .book .capacity) (fills : Fills ws ws₁ sh (spare (load ws sh))) where
   same-place : spare (load ws₁ sh) ≡ spare (load ws sh)
-  same-place = fills .rest 9 (load ws₁ sh (root rootUsedRows)) 0 0 (λ q z. omega arith) ∙ ap (λ (i : ℕ). load ws sh (index i)) (fills .rest 0 0 0 6 (λ q z. omega arith))
+  same-place = fills .rest regionIndex (load ws₁ sh (root rootUsedRows)) 0 indexPlace (λ q z. omega arith) ∙ ap (λ (i : ℕ). load ws sh (index i)) (fills .rest regionRoot 0 0 rootUsedRows (λ q z. omega arith))
 
   -- A CLAIM whose entries stand in the place that was free opens
   pub claim-held : (b : ℕ) (es : List Entry) → b < s .tableCount → s .book .next + 1 < 2 ^ 64 → Items (EntryIs (load ws₁ sh) (spare (load ws sh))) 0 es

@@ -15,6 +15,7 @@ use Rattle.layout.specs.declared.Shape.{Shape}
 use Rattle.layout.specs.Layout.{Mem, total, item, load, in-item, load-writes}
 use Rattle.layout.specs.Fields.{itemOperation, itemObject, itemRights, itemFlags}
 use Rattle.layout.specs.Sizes.{batchMax}
+use Rattle.layout.specs.RegionNames.{regionRow}
 use Rattle.representation.specs.Represents.{EntryIs, Items}
 use Rattle.storage.specs.Reps.{Held}
 use Rattle.book.specs.Ops.{spare, Fills, fills-none, fills-then}
@@ -122,7 +123,7 @@ module _ (sh : Shape) (s : State) (w : WellFormed till s) (b : ℕ) (l : b < s .
       rw (entries-more vs j q qs) (record {
         fills = rest .fills;
         are = (entry-same (load us sh) (load zs sh) (spare (load ws sh)) j (entryFor t q) (λ f. rest .before j f (omega arith)) (one .is), rest .are);
-        before = λ i f n. rest .before i f (omega arith) ∙ one .enters .rest 10 (spare (load ws sh)) (suc i) f (λ a c d. omega arith);
+        before = λ i f n. rest .before i f (omega arith) ∙ one .enters .rest regionRow (spare (load ws sh)) (suc i) f (λ a c d. omega arith);
       })
 
   -- from the first on

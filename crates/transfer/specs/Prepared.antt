@@ -29,7 +29,8 @@ use Rattle.layout.specs.declared.Shape.{Shape}
 use Rattle.layout.specs.Regions.{region, in-place}
 use Rattle.layout.specs.Layout.{layout, root, load, save, in-root, load-root}
 use Rattle.layout.specs.Fields.{rootNextId}
-use Rattle.layout.specs.Sizes.{batchMax}
+use Rattle.layout.specs.Sizes.{batchMax, rootSize}
+use Rattle.layout.specs.RegionNames.{regionRoot}
 use Rattle.representation.specs.Represents.{Represents, Rep}
 use Rattle.request.specs.Place.{requestOf}
 use Rattle.storage.specs.Reps.{Held, held-of}
@@ -51,9 +52,9 @@ use Rattle.format.specs.Ops.{opPrepareTransfer}
 
 -- ---- the id
 
-save-root : (ws : List ℕ) (sh : Shape) (f v : ℕ) → f < 16 → save ws sh (root f) v ≡ set ws f v
+save-root : (ws : List ℕ) (sh : Shape) (f v : ℕ) → f < rootSize → save ws sh (root f) v ≡ set ws f v
 unfolding save
-save-root ws sh f v h = ap (λ (i : ℕ). set ws i v) (in-place (region (layout sh) 0) 0 0 f (length ws) (in-root sh f h) ∙ omega arith)
+save-root ws sh f v h = ap (λ (i : ℕ). set ws i v) (in-place (region (layout sh) regionRoot) 0 0 f (length ws) (in-root sh f h) ∙ omega arith)
 
 -- the id's word, one more, and no other
 spent-is : (ws : List ℕ) (sh : Shape) → load ws sh (root rootNextId) + 1 < 2 ^ 64 → spendW ws sh ≡ idSpent ws

@@ -22,6 +22,8 @@ use Rattle.model.specs.WellFormed.{WellFormed, All, inHandles}
 use Rattle.model.specs.Tests.{apart}
 use Rattle.layout.specs.declared.Shape.{Shape}
 use Rattle.layout.specs.Layout.{Addr, Addr.reg, total, object, load, In, isIn, in-is, load-out, writes-past, loads-same}
+use Rattle.layout.specs.RegionNames.{regionObject}
+use Rattle.layout.specs.Sizes.{objectSize}
 use Rattle.representation.specs.Represents.{ObjectIs}
 use Rattle.storage.specs.Order.{same?}
 use Rattle.storage.specs.Ops.{up}
@@ -43,7 +45,7 @@ use Rattle.transfer.specs.Faults.{Tells, Found, raise-tells}
 
 record Objects (ws ws′ : List ℕ) (sh : Shape) : Type 0 where
   long : length ws′ ≡ length ws
-  other : (k x y f : ℕ) → (k ≡ 8 → ⊥) → load ws′ sh (reg k x y f) ≡ load ws sh (reg k x y f)
+  other : (k x y f : ℕ) → (k ≡ regionObject → ⊥) → load ws′ sh (reg k x y f) ≡ load ws sh (reg k x y f)
   past : (i : ℕ) → total sh ≤ i → getD ws′ i 0 ≡ getD ws i 0
 
 objects-none : (ws : List ℕ) (sh : Shape) → Objects ws ws sh
@@ -67,7 +69,7 @@ objects-step f ws sh o h = record {
 -- words that represent states with the same objects, and differ in objects alone, are the same
 module _ (ws ws′ : List ℕ) (sh : Shape) (s : State) (os : ℕ → Object) (h : Held ws sh s) (h′ : Held ws′ sh (withObjects s os)) (d : Objects ws ws′ sh)
     (e : (o : ℕ) → os o ≡ s .objects o) where
-  object-same : (o : ℕ) → o < s .objectCount → (f : ℕ) → f < 8 → load ws′ sh (object o f) ≡ load ws sh (object o f)
+  object-same : (o : ℕ) → o < s .objectCount → (f : ℕ) → f < objectSize → load ws′ sh (object o f) ≡ load ws sh (object o f)
   object-same o l f m = go f m
     where
       p : ObjectIs (load ws sh) o (s .objects o)
@@ -76,7 +78,7 @@ module _ (ws ws′ : List ℕ) (sh : Shape) (s : State) (os : ℕ → Object) (h
       q : ObjectIs (load ws′ sh) o (s .objects o)
       q = rw (e o) at (h′ .reps .memory .objects o l)
 
-      go : (f : ℕ) → f < 8 → load ws′ sh (object o f) ≡ load ws sh (object o f)
+      go : (f : ℕ) → f < objectSize → load ws′ sh (object o f) ≡ load ws sh (object o f)
       go zero m = q .koid ∙ sym (p .koid)
       go (suc zero) m = q .kind ∙ sym (p .kind)
       go (suc (suc zero)) m = q .class ∙ sym (p .class)
@@ -89,12 +91,12 @@ module _ (ws ws′ : List ℕ) (sh : Shape) (s : State) (os : ℕ → Object) (h
 
   loads-alike : (a : Addr) → load ws′ sh a ≡ load ws sh a
   loads-alike (reg k x y f) = ⊎-elim
-      (λ (z : k ≡ 8). rw z (bool (isIn sh (reg 8 x y f))
-      (λ i. let w : In sh (reg 8 x y f) = in-is sh (reg 8 x y f) i in
+      (λ (z : k ≡ regionObject). rw z (bool (isIn sh (reg regionObject x y f))
+      (λ i. let w : In sh (reg regionObject x y f) = in-is sh (reg regionObject x y f) i in
       let y0 : y ≡ 0 = omega (arith, w .ys) in
       rw y0 (object-same x (omega (arith, w .xs, h .reps .memory .objectCount)) f (w .fs)))
-      (λ i. load-out ws′ sh (reg 8 x y f) i ∙ sym (load-out ws sh (reg 8 x y f) i))))
-      (λ (z : k ≡ 8 → ⊥). d .other k x y f z)
+      (λ i. load-out ws′ sh (reg regionObject x y f) i ∙ sym (load-out ws sh (reg regionObject x y f) i))))
+      (λ (z : k ≡ regionObject → ⊥). d .other k x y f z)
       (same? k 8)
 
   words-back : ws′ ≡ ws

@@ -11,28 +11,30 @@ use Rattle.layout.specs.declared.Shape.{Shape}
 use Rattle.layout.specs.declared.Extent.{Extent}
 use Rattle.layout.specs.Regions.{region, in-place}
 use Rattle.layout.specs.Layout.{layout, rowsAt, item, place, In, isIn, in-is, in-yes, in-no, in-item, place-out, save, save-out}
-use Rattle.layout.specs.Fields.{itemOperation}
+use Rattle.layout.specs.Fields.{itemOperation, itemMoved, itemObject, itemRights, itemFlags, itemGranted}
 use Rattle.layout.specs.Sizes.{batchMax, blockSize, rowBlocks}
+use Rattle.layout.specs.RegionNames.{regionRow}
+use Rattle.layout.specs.Values.{operationMove, operationCopy}
 use Rattle.lookup.specs.declared.PreparedHandle.{PreparedHandle}
 use Rattle.transfer.specs.Ops.{movedW}
 use Rattle.transfer.specs.Preparing.{copiedW}
 
 -- `item_place`
 module _ (n : ℕ) (sh : Shape) (x j : ℕ) where
-  pub item-stands : j < batchMax → x < sh .rows → (e : Extent) → e ≡ region (layout sh) 10 → e .low + (x * rowBlocks + j + 1) * blockSize ≡ place n sh (item x j itemOperation)
+  pub item-stands : j < batchMax → x < sh .rows → (e : Extent) → e ≡ region (layout sh) regionRow → e .low + (x * rowBlocks + j + 1) * blockSize ≡ place n sh (item x j itemOperation)
   item-stands a b e q = let z : e .low ≡ rowsAt sh = ap (λ (r : Extent). r .low) q in
-      sym (in-place (region (layout sh) 10) x (suc j) 0 n (in-item sh x j itemOperation b a (omega arith)) ∙ omega (arith, z))
+      sym (in-place (region (layout sh) regionRow) x (suc j) 0 n (in-item sh x j itemOperation b a (omega arith)) ∙ omega (arith, z))
 
   pub item-none : (In sh (item x j itemOperation) → ⊥) → n ≡ place n sh (item x j itemOperation)
   item-none h = sym (place-out n sh (item x j itemOperation) (in-no sh (item x j itemOperation) h))
 
 -- a store f words behind
-stored : (ws : List ℕ) (sh : Shape) (x j p f v : ℕ) → p ≡ place (length ws) sh (item x j itemOperation) → f < 6 → set ws (p + f) v ≡ save ws sh (item x j f) v
+stored : (ws : List ℕ) (sh : Shape) (x j p f v : ℕ) → p ≡ place (length ws) sh (item x j itemOperation) → f < blockSize → set ws (p + f) v ≡ save ws sh (item x j f) v
 unfolding save
 stored ws sh x j p f v e l = bool (isIn sh (item x j itemOperation))
     (λ y. let i = in-is sh (item x j itemOperation) y in
-    let a = in-place (region (layout sh) 10) x (suc j) 0 (length ws) i in
-    let b = in-place (region (layout sh) 10) x (suc j) f (length ws) (record { xs = i .xs; ys = i .ys; fs = l }) in
+    let a = in-place (region (layout sh) regionRow) x (suc j) 0 (length ws) i in
+    let b = in-place (region (layout sh) regionRow) x (suc j) f (length ws) (record { xs = i .xs; ys = i .ys; fs = l }) in
     ap (λ (k : ℕ). set ws k v) (omega (arith, a, b, e)))
     (λ y. let o : place (length ws) sh (item x j itemOperation) ≡ length ws = place-out (length ws) sh (item x j itemOperation) y in
     let n : isIn sh (item x j f) ≡ false = in-no sh (item x j f) (λ i. clash (in-yes sh (item x j itemOperation) (record { xs = i .xs; ys = i .ys; fs = omega arith })) y) in
@@ -40,7 +42,7 @@ stored ws sh x j p f v e l = bool (isIn sh (item x j itemOperation))
 
 module _ (ws : List ℕ) (sh : Shape) (x j p : ℕ) (e : p ≡ place (length ws) sh (item x j itemOperation)) where
   -- after a store
-  next : (vs us : List ℕ) (f v : ℕ) → length vs ≡ length ws → f < 6 → us ≡ set vs (p + f) v → (us ≡ save vs sh (item x j f) v) × (length us ≡ length ws)
+  next : (vs us : List ℕ) (f v : ℕ) → length vs ≡ length ws → f < blockSize → us ≡ set vs (p + f) v → (us ≡ save vs sh (item x j f) v) × (length us ≡ length ws)
   next vs us f v l a d =
       (d ∙ stored vs sh x j p f v (e ∙ ap (λ (n : ℕ). place n sh (item x j itemOperation)) (sym l)) a, ap length d ∙ length-set vs (p + f) v ∙ l)
 
@@ -48,8 +50,8 @@ module _ (ws : List ℕ) (sh : Shape) (x j p : ℕ) (e : p ≡ place (length ws)
   first us v d = let z : p ≡ p + 0 = omega arith in next ws us 0 v refl (omega arith) (d ∙ ap (λ (k : ℕ). set ws k v) z)
 
   -- `put_moved`
-  pub moved-by : (w₀ w₁ w₂ w₃ w₄ w₅ : List ℕ) (h : PreparedHandle) (r : ℕ) → w₀ ≡ set ws p 0 → w₁ ≡ set w₀ (p + 1) (h .slot) → w₂ ≡ set w₁ (p + 2) (h .object)
-      → w₃ ≡ set w₂ (p + 3) (h .rights) → w₄ ≡ set w₃ (p + 4) (h .flags) → w₅ ≡ set w₄ (p + 5) r → w₅ ≡ movedW ws sh x j h r
+  pub moved-by : (w₀ w₁ w₂ w₃ w₄ w₅ : List ℕ) (h : PreparedHandle) (r : ℕ) → w₀ ≡ set ws p operationMove → w₁ ≡ set w₀ (p + itemMoved) (h .slot) → w₂ ≡ set w₁ (p + itemObject) (h .object)
+      → w₃ ≡ set w₂ (p + itemRights) (h .rights) → w₄ ≡ set w₃ (p + itemFlags) (h .flags) → w₅ ≡ set w₄ (p + itemGranted) r → w₅ ≡ movedW ws sh x j h r
   unfolding movedW
   moved-by w₀ w₁ w₂ w₃ w₄ w₅ h r d₀ d₁ d₂ d₃ d₄ d₅ =
       let a₀ = first w₀ 0 d₀ in
@@ -61,7 +63,7 @@ module _ (ws : List ℕ) (sh : Shape) (x j p : ℕ) (e : p ≡ place (length ws)
       rw (a₅ .0, a₄ .0, a₃ .0, a₂ .0, a₁ .0, a₀ .0)
 
   -- `put_copied`
-  pub copied-by : (w₀ w₂ w₃ w₄ : List ℕ) (h : PreparedHandle) (r : ℕ) → w₀ ≡ set ws p 1 → w₂ ≡ set w₀ (p + 2) (h .object) → w₃ ≡ set w₂ (p + 3) r → w₄ ≡ set w₃ (p + 4) (h .flags)
+  pub copied-by : (w₀ w₂ w₃ w₄ : List ℕ) (h : PreparedHandle) (r : ℕ) → w₀ ≡ set ws p operationCopy → w₂ ≡ set w₀ (p + itemObject) (h .object) → w₃ ≡ set w₂ (p + itemRights) r → w₄ ≡ set w₃ (p + itemFlags) (h .flags)
       → w₄ ≡ copiedW ws sh x j h r
   unfolding copiedW
   copied-by w₀ w₂ w₃ w₄ h r d₀ d₂ d₃ d₄ =
@@ -72,6 +74,6 @@ module _ (ws : List ℕ) (sh : Shape) (x j p : ℕ) (e : p ≡ place (length ws)
       rw (a₄ .0, a₃ .0, a₂ .0, a₀ .0)
 
 -- no place overflows
-pub rows-low : (sh : Shape) (e : Extent) → sh .tables < 256 → sh .pages < 4294967296 → sh .frames < 65536 → sh .objects < 65536 → sh .rows < 65536 → e ≡ region (layout sh) 10
+pub rows-low : (sh : Shape) (e : Extent) → sh .tables < 256 → sh .pages < 4294967296 → sh .frames < 65536 → sh .objects < 65536 → sh .rows < 65536 → e ≡ region (layout sh) regionRow
     → e .low < 2 ^ 60
 rows-low sh e a b c d r q = let z : e .low ≡ rowsAt sh = ap (λ (x : Extent). x .low) q in omega (arith, z)

@@ -38,9 +38,6 @@ use lookup::View;
 use object::ObjectRecord;
 use request::Optional;
 
-// "Routes: 0 Buffered, 1 Rendezvous, 2 StagedStartup".
-pub const BUFFERED: u64 = 0;
-
 // Where item j of the row in place x stands; where there is none, the length.
 fn item_place(s: &[u64], sh: Shape, x: u64, j: u64) -> usize
     ensures stands { λ r. ⌜ r ≡ place (length (now (s .entry))) sh (item x j itemOperation) ⌝ }
@@ -48,7 +45,7 @@ fn item_place(s: &[u64], sh: Shape, x: u64, j: u64) -> usize
 {
     if j < size::BATCH_MAX {
         if x < sh.rows as u64 {
-            let rows = layout::region_of(sh, layout::ROW);
+            let rows = layout::region_of(sh, layout::region::REGION_ROW);
             return (rows.low + (x * size::ROW_BLOCKS + j + 1) * size::BLOCK_SIZE) as usize;
         }
     }
@@ -241,7 +238,7 @@ fn read_item(rq: &[u64], at: usize) -> HandleTransferRequest
     ensures { λ r. ⌜ itemBy r ≡ itemAt (now (rq .entry)) at ⌝ }
 {
     if at < rq.len() {
-        if rq[at] == format::TRANSFER_ITEM_MUST {
+        if rq[at] == format::maps::TRANSFER_ITEM_MUST {
             let operation = words::word(rq, at + 1);
             let value = words::word(rq, at + 2);
             let rights = words::word(rq, at + 3);
@@ -263,7 +260,7 @@ fn item_value(rq: &[u64], at: usize) -> u64
     ensures { λ r. ⌜ r ≡ must (fieldsAt (now (rq .entry)) at) valueField ⌝ }
 {
     if at < rq.len() {
-        if rq[at] == format::TRANSFER_ITEM_MUST {
+        if rq[at] == format::maps::TRANSFER_ITEM_MUST {
             return words::word(rq, at + 2);
         }
     }
@@ -275,7 +272,7 @@ fn item_end(rq: &[u64], at: usize) -> usize
     ensures { λ r. ⌜ r ≡ endAt (now (rq .entry)) at ⌝ }
 {
     if at < rq.len() {
-        if rq[at] == format::TRANSFER_ITEM_MUST {
+        if rq[at] == format::maps::TRANSFER_ITEM_MUST {
             return at + 4;
         }
     }
@@ -367,7 +364,7 @@ fn route_bars(route: u64, class: u64) -> bool
         return false;
     }
     if words::eq(class, value::CLASS_RENDEZVOUS_ONLY) {
-        return words::eq(route, BUFFERED);
+        return words::eq(route, value::ROUTE_BUFFERED);
     }
     true
 }
