@@ -1,20 +1,24 @@
 #!/usr/bin/env python3
-"""No field number, tag, op or page size stands as a numeral in the code: crates/*/src/*.rt, without comments, strings and contracts. The tables of names are TABLES.
+"""No field number, tag, op or page size stands as a numeral in the code: crates/*/src/*.rt, without comments and strings. The tables of names are TABLES.
 
 What is a fault, with file, line and numeral:
 
   a  a field argument that is no name of crates/layout's field.rt, and one of a record's field that is no name of crates/format's. A function has a field argument if it hands a
-     parameter on as one; the first are layout's place_in and request's field_in
+     parameter on as one; the first are layout's place_in and request's field_in. An accessor of ACCESSORS takes fields of its own record
   b  a numeral compared with, stored in, or passed as a word that stands for a case: a name of CASES, what a field of CASE_FIELDS holds, what is compared with a name of value.rt,
      and parameters that are given such a word; and one stored in a state's word by its place
   c  an arm of a match that is a numeral
-  d  one of SIZES
-  e  a numeral in an index of the state's words, but what is taken off
-  f  any other numeral above 1
+  d  a numeral in an index of the state's words, but what is taken off
+  e  any other numeral above 1
+  f  a numeral in a constant that is made of no other
+  g  a numeral above 1 in a contract, but for powers of 2
 
-EXCUSED has what may stand all the same: file, texts and reason. A text that excuses nothing is a fault. The test makes the wrong lines of WRONG in memory, at most one of a file at a time,
-and must find each; and it must find nothing in PLAIN.
+The highest word may stand everywhere.
+
+EXCUSED has what may stand all the same: file, texts and reason. A text that excuses nothing is a fault. The test makes the wrong lines of WRONG in memory and must find each; and it must
+find nothing in PLAIN.
 """
+import collections
 import functools
 import re
 import sys
@@ -22,84 +26,84 @@ from pathlib import Path
 
 root = Path(__file__).resolve().parent.parent
 TABLES = {
+    "crates/layout/src/region.rt": "regions",
     "crates/layout/src/field.rt": "fields",
     "crates/layout/src/value.rt": "words that stand for a case",
     "crates/layout/src/size.rt": "sizes and limits",
-    "crates/format/src/field.rt": "fields of a record",
+    "crates/format/src/field.rt": "fields of a record, and their kinds",
     "crates/format/src/op.rt": "ops",
     "crates/format/src/refusal.rt": "numbers of document 01",
-    "crates/format/src/lib.rt": "must and may maps, kinds of fields",
+    "crates/format/src/maps.rt": "must and may maps",
+    "crates/format/src/size.rt": "words of an answer, a scan's limits, largest words of kinds",
 }
-CASES = {"tag", "what", "kind", "life", "lifecycle", "stage", "class", "operation", "op", "version"}
+CASES = {"tag", "what", "kind", "life", "lifecycle", "stage", "class", "operation", "op", "version", "route"}
 CASE_PARTS = CASES - {"kind"}  # of a struct: `kind` is an object's there, any number of 32 bits
 CASE_FIELDS = {"ROOT_VERSION", "HEAD_LIFECYCLE", "SLOT_TAG", "OBJECT_CLASS", "OBJECT_STAGE", "ROW_KIND", "ITEM_OPERATION"}
-SIZES = {63, 64, 65, 384, 390, 262143, 262144, 16777214, 16777215}
+HIGHEST = 2**64 - 1
 STATE = {"s", "state"}  # what functions call the state's words
-ONE_WORD = {"OWNER", "SIXTEEN", "HUNDRED", "THOUSAND"}  # regions whose things have one word, field 0
+ONE_WORD = {"REGION_OWNER", "REGION_GROUP_16", "REGION_GROUP_256", "REGION_GROUP_4096"}  # regions whose things have one word, field 0
 NO_CASES = {"KNOWN_FLAGS"}  # of value.rt
 ANY_WORD = {"words", "layout", "answer", "request", ("structure", "present")}  # crates and functions that are given any word
-ACCESSORS = """layout: load save place_in root_word put_root head_word put_head entry_word put_entry cell_word put_cell object_word put_object row_word put_row item_word put_item
-storage: page_word put_page put_page_link frame_word put_frame slot_word put_slot_word put_slot_link
-detach: word_in put_link
+# Functions that must have a field argument, by crate; and the record whose fields it is
+ACCESSORS = """layout: load save place_in
+layout ROOT: root_word put_root
+layout HEAD: head_word put_head
+layout ENTRY: entry_word put_entry
+layout SLOT: cell_word put_cell
+layout OBJECT: object_word put_object
+layout ROW: row_word put_row
+layout ITEM: item_word put_item
+storage ENTRY: page_word put_page put_page_link
+storage SLOT: frame_word put_frame slot_word put_slot_word put_slot_link
+detach SLOT: word_in put_link
 request: field_in field find read_three fits_too"""
+RECORDS = {(line.split()[0], name): line.split(":")[0].split()[1] for line in ACCESSORS.splitlines() if " " in line.split(":")[0] for name in line.split(": ")[1].split()}
 GROUPS = "free frames are counted in groups of 16, of 256 and of 4,096 (docs/formats.md, the regions)"
 PARAMETERS = "creation's parameters: 4 words, 2 for each table, 6 for each object (docs/formats.md)"
 ANSWER = "the places of an answer's words (docs/formats.md, \"Answers\")"
 RECORD = "the words of a record whose map is known"
 NO_FRAME = "where there is no frame every word of a slot is 0, and the slot is absent"
 DOCUMENT_01 = "numbers of document 01, by name here"
-ALL_ONES = "the highest word"
-BITS_32 = "the bound of 32-bit numbers"
 HALF = "half, or the lowest bit"
+BITS = "the bits of a word"
 REPLAY = "the replaying program's own: its input's bytes and records, its rooms"
 # What may stand: file, texts, reason. A text stands for each place where it stands, in whatever lines.
 EXCUSED = [
     ("answer/src/lib.rt", ["answer_put(out, base, 2, b)", "answer_put(out, base, 3, c)", "answer_put(out, base, 4, d)", "answer_put(out, base, 5, e)", "answer_put(out, base, 6, f)", "answer_put(out, base, 7, g)"], ANSWER),
-    ("authority/src/lib.rt", ["const TRANSFER: Rights = Rights(2);", "const PROPAGATION_MASK: u64 = 3;", "const TRANSFER: PropagationRights = PropagationRights(2);"], DOCUMENT_01),
-    ("basket/src/main.rt", ["if b <= 0xffff_ffff_ffff_ffff - a {", "else { 0xffff_ffff_ffff_ffff }"], ALL_ONES),
+    ("authority/src/lib.rt", ["const NONE: Rights = Rights(0);", "Rights = Rights(1);", "Rights = Rights(2);", "const PROPAGATION_MASK: u64 = 3;", "= PropagationRights(1);", "= PropagationRights(2);"], DOCUMENT_01),
     ("basket/src/main.rt", ["total(&[420, 180, 950]) == 1550", "total(&[950, 420, 180]) == 1550"], "prices of an example"),
-    ("book/src/lib.rt", ["const LAST_ID: u64 = 0xffff_ffff_ffff_ffff;"], ALL_ONES),
     ("book/src/lib.rt", ["let half = n / 2;"], HALF),
     ("codec/src/lib.rt", ["const SLOT_LIMIT: u64 = 16_777_214;", "const GENERATION_LIMIT: u64 = 4_294_967_295;", "const PREFIX: u64 = 0x4800_0000_0000_0000;", "const PREFIX_MASK: u64 = 0xff00_0000_0000_0000;", "const PAYLOAD_MASK: u64 = 0x00ff_ffff_ffff_ffff;", "const GENERATION_UNIT: u64 = 0x100_0000;"], DOCUMENT_01),
-    ("counts/src/lib.rt", ["const UNIT: u64 = 4294967296;"], BITS_32),
-    ("counts/src/lib.rt", ["0xffff_ffff_ffff_ffff - UNIT"], ALL_ONES),
     ("counts/src/lib.rt", ["exportable / 2 != 0"], HALF),
     ("create/src/lib.rt", ["4 + (b as usize) * 2", "4 + (k as usize) * 2", "4 + (t as u32) * 2", "base + (k as u32) * 6", "4 + t * 2 + o * 6", "4 + (sh.tables as usize) * 2 + (o as usize) * 6"], PARAMETERS),
     ("create/src/lib.rt", ["words::word(p, 2)", "words::word(p, 3)", "words::word(p, i + 2)", "words::word(p, i + 4)", "words::word(p, i + 5)", "words::word(p, at + 2)", "words::word(p, at + 3)", "words::word(p, at + 4)", "words::word(p, at + 5)"], PARAMETERS),
-    ("create/src/lib.rt", ["kind > 0xffff_ffff", "limit > 0xffff_ffff"], BITS_32),
-    ("create/src/lib.rt", ["layout::SIXTEEN, 16, ((f + 15) / 16)", "layout::HUNDRED, 256, ((f + 255) / 256)", "layout::THOUSAND, 4096, ((f + 4095) / 4096)"], GROUPS),
+    ("create/src/lib.rt", ["layout::region::REGION_GROUP_16, 16, ((f + 15) / 16)", "layout::region::REGION_GROUP_256, 256, ((f + 255) / 256)", "layout::region::REGION_GROUP_4096, 4096, ((f + 4095) / 4096)"], GROUPS),
     ("create/src/lib.rt", ["words::put(s, k as usize, 0)"], "every word is 0 before creation"),
-    ("frames/src/lib.rt", ["from + 16", "c * 16", "b * 16", "a * 16", "layout::SIXTEEN, f / 16", "layout::HUNDRED, f / 256", "layout::THOUSAND, f / 4096"], GROUPS),
+    ("frames/src/lib.rt", ["from ≤ 1000000"], "more than a scan of groups comes to: so sums stay words"),
+    ("frames/src/lib.rt", ["k) from 16", "from + 16", "c * 16", "b * 16", "a * 16", "layout::region::REGION_GROUP_16, f / 16", "layout::region::REGION_GROUP_256, f / 256", "layout::region::REGION_GROUP_4096, f / 4096"], GROUPS),
     ("growth/src/lib.rt", ["+ (j as u64) + 2"], "the slot after, as a link: each plus 1"),
-    ("growth/src/lib.rt", ["field::HEAD_FIRST_ENTRY), 4294967295"], BITS_32),
-    ("head/src/lib.rt", ["words::smaller(p, 4294967295)"], BITS_32),
-    ("head/src/lib.rt", ["if e < 0xffff_ffff_ffff_ffff { e + 1 }"], ALL_ONES),
-    ("layout/src/lib.rt", ["const ENTRY: u64 = 2;", "const OWNER: u64 = 3;", "const SIXTEEN: u64 = 4;", "const HUNDRED: u64 = 5;", "const THOUSAND: u64 = 6;", "const CELL: u64 = 7;", "const OBJECT: u64 = 8;", "const INDEX: u64 = 9;", "const ROW: u64 = 10;"], "the regions, by name here"),
     ("layout/src/lib.rt", ["(f + 15) / 16", "(f + 255) / 256", "(f + 4095) / 4096"], GROUPS),
-    ("layout/src/lib.rt", ["load(s, sh, INDEX, i, 0, 0)", "save(s, sh, INDEX, i, 0, 0, v)", "load(s, sh, INDEX, r, 0, 1)", "save(s, sh, INDEX, r, 0, 1, v)"], "a pair of the row index: its two words have functions, here alone"),
-    ("lookup/src/lib.rt", ["[SnapshotEntry; 8]", "[none; 8]", "if 8 <= len {", "while k < 8 {", "words::smaller(256, length - start)"], "a scan's entries and how many slots it looks at (document 01)"),
-    ("lookup/src/lib.rt", ["answer_put(out, base, i + 2, x.info.kind)", "answer_put(out, base, i + 3, x.info.rights)", "answer_put(out, base, i + 4, x.info.flags)", "put_entry(out, base, 5 + k * 5, x)"], ANSWER),
-    ("parcel/src/lib.rt", ["if a <= 0xffff_ffff_ffff_ffff - b {", "else { 0xffff_ffff_ffff_ffff }"], ALL_ONES),
+    ("lookup/src/lib.rt", ["answer_put(out, base, i + 2, x.info.kind)", "answer_put(out, base, i + 3, x.info.rights)", "answer_put(out, base, i + 4, x.info.flags)", "put_entry(out, base, 5 + k * 5, x)", "base 5 (entryList"], ANSWER),
+    ("lookup/src/lib.rt", [".examined ≤ 256"], "the most slots that a scan looks at, format's SCAN_SLOTS (document 01)"),
     ("parcel/src/lib.rt", ["words::word(rq, at + 2)", "return at + 3;"], RECORD),
     ("replay/src/main.rt", ["const PATTERN: u64 = 0x5c5c_c5c5_5c5c_c5c5;", "const FILL: u64 = 0xa5a5_5a5a_a5a5_5a5a;", "[u64; 16384]", "[0; 16384]", "[u64; 512]", "[0; 512]"], REPLAY),
     ("replay/src/main.rt", ["b as u16 * 256", "b as u32 * 65536", "b as u64 * 4294967296", "b: &[u8; 8]", "pair(b[2], b[3])", "pair(b[4], b[5]), pair(b[6], b[7])", "[0u8; 8]", "if n < 8 {"], REPLAY),
+    ("replay/src/main.rt", ["16384 ≡ length r", "512 ≡ length r", "a + 256 * b", "a + 65536 * b", "a + 4294967296 * b"], REPLAY),
     ("replay/src/main.rt", ["kind == 1", "kind == 2", "kind == 3", "kind == 4"], REPLAY),
     ("request/src/lib.rt", ["map % 2 == 1"], HALF),
+    ("request/src/lib.rt", ["bit < 64"], BITS),
     ("request/src/lib.rt", ["const NARROW: u64 = 251_456;"], "the map of the fields that do not take every word, by name here"),
-    ("request/src/lib.rt", ["out.len() / 72", "while k < 72 {", "if 72 <= out.len() - base {"], "an answer's words, format's ANSWER_WORDS, as a place"),
-    ("reserve/src/lib.rt", ["answer_put(out, base, (j + 3) as usize, v.0)"], ANSWER),
-    ("runner/src/lib.rt", ["base += 72;"], "an answer's words, format's ANSWER_WORDS, as a place"),
-    ("storage/src/lib.rt", ["e >= 4294967296", "p >= 4294967296"], BITS_32),
+    ("reserve/src/lib.rt", ["answer_put(out, base, (j + 3) as usize, v.0)", "base 3 (valuesAt"], ANSWER),
+    ("runner/src/lib.rt", ["base += 72;"], "an answer's words, format's ANSWER_PLACES"),
+    ("runner/src/lib.rt", ["called 20"], DOCUMENT_01),
     ("lookup/src/lib.rt", ["tag: 0,"], NO_FRAME),
     ("storage/src/lib.rt", ["tag: 0,"], NO_FRAME),
-    ("structure/src/lib.rt", ["high > 0xffff_ffff"], BITS_32),
-    ("structure/src/lib.rt", ["while i < 16 {", "(g as u32) * 16", "16, ((f + 15) / 16)", "16, ((f + 255) / 256)", "256, ((f + 4095) / 4096)"], GROUPS),
+    ("structure/src/lib.rt", ["(16 * size)", "while i < 16 {", "(g as u32) * 16", "16, ((f + 15) / 16)", "16, ((f + 255) / 256)", "256, ((f + 4095) / 4096)"], GROUPS),
     ("transfer/src/lib.rt", ["words::word(rq, at + 2)", "words::word(rq, at + 3)", "return at + 4;"], RECORD),
     ("transfer/src/lib.rt", ["exportable: 0, stage: 0, count: 0"], "a record of which three other words are looked at"),
-    ("transfer/src/lib.rt", ["const WORD_BITS: u64 = 64;"], "the bits of a word, by name here"),
+    ("transfer/src/lib.rt", ["const WORD_BITS: u64 = 64;", "(v % 64)"], BITS),
     ("transfer/src/lib.rt", ["(seen >> k) % 2"], HALF),
     ("wellformed/src/lib.rt", ["let _ = words::word(s, 0);"], "any word: what it holds is not used"),
-    ("words/src/lib.rt", ["if x < 0xffff_ffff_ffff_ffff { x + 1 }"], ALL_ONES),
 ]
 EXCEPTIONS = [(f"crates/{file}", text, reason) for file, texts, reason in EXCUSED for text in texts]
 OPERATORS = {"==", "!=", "<", ">", "<=", ">="}
@@ -121,10 +125,10 @@ def blank(text):
 
 
 def code_of(text):
-    """A source without its comments, strings and contracts; its lines stay."""
+    """A source without its comments and strings, in two parts: its code and its contracts; the lines of both stay."""
     text = re.sub(r'//[^\n]*|b?"(?:[^"\\]|\\.)*"|b?\'(?:[^\'\\]|\\.)\'', lambda m: blank(m.group(0)), text)
     text = re.sub(r"\bghost use\b[^;]*;", lambda m: blank(m.group(0)), text)
-    out, at = "", 0
+    code, said, at = "", "", 0
     for found in re.finditer(r"\b(?:ensures|requires)\b[^{}]*\{", text):
         if found.start() < at:
             continue
@@ -132,15 +136,16 @@ def code_of(text):
         while depth and end < len(text):
             depth += {"{": 1, "}": -1}.get(text[end], 0)
             end += 1
-        out += text[at : found.start()] + blank(text[found.start() : end])
+        code += text[at : found.start()] + blank(text[found.start() : end])
+        said += blank(text[at : found.start()]) + text[found.start() : end]
         at = end
-    return out + text[at:]
+    return code + text[at:], said
 
 
 @functools.cache
-def tokens_of(text):
+def tokens_of(text, part=0):
     out, line, at = [], 1, 0
-    code = code_of(text)
+    code = code_of(text)[part]
     for m in TOKEN.finditer(code):
         line += code.count("\n", at, m.start())
         at = m.start()
@@ -180,9 +185,7 @@ class Function:
         self.field, self.bits, self.cases = None, set(), {p for p in params if p in CASE_PARTS}
 
 
-class Call:
-    def __init__(self, target, args, at, inside):
-        self.target, self.args, self.at, self.inside = target, args, at, inside
+Call = collections.namedtuple("Call", "target args at inside")
 
 
 class Source:
@@ -190,7 +193,7 @@ class Source:
 
     def __init__(self, file, text):
         self.file, self.crate = file, file.split("/")[1]
-        self.tokens = tokens_of(text)
+        self.tokens, self.contracts = tokens_of(text), tokens_of(text, 1)
         self.closing = ends(self.tokens)
         self.opening = {end: start for start, end in self.closing.items()}
         self.functions, self.calls = [], []
@@ -383,12 +386,12 @@ class Look:
             return places[0] if len(places) == 1 and t[places[0]].kind == "number" else None
 
         def numerals(places):
-            return [p for p in places if t[p].kind == "number" and t[p - 1].text != "."]
+            return [p for p in places if t[p].kind == "number" and t[p - 1].text != "." and t[p].value != HIGHEST]
 
         def index(places):
             for p in numerals(places):
                 if t[p - 1].text != "-":
-                    fault(p, "e", "in an index of the state's words")
+                    fault(p, "d", "in an index of the state's words")
 
         for call in source.calls:
             crate, name, target = call.target
@@ -405,6 +408,9 @@ class Look:
                 elif not passed and not (self.field_of(source, call) in self.names["field"]):
                     for p in numerals(given) or given[:1]:
                         fault(p, "a", f"the field argument of {name}")
+                record, field = RECORDS.get((target.crate, name)), self.field_of(source, call)
+                if record and field and field.split("_")[0] != record:
+                    fault(given[-1], "a", f"the field argument of {name}: no field of its record")
                 if name in ("load", "save") and target.crate == "layout":
                     for p in numerals(call.args[target.params.index("k")]):
                         fault(p, "a", f"the region of {name}")
@@ -433,6 +439,10 @@ class Look:
         for at, token in enumerate(t):
             if token.text in CASE_PARTS and at + 3 < len(t) and t[at + 1].text == ":" and t[at + 2].kind == "number" and t[at + 3].text in (",", "}"):
                 fault(at + 2, "b", f"given to {token.text}")
+            if token.text == "const":
+                value = range(*(next(p for p in range(at, len(t)) if t[p].text == sign) for sign in ("=", ";")))
+                for p in numerals(value) if not any(re.fullmatch("[A-Z][A-Z_0-9]+", x) for x in source.text(value)) else ():
+                    fault(p, "f", "in a constant outside the tables")
             if token.text == "match":
                 body = at + 1
                 while t[body].text != "{":
@@ -447,34 +457,33 @@ class Look:
                 if ".." not in source.text(inner):
                     index(inner)
         for p in numerals(range(len(t))):
-            if t[p].value in SIZES:
-                fault(p, "d", "a size or a limit of crates/layout's size.rt")
-            elif t[p].value > 1:
-                fault(p, "f", "a numeral above 1")
+            if t[p].value > 1:
+                fault(p, "e", "a numeral above 1")
+        out = {t[p]: what for p, what in out.items()}
+        said = [Token("sign", ";", 0), *source.contracts, Token("sign", ";", 0)]
+        for before, token, after in zip(said, said[1:], said[2:]):
+            if token.kind == "number" and 1 < token.value < HIGHEST and before.text not in (".", "^") and after.text != "^":
+                out[token] = ("g", "a numeral above 1 in a contract")
         return out
 
     def run(self, exceptions):
         """The faults that no exception excuses, how many numerals were looked at, and how many are excused."""
         found, looked, excused = [], 0, 0
-        sources = {s.file: s for s in self.sources}
-        spared = {}
+        files = {source.file: source for source in self.sources if source.file not in TABLES}
+        spared = {file: set() for file in files}
+        faults = {file: self.faults(source) for file, source in files.items()}
         for file, text, _ in exceptions:
-            wanted = [t.text for t in tokens_of(text)]
-            have = [t.text for t in sources[file].tokens] if file in sources else []
-            spared.setdefault(file, []).append((text, {p for at in range(len(have) - len(wanted) + 1) if have[at : at + len(wanted)] == wanted for p in range(at, at + len(wanted))}))
-        for source in self.sources:
-            if source.file in TABLES:
-                continue
-            looked += sum(t.kind == "number" and before.text != "." for t, before in zip(source.tokens[1:], source.tokens))
-            faults = self.faults(source)
-            over = set()
-            for text, places in spared.pop(source.file, []):
-                over |= places
-                if not places & faults.keys():
-                    found.append((source.file, 0, text, "-", "an exception that excuses nothing"))
-            excused += len(over & faults.keys())
-            found += [(source.file, source.tokens[at].line, source.tokens[at].text, *what) for at, what in sorted(faults.items()) if at not in over]
-        found += [(file, 0, text, "-", "an exception for no file") for file, texts in spared.items() for text, _ in texts]
+            wanted, over = [t.text for t in tokens_of(text)], set()
+            for tokens in (files[file].tokens, files[file].contracts) if file in files else ():
+                have = [t.text for t in tokens]
+                over |= {t for at in range(len(have) - len(wanted) + 1) if have[at : at + len(wanted)] == wanted for t in tokens[at : at + len(wanted)]}
+            if not over & faults.get(file, {}).keys():
+                found.append((file, 0, text, "-", "an exception that excuses nothing"))
+            spared.setdefault(file, set()).update(over)
+        for file, source in files.items():
+            looked += sum(t.kind == "number" and before.text != "." for tokens in (source.tokens, source.contracts) for t, before in zip(tokens[1:], tokens))
+            excused += len(spared[file] & faults[file].keys())
+            found += [(file, t.line, t.text, *what) for t, what in sorted(faults[file].items(), key=lambda x: x[0].line) if t not in spared[file]]
         return found, looked, excused
 
 
@@ -494,16 +503,23 @@ WRONG = [
     ("crates/request/src/lib.rt", "if op == format::op::OP_PUBLISH {\n        return records_end", "if op == 8 {\n        return records_end", "b", "8"),
     ("crates/serve/src/lib.rt", "op::OP_NEW_OBJECT => serve_new_object", "1 => serve_new_object", "c", "1"),
     ("crates/serve/src/lib.rt", "op::OP_TRIM => serve_trim", "6 => serve_trim", "c", "6"),
-    ("crates/teardown/src/lib.rt", "if words::eq(tag, value::TAG_OCCUPIED) {", "if words::eq(k % 64, 1) {", "d", "64"),
-    ("crates/transfer/src/lib.rt", "(rows.low + (x * size::ROW_BLOCKS + j + 1) * size::BLOCK_SIZE)", "(rows.low + (x * 65 + j + 1) * size::BLOCK_SIZE)", "d", "65"),
-    ("crates/layout/src/lib.rt", "s[at + place::SLOT_GENERATION]", "s[at + 1]", "e", "1"),
-    ("crates/layout/src/lib.rt", "words::word(s, place::ROOT_TABLES)", "words::word(s, 1)", "e", "1"),
-    ("crates/book/src/lib.rt", "let half = n / 2;", "let half = n / 3;", "f", "3"),
+    ("crates/teardown/src/lib.rt", "if words::eq(tag, value::TAG_OCCUPIED) {", "if words::eq(k % 64, 1) {", "e", "64"),
+    ("crates/transfer/src/lib.rt", "(rows.low + (x * size::ROW_BLOCKS + j + 1) * size::BLOCK_SIZE)", "(rows.low + (x * 65 + j + 1) * size::BLOCK_SIZE)", "e", "65"),
+    ("crates/layout/src/lib.rt", "s[at + place::SLOT_GENERATION]", "s[at + 1]", "d", "1"),
+    ("crates/layout/src/lib.rt", "words::word(s, place::ROOT_TABLES)", "words::word(s, 1)", "d", "1"),
+    ("crates/book/src/lib.rt", "let half = n / 2;", "let half = n / 3;", "e", "3"),
+    ("crates/head/src/lib.rt", "layout::put_head(s, sh, b, field::HEAD_CURSOR, h.cursor);", "layout::put_head(s, sh, b, field::ROOT_OBJECTS, h.cursor);", "a", "ROOT_OBJECTS"),
+    ("crates/storage/src/lib.rt", "// Into the page of a link; through 0 nothing.", "const ZERO: u64 = 0;", "f", "0"),
+    ("crates/teardown/src/lib.rt", "sh b lifeRetired 0", "sh b 2 0", "g", "2"),
+    ("crates/transfer/src/lib.rt", "words::eq(route, value::ROUTE_BUFFERED)", "words::eq(route, 0)", "b", "0"),
+    ("crates/format/src/lib.rt", "op::OP_TRIM => maps::MUST[op::OP_TRIM as usize],", "6 => maps::MUST[op::OP_TRIM as usize],", "c", "6"),
+    ("crates/format/src/lib.rt", "op::OP_TRIM => maps::MAY[op::OP_TRIM as usize],", "op::OP_TRIM => maps::MAY[6],", "e", "6"),
+    ("crates/format/src/lib.rt", "word <= size::ROUTE_LAST", "word <= 2", "e", "2"),
 ]
 PLAIN = """// 64 of 65
 pub fn f(t: HandleValue, s: &mut [u64]) -> u64
-    requires { ⌜ length (now s) ≡ { 384 } ⌝ }
-    ensures words { λ r. ⌜ r ≡ 64 ⌝ }
+    requires { ⌜ length (now s) < { 2 ^ 64 } ⌝ }
+    ensures words { λ r. ⌜ r ≡ s .2 .0 ⌝ }
 {
     let two = "64"; // 63
     s[0..1].len() as u64 + t.0 + u64::MAX
@@ -517,24 +533,18 @@ def main():
     found, looked, excused = look.run(EXCEPTIONS)
     lost = []
     for line in ACCESSORS.splitlines():
-        crate, names = line.split(": ")
+        crate, names = line.split()[0].strip(":"), line.split(": ")[1]
         lost += [f"{crate}::{name} has no field argument" for name in names.split() if not ((f := look.known.get((crate, name))) and (f.field is not None or f.bits))]
-    rounds, turn = {}, {}
-    for wrong in WRONG:
-        rounds.setdefault(turn.get(wrong[0], 0), []).append(wrong)
-        turn[wrong[0]] = turn.get(wrong[0], 0) + 1
-    for lines in rounds.values():
-        changed = {**texts, "crates/words/src/plain.rt": PLAIN}
-        for file, old, new, _, _ in lines:
-            if texts.get(file, "").count(old) != 1:
-                lost.append(f"'{old}' stands {texts.get(file, '').count(old)} times in {file}: a wrong line cannot be made")
-            changed[file] = texts.get(file, "").replace(old, new)
-        told = Look(changed).run(EXCEPTIONS)[0]
-        for file, _, new, letter, numeral in lines:
-            before, after = (sum(f[0] == file and f[3] == letter and f[2] == numeral for f in those) for those in (found, told))
-            if after != before + 1:
-                lost.append(f"the wrong line '{new}' of {file} is not found")
-        lost += [f"PLAIN has no fault, but {f} is found" for f in told if f[0] == "crates/words/src/plain.rt"]
+    changed = {**texts, "crates/words/src/plain.rt": PLAIN}
+    for file, old, new, _, _ in WRONG:
+        if changed.get(file, "").count(old) != 1:
+            lost.append(f"'{old}' stands {changed.get(file, '').count(old)} times in {file}: a wrong line cannot be made")
+        changed[file] = changed.get(file, "").replace(old, new)
+    told = collections.Counter((file, letter, text) for file, _, text, letter, _ in Look(changed).run(EXCEPTIONS)[0])
+    told.subtract((file, letter, text) for file, _, text, letter, _ in found)
+    wanted = collections.Counter((file, letter, numeral) for file, _, _, letter, numeral in WRONG)
+    lost += [f"{file}: of the wrong lines with {text} ({letter}), {told[file, letter, text]} of {n} are found" for (file, letter, text), n in wanted.items() if told[file, letter, text] != n]
+    lost += [f"PLAIN has no fault, but {text} ({letter}) is found" for file, letter, text in told if file == "crates/words/src/plain.rt"]
     gone = look.run([*EXCEPTIONS, ("crates/words/src/lib.rt", "x + 64", "none")])[0]
     if len(gone) != len(found) + 1:
         lost.append("an exception that excuses nothing is not found")
