@@ -94,7 +94,6 @@ EXCUSED = [
     ("request/src/lib.rt", ["bit < 64"], BITS),
     ("request/src/lib.rt", ["const NARROW: u64 = 251_456;"], "the map of the fields that do not take every word, by name here"),
     ("reserve/src/lib.rt", ["answer_put(out, base, (j + 3) as usize, v.0)", "base 3 (valuesAt"], ANSWER),
-    ("runner/src/lib.rt", ["base += 72;"], "an answer's words, format's ANSWER_PLACES"),
     ("runner/src/lib.rt", ["called 20"], DOCUMENT_01),
     ("lookup/src/lib.rt", ["tag: 0,"], NO_FRAME),
     ("storage/src/lib.rt", ["tag: 0,"], NO_FRAME),

@@ -98,7 +98,8 @@ fn idle_ok(s: &[u64], sh: Shape, first: u64, o: u64) -> bool
     ensures { λ r. ⌜ r ≡ idleB (loadAt (now (s .entry)) sh) o ⌝ }
 {
     let at = (first + o * size::OBJECT_SIZE + field::OBJECT_ACTIVE) as usize;
-    if s[at] != 0 {
+    let count = s[at];
+    if count != 0 {
         return false;
     }
     object_ok(s, sh, first, o)

@@ -39,7 +39,7 @@ fn run_all(s: &mut [u64], sh: Shape, rq: &[u64], n: u64, out: &mut [u64])
     while 0 < left {
         run_one(s, sh, rq, at, out, base);
         at = request::next_request(rq, at);
-        base += 72;
+        base += format::size::ANSWER_PLACES;
         left -= 1;
     }
 }
