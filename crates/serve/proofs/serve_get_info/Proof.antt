@@ -16,7 +16,7 @@ same-length : tie.Need-same-length
 same-length c = search needs
 
 same-length-2 : tie.Need-same-length-2
-same-length-2 c = search needs
+same-length-2 c = c .before .out .given
 
 returns : tie.Need-returns
 returns c = three-read (λ x y z. getInfoR (c .before .before .before .before .before .before .before .before .before .args .s .now) (c .before .before .before .before .before .before .before .before .before .args .out .now) (c .before .before .before .before .before .before .before .before .before .args .sh) (c .before .before .before .before .before .before .before .before .before .args .base) x y) _ _ _ _ _ _ (c .before .before .before .before .before .read-three .ensures) (cc)

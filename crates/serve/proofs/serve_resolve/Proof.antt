@@ -22,7 +22,7 @@ same-length : tie.Need-same-length
 same-length c = search needs
 
 same-length-2 : tie.Need-same-length-2
-same-length-2 c = search needs
+same-length-2 c = c .before .out .given
 
 returns : tie.Need-returns
 returns c = three-read (λ x y z. resolveR (c .before .before .before .before .before .before .before .before .before .before .args .s .now) (c .before .before .before .before .before .before .before .before .before .before .args .out .now) (c .before .before .before .before .before .before .before .before .before .before .args .sh) (c .before .before .before .before .before .before .before .before .before .before .args .base) x y z (must (fieldsAt (c .before .before .before .before .before .before .before .before .before .before .args .rq .now) (c .before .before .before .before .before .before .before .before .before .before .args .at)) kindField)) _ _ _ _ _ _ (c .before .before .before .before .before .before .read-three .ensures) (three-read (λ x y z. resolveR (c .before .before .before .before .before .before .before .before .before .before .args .s .now) (c .before .before .before .before .before .before .before .before .before .before .args .out .now) (c .before .before .before .before .before .before .before .before .before .before .args .sh) (c .before .before .before .before .before .before .before .before .before .before .args .base) (c .before .before .before .before .before .before .read-three .result .a) (c .before .before .before .before .before .before .read-three .result .b) (c .before .before .before .before .before .before .read-three .result .c) x) _ _ _ _ _ _ (c .before .before .before .before .before .read-three2 .ensures) (c .before .before .resolve .ensures))
