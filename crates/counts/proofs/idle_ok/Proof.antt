@@ -1,5 +1,6 @@
 use Rattle.counts.specs.Used.{idle-no, idle-is}
 use Rattle.counts.specs.Shift.{object-load}
+use Rattle.layout.specs.Fields.{objectActive}
 use Rattle.layout.specs.Layout.{load}
 use native.Mathlib.Omega.{arith}
 use mathlib.Core.Path.{refl}
@@ -22,25 +23,25 @@ add-at c = search needs
 add-at-2 : tie.Need-add-at-2
 add-at-2 c = search needs
 
--- src/lib.rt:101:8
-mul-if1 : tie.Need-mul-if1
-mul-if1 c = search needs
+-- src/lib.rt:101:17
+mul-count : tie.Need-mul-count
+mul-count c = search needs
 
--- src/lib.rt:101:8
-shared-slice-read-if1 : tie.Need-shared-slice-read-if1
-shared-slice-read-if1 c = search needs
+-- src/lib.rt:101:17
+shared-slice-read-count : tie.Need-shared-slice-read-count
+shared-slice-read-count c = search needs
 
--- src/lib.rt:102:9
+-- src/lib.rt:103:9
 returns : tie.Need-returns
-returns c = idle-no (load (c .before .before .before .args .s .now) (c .before .before .before .args .sh)) (c .before .before .before .args .o) _ (object-load (c .before .before .before .args .s .now) (c .before .before .before .args .sh) (c .before .before .before .args .first) (c .before .before .before .args .o) (c .before .before .before .pre .0 .0) (c .before .before .before .pre .0 .1) _ 6 (omega arith) refl) (c .if1 .taken)
+returns c = idle-no (load (c .before .before .before .args .s .now) (c .before .before .before .args .sh)) (c .before .before .before .args .o) _ (object-load (c .before .before .before .args .s .now) (c .before .before .before .args .sh) (c .before .before .before .args .first) (c .before .before .before .args .o) (c .before .before .before .pre .0 .0) (c .before .before .before .pre .0 .1) _ objectActive (omega arith) refl) (c .if1 .taken)
 
--- src/lib.rt:104:5
+-- src/lib.rt:105:5
 object-ok-requires : tie.Need-object-ok-requires
 object-ok-requires c κs = c .before .before .before .pre
 
 -- src/lib.rt:95:1
 returns-2 : tie.Need-returns-2
-returns-2 c = idle-is (load (c .before .before .before .before .args .s .now) (c .before .before .before .before .args .sh)) (c .before .before .before .before .args .o) _ _ (object-load (c .before .before .before .before .args .s .now) (c .before .before .before .before .args .sh) (c .before .before .before .before .args .first) (c .before .before .before .before .args .o) (c .before .before .before .before .pre .0 .0) (c .before .before .before .before .pre .0 .1) _ 6 (omega arith) refl) (c .before .if1 .left) (c .object-ok .ensures)
+returns-2 c = idle-is (load (c .before .before .before .before .args .s .now) (c .before .before .before .before .args .sh)) (c .before .before .before .before .args .o) _ _ (object-load (c .before .before .before .before .args .s .now) (c .before .before .before .before .args .sh) (c .before .before .before .before .args .first) (c .before .before .before .before .args .o) (c .before .before .before .before .pre .0 .0) (c .before .before .before .before .pre .0 .1) _ objectActive (omega arith) refl) (c .before .if1 .left) (c .object-ok .ensures)
 
 pub idle-ok-spec : {M : Type 1} → statement M
 idle-ok-spec =
@@ -49,8 +50,8 @@ idle-ok-spec =
     mul-at
     add-at
     add-at-2
-    mul-if1
-    shared-slice-read-if1
+    mul-count
+    shared-slice-read-count
     returns
     object-ok-requires
     returns-2)
