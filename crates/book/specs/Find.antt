@@ -8,7 +8,7 @@ use lib.Dec.{eqb, ltb}
 use borrow.Author.Tests.{eq-eqb, eqb-true, eqb-false, ltb-true, ltb-false}
 use Rattle.words.specs.Pick.{bool}
 use Rattle.model.specs.Base.{nth}
-use Rattle.model.specs.State.{till, Body, Row, State}
+use Rattle.model.specs.State.{Sizes, Body, Row, State}
 use Rattle.model.specs.Book.{find}
 use Rattle.model.specs.WellFormed.{IdsRise, WellFormed}
 use Rattle.model.specs.Tests.{nth-some}
@@ -28,7 +28,7 @@ pub record Fits (s : State) : Type 0 where
   pub room : length (s .book .rows) ≤ s .book .capacity
   pub rise : IdsRise 1 (s .book .rows) (s .book .next)
 
-pub fits-of : (s : State) → WellFormed till s → Fits s
+pub fits-of : {z : Sizes} (s : State) → WellFormed z s → Fits s
 fits-of s w = record { room = w .ranges .rowCount; rise = w .ids .rise }
 
 -- the row with the id i stands in place x

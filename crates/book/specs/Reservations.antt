@@ -12,7 +12,7 @@ use borrow.Author.Tests.{ltb-true, ltb-false}
 use Rattle.words.specs.Pick.{bool, clash}
 use Rattle.codec.specs.Codec.{nextGeneration}
 use Rattle.model.specs.Base.{nth, occurs, pick}
-use Rattle.model.specs.State.{till, Slot.vacant, Table, Body.reservation, State, generation, isBusy}
+use Rattle.model.specs.State.{Sizes, till, Slot.vacant, Table, Body.reservation, State, generation, isBusy}
 use Rattle.model.specs.Storage.{vacateAll}
 use Rattle.model.specs.Change.{withTable}
 use Rattle.model.specs.Book.{dropRow, swapRow}
@@ -37,8 +37,8 @@ use Rattle.book.specs.Fades.{named-fades, fits-table}
 use Rattle.book.specs.Vacated.{Follows, part, items-vacated, with-table-at}
 
 -- a slot that fell vacant has no mark
-vacated-bare : (ks : List ℕ) (t : Table) (k : ℕ) → occurs k ks ≤ 1 → 0 < occurs k ks → isMarked (vacateAll till ks t .slots k) ≡ false
-vacated-bare ks t k once h = ap isMarked (vacateAll-slots till ks t k once ∙ ap (λ (v : Bool). pick v (vacant (nextGeneration (generation (t .slots k)))) (t .slots k)) (member-in k ks h))
+vacated-bare : (z : Sizes) (ks : List ℕ) (t : Table) (k : ℕ) → occurs k ks ≤ 1 → 0 < occurs k ks → isMarked (vacateAll z ks t .slots k) ≡ false
+vacated-bare z ks t k once h = ap isMarked (vacateAll-slots z ks t k once ∙ ap (λ (v : Bool). pick v (vacant (nextGeneration (generation (t .slots k)))) (t .slots k)) (member-in k ks h))
 
 module _ (ws : List ℕ) (sh : Shape) (s : State) (h : Held ws sh s) (w : WellFormed till s) (x i b : ℕ) (ks : List ℕ) (a : RowAt (load ws sh) s x i (reservation b ks)) where
   fits : Fits s
@@ -69,7 +69,7 @@ module _ (ws : List ℕ) (sh : Shape) (s : State) (h : Held ws sh s) (w : WellFo
       = subst (λ (l : List ℕ). Follows (load ws sh) s (vacateItemsW ws sh b x 0 (length ks)) sh (withTable s b (vacateAll till l (s .tables b))) x i (reservation b ks)) e (vacated 0 (length ks) (omega arith)) in
       close-held (vacateItemsW ws sh b x 0 (length ks)) sh (withTable s b (vacateAll till ks (s .tables b))) (p .held) (fits-table s b (vacateAll till ks (s .tables b)) fits) x i (reservation b ks) (p .row)
       (unnamed (load (vacateItemsW ws sh b x 0 (length ks)) sh) (withTable s b (vacateAll till ks (s .tables b))) x b (λ k j. nth ks j ≡ some k) (named (vacateItemsW ws sh b x 0 (length ks)) (withTable s b (vacateAll till ks (s .tables b))) p)
-      (λ k j d. ap (λ (t : Table). isMarked (t .slots k)) (with-table-at s b (vacateAll till ks (s .tables b))) ∙ vacated-bare ks (s .tables b) k (once k) (nth-occurs ks j k d)))
+      (λ k j d. ap (λ (t : Table). isMarked (t .slots k)) (with-table-at s b (vacateAll till ks (s .tables b))) ∙ vacated-bare till ks (s .tables b) k (once k) (nth-occurs ks j k d)))
 
   -- TRIM to n slots
   pub trim-held : (n : ℕ) → n ≤ length ks
@@ -85,6 +85,6 @@ module _ (ws : List ℕ) (sh : Shape) (s : State) (h : Held ws sh s) (w : WellFo
       (λ c. ltb-true (slotWord (load ws′ sh) d k slotPosition) n c)
       (λ c. let z : n + (slotWord (load ws′ sh) d k slotPosition - n) ≡ slotWord (load ws′ sh) d k slotPosition = omega (arith, ltb-false (slotWord (load ws′ sh) d k slotPosition) n c) in
       let o : 0 < occurs k (drop n ks) = nth-occurs (drop n ks) (slotWord (load ws′ sh) d k slotPosition - n) k (nth-drop n ks (slotWord (load ws′ sh) d k slotPosition - n) ∙ ap (nth ks) z ∙ q .1) in
-      let bare : isMarked (vacateAll till (drop n ks) (s .tables b) .slots k) ≡ false = vacated-bare (drop n ks) (s .tables b) k (omega (arith, occurs-drop n ks k, once k)) o in
+      let bare : isMarked (vacateAll till (drop n ks) (s .tables b) .slots k) ≡ false = vacated-bare till (drop n ks) (s .tables b) k (omega (arith, occurs-drop n ks k, once k)) o in
       let mk′ : isMarked (withTable s b (vacateAll till (drop n ks) (s .tables b)) .tables b .slots k) ≡ true = ap (λ (v : ℕ). isMarked (withTable s b (vacateAll till (drop n ks) (s .tables b)) .tables v .slots k)) (sym (q .0)) ∙ mk in
       clash mk′ (ap (λ (t : Table). isMarked (t .slots k)) (with-table-at s b (vacateAll till (drop n ks) (s .tables b))) ∙ bare)))

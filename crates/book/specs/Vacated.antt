@@ -1,7 +1,7 @@
 -- A reservation's slots fall vacant one after the other, and then the row leaves or shrinks: abort and trim. Assumes nothing.
 use mathlib.Core.Path.{_≡_, refl, sym, ap, _∙_, fun-ext, subst}
 use mathlib.Core.Bool.{true}
-use mathlib.Core.List.{List, [], _∷_, _++_}
+use mathlib.Core.List.{List}
 use mathlib.Core.Option.{some}
 use Prim.Native.Nat.{ℕ, zero, suc, _+_, _≤_, _<_}
 use native.Mathlib.Omega.{arith}
@@ -10,11 +10,11 @@ use lib.Dec.{eqb}
 use borrow.Author.Tests.{eq-eqb, eqb-true}
 use Rattle.words.specs.Pick.{bool}
 use Rattle.model.specs.Base.{put, nth, occurs}
-use Rattle.model.specs.State.{till, Table, Body, Body.reservation, State, isBusy}
+use Rattle.model.specs.State.{Sizes, till, Table, Body, Body.reservation, State, isBusy}
 use Rattle.model.specs.Storage.{vacate, vacateAll}
 use Rattle.model.specs.Change.{withTable}
 use Rattle.model.specs.Tests.{nth-some, put-put}
-use Rattle.invariant.specs.Pointwise.{vacateAll-out}
+use Rattle.invariant.specs.Pointwise.{vacateAll-more, vacateAll-out}
 use Rattle.layout.specs.declared.Shape.{Shape}
 use Rattle.layout.specs.Layout.{Mem, item, load}
 use Rattle.layout.specs.Fields.{itemSlot}
@@ -39,10 +39,6 @@ with-over s b t u = ap (λ (f : ℕ → Table). record { tableCount = s .tableCo
 
 pub with-table-at : (s : State) (b : ℕ) (t : Table) → withTable s b t .tables b ≡ t
 with-table-at s b t = rw (eq-eqb b b refl)
-
-vacateAll-more : (ks : List ℕ) (k : ℕ) (t : Table) → vacateAll till (ks ++ (k ∷ [])) t ≡ vacate till (vacateAll till ks t) k
-vacateAll-more [] k t = refl
-vacateAll-more (j ∷ ks) k t = vacateAll-more ks k (vacate till t j)
 
 -- words that represent s, where the row stands in place x and no mark is new since m and u
 pub record Follows (m : Mem) (u : State) (ws : List ℕ) (sh : Shape) (s : State) (x i : ℕ) (y : Body) : Type 0 where
@@ -75,13 +71,13 @@ module _ (m : Mem) (u : State) (ws : List ℕ) (sh : Shape) (s : State) (x i : �
 abbrev pub part : ℕ → ℕ → List ℕ → List ℕ
 part from n ks = take n (drop from ks)
 
-part-more : (from n : ℕ) (ks : List ℕ) (t : Table) (k : ℕ) → nth ks (from + n) ≡ some k → vacate till (vacateAll till (part from n ks) t) k ≡ vacateAll till (part from (suc n) ks) t
-part-more from n ks t k e = sym (ap (λ (l : List ℕ). vacateAll till l t) (take-more n (drop from ks) k (nth-drop from ks n ∙ e)) ∙ vacateAll-more (part from n ks) k t)
+part-more : (z : Sizes) (from n : ℕ) (ks : List ℕ) (t : Table) (k : ℕ) → nth ks (from + n) ≡ some k → vacate z (vacateAll z (part from n ks) t) k ≡ vacateAll z (part from (suc n) ks) t
+part-more z from n ks t k e = sym (ap (λ (l : List ℕ). vacateAll z l t) (take-more n (drop from ks) k (nth-drop from ks n ∙ e)) ∙ vacateAll-more z (part from n ks) k t)
 
-part-busy : (from n : ℕ) (ks : List ℕ) (t : Table) (k : ℕ) → nth ks (from + n) ≡ some k → occurs k ks ≤ 1 → isBusy (t .slots k) ≡ true → isBusy (vacateAll till (part from n ks) t .slots k) ≡ true
-part-busy from n ks t k e once was =
+part-busy : (z : Sizes) (from n : ℕ) (ks : List ℕ) (t : Table) (k : ℕ) → nth ks (from + n) ≡ some k → occurs k ks ≤ 1 → isBusy (t .slots k) ≡ true → isBusy (vacateAll z (part from n ks) t .slots k) ≡ true
+part-busy z from n ks t k e once was =
     let out : occurs k (part from n ks) ≡ 0 = occurs-before n (drop from ks) k (nth-drop from ks n ∙ e) (omega (arith, occurs-drop from ks k)) in
-    ap isBusy (vacateAll-out till (part from n ks) t k out) ∙ was
+    ap isBusy (vacateAll-out z (part from n ks) t k out) ∙ was
 
 module _ (ws : List ℕ) (sh : Shape) (s : State) (h : Held ws sh s) (x i b : ℕ) (ks : List ℕ) (a : RowAt (load ws sh) s x i (reservation b ks)) (l : b < s .tableCount)
     (once : (k : ℕ) → occurs k ks ≤ 1) (busy : (j k : ℕ) → nth ks j ≡ some k → isBusy (s .tables b .slots k) ≡ true) (from : ℕ) where
@@ -100,6 +96,6 @@ module _ (ws : List ℕ) (sh : Shape) (s : State) (h : Held ws sh s) (x i b : �
       go vs q p =
           let d : load vs sh (item x (from + n) itemSlot) ≡ q .0 = item-of (λ j k. load vs sh (item x j itemSlot) ≡ k) ks (p .row .body .3) (from + n) (q .0) (q .1) in
           subst (λ (z : ℕ). After (vacateW vs sh b z) (vacateAll till (part from (suc n) ks) (s .tables b))) (sym d)
-          (subst (λ (v : Table). After (vacateW vs sh b (q .0)) v) (part-more from n ks (s .tables b) (q .0) (q .1))
+          (subst (λ (v : Table). After (vacateW vs sh b (q .0)) v) (part-more till from n ks (s .tables b) (q .0) (q .1))
           (vacate-step (load ws sh) s vs sh s x i (reservation b ks) b (vacateAll till (part from n ks) (s .tables b)) p l (q .0)
-          (part-busy from n ks (s .tables b) (q .0) (q .1) (once (q .0)) (busy (from + n) (q .0) (q .1)))))
+          (part-busy till from n ks (s .tables b) (q .0) (q .1) (once (q .0)) (busy (from + n) (q .0) (q .1)))))

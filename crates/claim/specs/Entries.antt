@@ -8,16 +8,15 @@ use native.Mathlib.Omega.{arith}
 use lib.ListN.{length}
 use borrow.Author.Tests.{ne-eqb}
 use Rattle.model.specs.Base.{occurs}
-use Rattle.model.specs.State.{till, Handle, Slot.occupied, Table, Entry, Entry.moved, Entry.copied, State, isBusy}
+use Rattle.model.specs.State.{Sizes, till, Handle, Slot.occupied, Table, Entry, Entry.moved, Entry.copied, State, isBusy}
 use Rattle.model.specs.Storage.{keep, vacate, vacateAll}
 use Rattle.model.specs.Change.{withTable, withObjects}
 use Rattle.model.specs.Objects.{lower, change, release}
 use Rattle.model.specs.Book.{movedOf, copiesOf, sentOf}
 use Rattle.model.specs.Step.{fillAll, restoreAll}
 use Rattle.model.specs.Counting.{bit-same}
-use Rattle.invariant.specs.Pointwise.{vacateAll-out}
+use Rattle.invariant.specs.Pointwise.{keep-busy, vacateAll-out}
 use Rattle.invariant.specs.StorageState.{InRange}
-use Rattle.invariant.specs.StorageViews.{fillAll-busy}
 use Rattle.layout.specs.declared.Shape.{Shape}
 use Rattle.layout.specs.Layout.{Mem, item, load}
 use Rattle.layout.specs.Fields.{itemSlot, itemObject, itemFlags}
@@ -95,14 +94,14 @@ abbrev pub Busy : Table → List ℕ → Type 0
 Busy t ks = (k : ℕ) → 0 < occurs k ks → isBusy (t .slots k) ≡ true
 
 -- they are while another is occupied
-busy-kept : (t : Table) (k : ℕ) (h : Handle) (ks : List ℕ) → Busy t (k ∷ ks) → Busy (keep till (λ g. occupied g h) t k) ks
-busy-kept t k h ks p i o = fillAll-busy till (k ∷ []) (h ∷ []) t i (p i (omega arith))
+busy-kept : (z : Sizes) (t : Table) (k : ℕ) (h : Handle) (ks : List ℕ) → Busy t (k ∷ ks) → Busy (keep z (λ g. occupied g h) t k) ks
+busy-kept z t k h ks p i o = keep-busy z (λ g. occupied g h) (λ g. refl) t k i (p i (omega arith))
 
 -- or another falls vacant
-busy-left : (t : Table) (k : ℕ) (ks : List ℕ) → occurs k (k ∷ ks) ≤ 1 → Busy t (k ∷ ks) → Busy (vacate till t k) ks
-busy-left t k ks once p i o =
+busy-left : (z : Sizes) (t : Table) (k : ℕ) (ks : List ℕ) → occurs k (k ∷ ks) ≤ 1 → Busy t (k ∷ ks) → Busy (vacate z t k) ks
+busy-left z t k ks once p i o =
     let other : i ≡ k → ⊥ = λ e. let q : occurs i ks ≡ occurs k ks = ap (λ (v : ℕ). occurs v ks) e in omega (arith, bit-same k k refl) in
-    ap isBusy (vacateAll-out till (k ∷ []) t i (rw (ne-eqb i k other))) ∙ p i (omega arith)
+    ap isBusy (vacateAll-out z (k ∷ []) t i (rw (ne-eqb i k other))) ∙ p i (omega arith)
 
 -- ---- THE ENTRIES ARE UNDONE
 
@@ -121,7 +120,7 @@ module _ (sh : Shape) (b x : ℕ) where
       let u : Table = keep till (λ n. occupied n g) (s .tables b) k in
       let v : List ℕ = occupyW ws sh b k (g .object) (g .rights) (g .flags) in
       let one = occupy-keeps sh ws s h b l k g (busy k (occurs-head k (movedOf es))) in
-      let rest = undone-keeps es v (withTable s b u) (suc j) (one .held) l (rw (table-at s b u) (busy-kept (s .tables b) k g (movedOf es) busy)) known
+      let rest = undone-keeps es v (withTable s b u) (suc j) (one .held) l (rw (table-at s b u) (busy-kept till (s .tables b) k g (movedOf es) busy)) known
       (entries-kept (load ws sh) (load v sh) x (one .items x) (suc j) es (its .1)) in
       rw (each-more undo ws v j (length es) (undo-moved ws sh b x j k g r (its .0)))
       (keeps-then sh ws s v (withTable s b u) (each undo v (suc j) (length es)) (release (withTable s b (restoreAll till es u)) (copiesOf es)) one
@@ -148,7 +147,7 @@ module _ (sh : Shape) (b x : ℕ) where
       let u : Table = vacate till (s .tables b) k in
       let v : List ℕ = vacateW ws sh b k in
       let one = vacate-keeps sh ws s h b l k (busy k (occurs-head k (movedOf es))) in
-      let rest = left-keeps es v (withTable s b u) (suc j) (one .held) l (rw (table-at s b u) (busy-left (s .tables b) k (movedOf es) (once k) busy)) (λ i. omega (arith, once i))
+      let rest = left-keeps es v (withTable s b u) (suc j) (one .held) l (rw (table-at s b u) (busy-left till (s .tables b) k (movedOf es) (once k) busy)) (λ i. omega (arith, once i))
       (entries-kept (load ws sh) (load v sh) x (one .items x) (suc j) es (its .1)) in
       rw (each-more leave ws v j (length es) (leave-moved ws sh b x j k g r (its .0)))
       (keeps-then sh ws s v (withTable s b u) (each leave v (suc j) (length es)) (withTable s b (vacateAll till (movedOf es) u)) one
@@ -172,7 +171,7 @@ module _ (sh : Shape) (c y x : ℕ) where
       let u : Table = keep till (λ n. occupied n (sentOf e)) (s .tables c) k in
       let v : List ℕ = occupyW ws sh c k (sentOf e .object) (sentOf e .rights) (sentOf e .flags) in
       let one = occupy-keeps sh ws s h c l k (sentOf e) (busy k (occurs-head k ks)) in
-      let rest = filled-keeps es ks v (withTable s c u) (suc j) (one .held) l (rw (table-at s c u) (busy-kept (s .tables c) k (sentOf e) ks busy)) (omega arith)
+      let rest = filled-keeps es ks v (withTable s c u) (suc j) (one .held) l (rw (table-at s c u) (busy-kept till (s .tables c) k (sentOf e) ks busy)) (omega arith)
       (slots-kept (load ws sh) (load v sh) y (one .items y) (suc j) ks (slots .1)) (entries-kept (load ws sh) (load v sh) x (one .items x) (suc j) es (its .1)) in
       rw (each-more fill ws v j (length es) (fill-entry ws sh c y x j k e (slots .0) (its .0)))
       (keeps-then sh ws s v (withTable s c u) (each fill v (suc j) (length es)) (withTable s c (fillAll till ks (map sentOf es) u)) one

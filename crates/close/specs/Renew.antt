@@ -9,15 +9,15 @@ use lib.Dec.{eqb}
 use borrow.Author.Tests.{eqb-true, eqb-false, eq-eqb, ne-eqb}
 use Rattle.words.specs.Pick.{bool, clash}
 use Rattle.codec.specs.Codec.{generationLimit}
-use Rattle.model.specs.Base.{put, occurs, isSome}
+use Rattle.model.specs.Base.{occurs, isSome}
 use Rattle.model.specs.State.{till, Handle, Slot, Slot.occupied, Table, State, generation, isBusy, isVacant, isOccupied}
-use Rattle.model.specs.Storage.{busyOf, place}
+use Rattle.model.specs.Storage.{place}
 use Rattle.model.specs.Change.{withTable}
 use Rattle.model.specs.Objects.{withRights}
 use Rattle.model.specs.Tests.{and-false, put-same, put-other}
 use Rattle.invariant.specs.Pointwise.{place-alike, place-slots}
-use Rattle.invariant.specs.Pages.{till-sane, busy-there, busy-vacant, busy-other}
-use Rattle.invariant.specs.Orders.{Sound, attached-below, attached-of, place-busy}
+use Rattle.invariant.specs.Pages.{till-sane, busy-there, busy-vacant, busy-same}
+use Rattle.invariant.specs.Orders.{Sound, attached-below, attached-of, place-good}
 use Rattle.layout.specs.declared.Shape.{Shape}
 use Rattle.layout.specs.Layout.{Mem, head, entry, load, save, writes}
 use Rattle.layout.specs.Fields.{headPages, headFirstFree, headFirstEntry, entryHigh, slotTag, slotGeneration, slotNextFree, slotPreviousFree, slotObject, slotRights, slotFlags}
@@ -78,9 +78,6 @@ module _ (m : Mem) (v : Spot → ℕ) (t : Table) (z : Seen m v t) (o : Sound ti
   free-other i q e = let d : i ≡ k = omega arith in
       let y : isVacant (t .slots i) ≡ false = rw d (busy-vacant (t .slots k) busy₀) in clash (free-vacant t o i q) y
 
-  busy-same : (p : ℕ) → busyOf till (put (t .slots) k (occupied g (withRights x r))) p ≡ busyOf till (t .slots) p
-  busy-same p = busy-other till till-sane (put (t .slots) k (occupied g (withRights x r))) (t .slots) p (λ i e l. bool (eqb i k) (λ d. rw (d, eqb-true i k d, busy₀)) (λ d. rw d))
-
   renew-others : (i f : ℕ) → (i ≡ k → ⊥) → renewV v k g r (sl i f) ≡ v (sl i f)
   renew-others i f n = rw (ne-eqb (suc k) (suc i) (λ y. n (omega arith)), and-false (eqb f 1), and-false (eqb f 3))
 
@@ -96,7 +93,7 @@ module _ (m : Mem) (v : Spot → ℕ) (t : Table) (z : Seen m v t) (o : Sound ti
     high = λ p l. bool (eqb p (k / pageSize))
         (λ e. rw (e, eqb-true p (k / pageSize) e, eq-eqb (suc (k / pageSize)) (suc (k / pageSize)) refl, z .high (k / pageSize) under))
         (λ e. rw (e, ne-eqb (suc (k / pageSize)) (suc p) (λ y. eqb-false p (k / pageSize) e (omega arith))) (z .high p l));
-    busy = λ p l a. z .busy p l (sym (ap isSome (place-alike till t k (occupied g (withRights x r)) .frame p)) ∙ a) ∙ sym (busy-same p);
+    busy = λ p l a. z .busy p l (sym (ap isSome (place-alike till t k (occupied g (withRights x r)) .frame p)) ∙ a) ∙ sym (busy-same till till-sane (t .slots) k (occupied g (withRights x r)) busy₀ refl p);
     slots = λ i. bool (eqb i k)
         (λ e. rw (e, eqb-true i k e, eq-eqb (suc k) (suc k) refl)
         (renewed-slot m (frameV v k) (v (sl k slotTag)) (v (sl k slotGeneration)) (v (sl k slotObject)) (v (sl k slotRights)) (v (sl k slotFlags)) g₀ x (z .slots k ∙ was) g r))
@@ -163,11 +160,6 @@ module _ (ws : List ℕ) (sh : Shape) (b : ℕ) (t : Table) (ready : Ready ws sh
 
 -- ---- the state
 
-renew-sound : (t : Table) (k : ℕ) (y : Slot) → Sound till t (t .free) → isBusy (t .slots k) ≡ true → isBusy y ≡ true → (1 ≤ generation y) × (generation y ≤ generationLimit)
-    → Sound till (place till t k y) (place till t k y .free)
-unfolding place
-renew-sound t k y o was now g = place-busy till till-sane t (t .free) k y o was now g
-
 -- RENEW, in the state: for any generation in range
 pub renew-held : (ws : List ℕ) (sh : Shape) (s : State) → Held ws sh s → (b : ℕ) → b < s .tableCount → (k g₀ : ℕ) (x : Handle) → s .tables b .slots k ≡ occupied g₀ x
     → (g r : ℕ) → (1 ≤ g) × (g ≤ generationLimit) → Held (renewW ws sh b k g r) sh (withTable s b (place till (s .tables b) k (occupied g (withRights x r))))
@@ -175,7 +167,7 @@ renew-held ws sh s h b l k g₀ x was g r good =
     let t : Table = s .tables b in
     let y : Slot = occupied g (withRights x r) in
     turned ws (renewW ws sh b k g r) sh s h b l k _ (place till t k y) (renew-turns ws sh b t (ready-of ws sh s h b l) k g₀ x was g r) (place-alike till t k y)
-    (renew-sound t k y (h .placed .sound b l) (ap isBusy was) refl good)
+    (place-good till till-sane t k y (h .placed .sound b l) (ap isBusy was) refl good)
     (λ i n. ap (λ (f : ℕ → Slot). f i) (place-slots till t k y) ∙ put-other (t .slots) k y i n)
     (λ e. clash (sym (ap isMarked (ap (λ (f : ℕ → Slot). f k) (place-slots till t k y) ∙ put-same (t .slots) k y)) ∙ e) refl)
 

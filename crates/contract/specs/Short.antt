@@ -1,4 +1,4 @@
--- An answer has at most 72 words. Assumes nothing.
+-- An answer has at most 72 words, for any page size and any scan of at most 8 entries. Assumes nothing.
 use mathlib.Core.Path.{_≡_, refl, ap}
 use mathlib.Core.Bool.{true, not}
 use mathlib.Core.List.{List, [], _∷_, map}
@@ -10,7 +10,7 @@ use borrow.Author.Tests.{ltb-false, not-true}
 use Rattle.words.specs.Pick.{bool}
 use Rattle.authority.specs.Rights.{contains, duplicateRight}
 use Rattle.model.specs.Base.{atMost, isSome}
-use Rattle.model.specs.State.{till, Handle, Slot, Table, State, isActive, isOccupied, knownFlags, maxBatch}
+use Rattle.model.specs.State.{Sizes, till, Handle, Slot, Table, State, isActive, isOccupied, knownFlags, maxBatch}
 use Rattle.model.specs.Storage.{pagesFor, Walk, walk, lengthOf, grow}
 use Rattle.model.specs.Objects.{isNowActive, isNowRetired}
 use Rattle.model.specs.Book.{find, freeRow, idLeft, anyOpen, copiesOf}
@@ -42,24 +42,24 @@ walk-most f k (suc n) (suc e) = bool (isOccupied (f k))
     (λ b. rw b (let h = walk-most f (suc k) n e in omega (arith, h)))
     (λ b. rw b (walk-most f (suc k) n (suc e)))
 
-batch-short : (s : State) (b n : ℕ) (ps : List ℕ) → atMost n maxBatch ≡ true
-    → Short (batch (s .book .next) (map (valueAt (grow till ps (s .frames) (s .tables b))) (take n (grow till ps (s .frames) (s .tables b) .free))))
+batch-short : (z : Sizes) (s : State) (b n : ℕ) (ps : List ℕ) → atMost n maxBatch ≡ true
+    → Short (batch (s .book .next) (map (valueAt (grow z ps (s .frames) (s .tables b))) (take n (grow z ps (s .frames) (s .tables b) .free))))
 unfolding usedWords maxBatch
-batch-short s b n ps few =
-    let u : Table = grow till ps (s .frames) (s .tables b) in
+batch-short z s b n ps few =
+    let u : Table = grow z ps (s .frames) (s .tables b) in
     let l : n ≤ batchMax = ltb-false batchMax n (not-true (ltb batchMax n) few) in
     omega (arith, map-length (valueAt u) (take n (u .free)), take-most n (u .free), l)
 
-scan-short : (s : State) (b c : ℕ) → Short (scanned (snapshotPage till s (s .tables b) c))
+scan-short : (z : Sizes) → z .scanEntries ≤ till .scanEntries → (s : State) (b c : ℕ) → Short (scanned (snapshotPage z s (s .tables b) c))
 unfolding usedWords
-scan-short s b c =
+scan-short z fits s b c =
     let t : Table = s .tables b in
-    let start : ℕ = min c (lengthOf till t) in
-    let w : Walk = walk (t .slots) start (min 256 (lengthOf till t - start)) 8 in
-    omega (arith, entry-words (map (snapshotAt s t) (w .found)), map-length (snapshotAt s t) (w .found), walk-most (t .slots) start (min 256 (lengthOf till t - start)) 8)
+    let start : ℕ = min c (lengthOf z t) in
+    let w : Walk = walk (t .slots) start (min (z .scanSlots) (lengthOf z t - start)) (z .scanEntries) in
+    omega (arith, entry-words (map (snapshotAt s t) (w .found)), map-length (snapshotAt s t) (w .found), walk-most (t .slots) start (min (z .scanSlots) (lengthOf z t - start)) (z .scanEntries))
 
-module _ (s : State) where
-  pub decide-short : (r : Request) → Decided Any Any (λ u a. Short a) (decide till s r)
+module _ (z : Sizes) (fits : z .scanEntries ≤ till .scanEntries) (s : State) where
+  pub decide-short : (r : Request) → Decided Any Any (λ u a. Short a) (decide z s r)
   unfolding decide newObjectOf duplicateOf releaseParcelOf retireObjectOf reserveOf trimOf abortOf publishOf getInfoOf resolveOf replaceOf closeOf scanHandlesOf prepareTransferOf prepareConsumptionOf rollbackOf commitOf directCommitOf directRollbackOf removeStoppingOwnerOf teardownStartOf teardownStepOf teardownFinishOf takeEmptyPageOf usedWords
   decide-short (newObject o r f) =
       checked (ltb o (s .objectCount)) 18 tt λ e.
@@ -94,11 +94,11 @@ module _ (s : State) where
       checked (isActive (s .tables b .life)) 16 tt λ e.
       checked (ltb 0 n) 17 tt λ e.
       checked (atMost n maxBatch) 13 tt λ few.
-      with-some (pagesFor till (s .tables b) n) 15 tt λ ps e.
+      with-some (pagesFor z (s .tables b) n) 15 tt λ ps e.
       checked (atMost (length ps) (length (s .frames))) 1 tt λ e.
       checked (freeRow s) 1 tt λ e.
       checked (idLeft s) 12 tt λ e.
-      accepts (batch-short s b n ps few)
+      accepts (batch-short z s b n ps few)
   decide-short (trim i n) =
       with-reservation (find i (s .book .rows)) tt λ b ks e.
       checked (ltb 0 n) 18 tt λ e.
@@ -131,7 +131,7 @@ module _ (s : State) where
   decide-short (scanHandles b c) =
       checked (ltb b (s .tableCount)) 18 tt λ e.
       checked (isActive (s .tables b .life)) 16 tt λ e.
-      accepts (scan-short s b c)
+      accepts (scan-short z fits s b c)
   decide-short (prepareTransfer b route o k qs) =
       let t : Table = s .tables b in
       let hs : List Handle = copiesOf (map (entryFor t) qs) in
@@ -173,7 +173,7 @@ module _ (s : State) where
   decide-short (removeStoppingOwner b c) =
       let t : Table = s .tables b in
       checked (ltb b (s .tableCount)) 18 tt λ e.
-      either-way (isActive (t .life)) (λ a. found-or (removeAt till s b t) (nextOccupied till t c) (accepts (omega arith)) λ k e. accepts (omega arith)) (accepts (omega arith))
+      either-way (isActive (t .life)) (λ a. found-or (removeAt z s b t) (nextOccupied z t c) (accepts (omega arith)) λ k e. accepts (omega arith)) (accepts (omega arith))
   decide-short (teardownStart b) =
       checked (ltb b (s .tableCount)) 18 tt λ e.
       checked (isActive (s .tables b .life)) 16 tt λ e.
@@ -183,23 +183,23 @@ module _ (s : State) where
       let t : Table = s .tables b in
       checked (ltb b (s .tableCount)) 18 tt λ e.
       while-tearing (t .life) tt λ c e.
-      found-or (tearAt till s b t) (nextOccupied till t c) (accepts (omega arith)) λ k e. accepts (omega arith)
+      found-or (tearAt z s b t) (nextOccupied z t c) (accepts (omega arith)) λ k e. accepts (omega arith)
   decide-short (teardownFinish b) =
       let t : Table = s .tables b in
       checked (ltb b (s .tableCount)) 18 tt λ e.
       while-tearing (t .life) tt λ c e.
-      checked (not (isSome (nextOccupied till t 0))) 18 tt λ e.
+      checked (not (isSome (nextOccupied z t 0))) 18 tt λ e.
       accepts (omega arith)
   decide-short (takeEmptyPage b) =
       let t : Table = s .tables b in
       checked (ltb b (s .tableCount)) 18 tt λ e.
-      either-way (isActive (t .life)) (λ a. first-or (takeAt till s b t) (t .empty) (accepts (omega arith)) λ p ps e. accepts (omega arith)) (accepts (omega arith))
+      either-way (isActive (t .life)) (λ a. first-or (takeAt z s b t) (t .empty) (accepts (omega arith)) λ p ps e. accepts (omega arith)) (accepts (omega arith))
 
-  pub step-short : (r : Request) → Short (step till s r .1)
+  pub step-short : (r : Request) → Short (step z s r .1)
   unfolding step usedWords
-  step-short r = go (decide till s r) (decide-short r)
+  step-short r = go (decide z s r) (decide-short r)
     where
-      go : (d : Decision) → Decided Any Any (λ u a. Short a) d → Short (carry till s d .1)
+      go : (d : Decision) → Decided Any Any (λ u a. Short a) d → Short (carry z s d .1)
       go (refusal n) p = omega arith
       go (refusalAfterId n) p = omega arith
       go (accept u a) p = p .leaves

@@ -11,7 +11,7 @@ use lib.Dec.{eqb, ltb}
 use borrow.Author.Tests.{eqb-true, eqb-false, ltb-true}
 use Rattle.words.specs.Pick.{bool}
 use Rattle.model.specs.Base.{bit, occurs, insert, put, sum}
-use Rattle.model.specs.State.{Table, State}
+use Rattle.model.specs.State.{till, Table, State}
 use Rattle.model.specs.WellFormed.{Rising, pagesWith, Frames}
 use Rattle.model.specs.Tests.{apart, bit-true, bit-small}
 use Rattle.model.specs.Sums.{sum-put}
@@ -88,7 +88,7 @@ module _ (m n : Mem) (s : State) (b p f : ℕ) (u : Table) (firsts : (c : ℕ) �
       old c q g i = t .owners g (λ (z : g ≡ f). let y : m (owner g) ≡ m (owner f) = ap (λ (x : ℕ). m (owner x)) z in omega (arith, free)) ∙ i ∙ ap suc (sym (entry-same c q))
 
   -- PAGE p LOSES ITS FRAME f
-  pub framesAre-given : (sh : Shape) → Represents sh m s → Placed s → b < s .tableCount → p < s .tables b .size → s .tables b .pages p .frame ≡ some f → length (s .frames) ≤ framesMax
+  pub framesAre-given : (sh : Shape) → Represents sh m s → Placed till s → b < s .tableCount → p < s .tables b .size → s .tables b .pages p .frame ≡ some f → length (s .frames) ≤ framesMax
       → Pooled up m n f 0 → u .pages p .frame ≡ none → u .size ≡ s .tables b .size → FramesAre n (paged s b u (insert f (s .frames)))
   framesAre-given sh r pl lb lp was small t now size = frames-of n (paged s b u (insert f (s .frames)))
       (give-counted m n (s .frameCount) f 0 (s .frames) (counted-of m s (r .frames)) small t)

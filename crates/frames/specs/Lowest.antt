@@ -10,7 +10,7 @@ use lib.Dec.{ltb}
 use borrow.Author.Tests.{eq-eqb, ne-eqb, eqb-true, lt-ltb}
 use Rattle.words.specs.Pick.{clash}
 use Rattle.model.specs.Base.{bit, occurs, sum, isSome}
-use Rattle.model.specs.State.{till, State}
+use Rattle.model.specs.State.{Sizes, State}
 use Rattle.model.specs.WellFormed.{Rising, isFrame, Frames}
 use Rattle.model.specs.Sums.{sum-zero}
 use Rattle.model.specs.Tests.{bit-true}
@@ -73,12 +73,12 @@ frame-some : (x : Option ℕ) (f : ℕ) → isFrame x f ≡ true → x ≡ some 
 frame-some none f e = clash e refl
 frame-some (some g) f e = ap some (sym (eqb-true f g e))
 
-module _ (m : Mem) (s : State) (r : FramesAre m s) (pl : Placed s) where
+module _ {z : Sizes} (m : Mem) (s : State) (r : FramesAre m s) (pl : Placed z s) where
   -- a frame that a page has has an owner
   page-owner : (f b p : ℕ) → b < s .tableCount → isFrame (s .tables b .pages p .frame) f ≡ true → 0 < m (owner f)
   page-owner f b p l h =
       let e : s .tables b .pages p .frame ≡ some f = frame-some (s .tables b .pages p .frame) f h in
-      omega (arith, r .held b p f l (attached-below till (s .tables b) (s .tables b .free) (pl .sound b l) p (ap isSome {x = s .tables b .pages p .frame} e)) e)
+      omega (arith, r .held b p f l (attached-below z (s .tables b) (s .tables b .free) (pl .sound b l) p (ap isSome {x = s .tables b .pages p .frame} e)) e)
 
   -- so has every frame that is not free
   pub owned-of : Frames s → (f : ℕ) → f < s .frameCount → occurs f (s .frames) ≡ 0 → 0 < m (owner f)

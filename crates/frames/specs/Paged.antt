@@ -5,7 +5,7 @@ use Prim.Native.Nat.{ℕ, suc, _+_, _-_, _≤_, _<_}
 use native.Mathlib.Omega.{arith}
 use Rattle.words.specs.Pick.{bool}
 use Rattle.model.specs.Base.{occurs}
-use Rattle.model.specs.State.{State}
+use Rattle.model.specs.State.{till, State}
 use Rattle.model.specs.Counting.{sum-next, runs-apart}
 use Rattle.layout.specs.declared.Shape.{Shape}
 use Rattle.layout.specs.Layout.{Addr, Addr.reg, Mem, root, head, entry, owner, cell, same, same-is, Write.at, upd}
@@ -88,7 +88,7 @@ table-paged b fr m n s t = paged-table b fr m m (λ a i. refl) n t s (λ x h. in
 
 -- ---- runs of entries do not meet
 
-module _ (sh : Shape) (m : Mem) (s : State) (r : Represents sh m s) (pl : Placed s) where
+module _ (sh : Shape) (m : Mem) (s : State) (r : Represents sh m s) (pl : Placed till s) where
   -- entries below the limits
   pub entries-apart : (b c p q : ℕ) → b < s .tableCount → c < s .tableCount → p < s .tables b .limit → q < s .tables c .limit → entryAt m b p ≡ entryAt m c q → b ≡ c
   entries-apart b c p q l k h i e = runs-apart (λ x. s .tables x .limit) b c p q h i (omega (arith, r .first b l, r .first c k))
@@ -115,14 +115,14 @@ abbrev pub Alone : Mem → State → ℕ → ℕ → Type 0
 Alone m s b fr = (c : ℕ) → c < s .tableCount → Has m c fr → c ≡ b
 
 -- a free frame
-pub free-alone : (sh : Shape) (m : Mem) (s : State) (r : Represents sh m s) → Placed s → (b fr : ℕ) → 0 < occurs fr (s .frames) → Alone m s b fr
+pub free-alone : (sh : Shape) (m : Mem) (s : State) (r : Represents sh m s) → Placed till s → (b fr : ℕ) → 0 < occurs fr (s .frames) → Alone m s b fr
 free-alone sh m s r pl b fr h c l i = absurd (omega (arith, r .frames .free fr h, has-owner sh m s r pl c fr l i))
 
 -- a frame of table b
-pub own-alone : (sh : Shape) (m : Mem) (s : State) (r : Represents sh m s) → Placed s → (b fr : ℕ) → b < s .tableCount → Has m b fr → Alone m s b fr
+pub own-alone : (sh : Shape) (m : Mem) (s : State) (r : Represents sh m s) → Placed till s → (b fr : ℕ) → b < s .tableCount → Has m b fr → Alone m s b fr
 own-alone sh m s r pl b fr l h c k i = has-apart sh m s r pl c b fr k l i h
 
-module _ (sh : Shape) (m : Mem) (s : State) (r : Represents sh m s) (pl : Placed s) (b : ℕ) (lb : b < s .tableCount) (fr : ℕ) (alone : Alone m s b fr)
+module _ (sh : Shape) (m : Mem) (s : State) (r : Represents sh m s) (pl : Placed till s) (b : ℕ) (lb : b < s .tableCount) (fr : ℕ) (alone : Alone m s b fr)
     (n : Mem) (o : OnlyPaged b fr m n) where
   module _ (c : ℕ) (lc : c < s .tableCount) (ne : c ≡ b → ⊥) where
     -- its words stay

@@ -10,7 +10,7 @@ use lib.Dec.{eqb}
 use borrow.Author.Tests.{eqb-true, eqb-false}
 use Rattle.words.specs.Pick.{bool}
 use Rattle.model.specs.Base.{put}
-use Rattle.model.specs.State.{till, Table, State}
+use Rattle.model.specs.State.{Sizes, till, Table, State}
 use Rattle.model.specs.Change.{withTable, withFrames}
 use Rattle.model.specs.Sums.{sum-equal}
 use Rattle.invariant.specs.Orders.{Sound}
@@ -33,7 +33,7 @@ paged-mark b fr m n o s k = mark-kept m n (paged-rows b fr m n o) s b k
 abbrev pub paged : State → ℕ → Table → List ℕ → State
 paged s b u fs = withFrames (withTable s b u) fs
 
-module _ (sh : Shape) (m : Mem) (s : State) (r : Represents sh m s) (pl : Placed s) (b : ℕ) (lb : b < s .tableCount) (fr : ℕ) (alone : Alone m s b fr)
+module _ (sh : Shape) (m : Mem) (s : State) (r : Represents sh m s) (pl : Placed till s) (b : ℕ) (lb : b < s .tableCount) (fr : ℕ) (alone : Alone m s b fr)
     (n : Mem) (o : OnlyPaged b fr m n) (u : Table) (now : TableIs n b u) (lim : u .limit ≡ s .tables b .limit) where
   -- THE STATE WITH THE TABLE AND THE FREE FRAMES: the marks of table b are the operation's to show
   pub with-paged : (fs : List ℕ) → FramesAre n (paged s b u fs) → ((k : ℕ) → isMarked (u .slots k) ≡ true → MarkIs n s b k) → Represents sh n (paged s b u fs)
@@ -67,8 +67,8 @@ module _ (sh : Shape) (m : Mem) (s : State) (r : Represents sh m s) (pl : Placed
       paged-mark b fr m n o s k (q .1) (q .2) (q .3) (r .book .marks b k lb (q .0)))
 
 -- a change of one table whose pages are in frames that there are
-pub placed-paged : (s : State) (b : ℕ) (u : Table) (fs : List ℕ) → Placed s → Sound till u (u .free)
-    → ((p f : ℕ) → p < u .size → u .pages p .frame ≡ some f → f < s .frameCount) → Placed (paged s b u fs)
+pub placed-paged : {z : Sizes} (s : State) (b : ℕ) (u : Table) (fs : List ℕ) → Placed z s → Sound z u (u .free)
+    → ((p f : ℕ) → p < u .size → u .pages p .frame ≡ some f → f < s .frameCount) → Placed z (paged s b u fs)
 placed-paged s b u fs p o h = record {
   sound = λ c l. bool (eqb c b) (λ e. rw e o) (λ e. rw e (p .sound c l));
   frames = λ c q f l i e. bool (eqb c b)
@@ -79,7 +79,7 @@ placed-paged s b u fs p o h = record {
 -- WORDS that represent a state come to represent the state with the table and the free frames
 module _ (ws ws′ : List ℕ) (sh : Shape) (s : State) (h : Held ws sh s) (b : ℕ) (lb : b < s .tableCount) (fr : ℕ) (alone : Alone (load ws sh) s b fr)
     (long : length ws′ ≡ length ws) (o : OnlyPaged b fr (load ws sh) (load ws′ sh)) (u : Table) (now : TableIs (load ws′ sh) b u) (lim : u .limit ≡ s .tables b .limit)
-    (fs : List ℕ) (frames : FramesAre (load ws′ sh) (paged s b u fs)) (pl : Placed (paged s b u fs)) where
+    (fs : List ℕ) (frames : FramesAre (load ws′ sh) (paged s b u fs)) (pl : Placed till (paged s b u fs)) where
   held-by : Represents sh (load ws′ sh) (paged s b u fs) → Held ws′ sh (paged s b u fs)
   held-by i = record {
     reps = record {

@@ -132,7 +132,7 @@ module _ (ws : List ℕ) (sh : Shape) (s : State) (h : Held ws sh s) (b : ℕ) (
       (λ q n k. below (load ws sh) (look (load ws sh) b) (look (mJoined (load ws sh) b p f) b) (s .tables b) seen (h .placed .sound b l) p f room ds turn
       (joined-is ws sh b (s .tables b) p f ripe) q n k)
 
-  placed : Placed (paged s b (attach till (s .tables b) p f) fs)
+  placed : Placed till (paged s b (attach till (s .tables b) p f) fs)
   placed = placed-paged s b (attach till (s .tables b) p f) fs (h .placed)
       (order-is till (attach till (s .tables b) p f) _ (attach till (s .tables b) p f .free) (sym (attach-free till (s .tables b) p f)) (attach-sound till till-sane (s .tables b) (s .tables b .free) p f (h .placed .sound b l) room))
       (λ q g k e. in-range q g k e)

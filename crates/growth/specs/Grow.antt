@@ -11,14 +11,14 @@ use lib.Dec.{eqb, ltb}
 use borrow.Author.Tests.{ne-eqb, eqb-true, le-ltb}
 use Rattle.words.specs.Pick.{bool}
 use Rattle.model.specs.Base.{put, bit, occurs, without}
-use Rattle.model.specs.State.{till, Table, State, maxBatch}
+use Rattle.model.specs.State.{Sizes, till, Table, State, maxBatch}
 use Rattle.model.specs.Storage.{slotsOf, pagesFrom, pagesFor, attach, attachAll, grow, advance}
 use Rattle.model.specs.Change.{withTable, withFrames}
 use Rattle.model.specs.WellFormed.{isAttached, Frames}
 use Rattle.model.specs.Tests.{apart, bit-small, same, also-some}
 use Rattle.model.specs.Sums.{without-none}
 use Rattle.model.specs.Bounds.{pages-max, batch-max}
-use Rattle.invariant.specs.Pages.{till-sane}
+use Rattle.invariant.specs.Pages.{Sane, till-sane}
 use Rattle.invariant.specs.Orders.{Sound, Room, attach-sound}
 use Rattle.invariant.specs.Frames.{Grows, pages-grow, reserve-length, attachAll-owned}
 use Rattle.layout.specs.declared.Shape.{Shape}
@@ -43,43 +43,48 @@ abbrev pub nextPage : List ℕ → ℕ → ℕ
 nextPage [] n = n
 nextPage (d ∷ ds) n = d
 
-abbrev pub Follows : Table → List ℕ → Type 0
-Follows t [] = Unit {0}
-Follows t (p ∷ ps) = (p ≡ nextPage (t .detached) (t .size)) × Room t p × ((f : ℕ) → Follows (attach till t p f) ps)
+abbrev pub Follows : Sizes → Table → List ℕ → Type 0
+Follows z t [] = Unit {0}
+Follows z t (p ∷ ps) = (p ≡ nextPage (t .detached) (t .size)) × Room t p × ((f : ℕ) → Follows z (attach z t p f) ps)
 
-planned : (fuel k : ℕ) (ds : List ℕ) (n l : ℕ) (t : Table) (fr : List ℕ) → Sound till t fr → t .detached ≡ ds → t .size ≡ n → t .limit ≡ l
-    → (ps : List ℕ) → pagesFrom till fuel k ds n l ≡ some ps → Grows till t ps → Follows t ps
-unfolding attach
-planned zero zero ds n l t fr o d c i ps e g = let y : ps ≡ [] = cc in rw y tt
-planned zero (suc k) ds n l t fr o d c i ps e g = apart (cc)
-planned (suc fuel) zero ds n l t fr o d c i ps e g = let y : ps ≡ [] = cc in rw y tt
-planned (suc fuel) (suc k) [] n l t fr o d c i ps e g = bool (eqb n l)
-    (λ q. let x : none ≡ some ps = rw q at e in apart (cc))
-    (λ q. let a = also-some n (pagesFrom till fuel (suc k - slotsOf till n) [] (suc n) l) ps (rw q at e) in
-    let g′ : Grows till t (n ∷ a .0) = rw (a .2) at g in
-    rw (a .2) (
-      rw (d, c),
-      g′ .0,
-      λ f. planned fuel (suc k - slotsOf till n) [] (suc n) l (attach till t n f) _ (attach-sound till till-sane t fr n f o (g′ .0)) (ap (without n) d) (rw (c, same n)) i (a .0) (a .1) (g′ .1 f),
-    ))
-planned (suc fuel) (suc k) (p ∷ ds) n l t fr o d c i ps e g =
-    let a = also-some p (pagesFrom till fuel (suc k - slotsOf till p) ds n l) ps e in
-    let g′ : Grows till t (p ∷ a .0) = rw (a .2) at g in
-    let h : 1 + occurs p ds ≡ bit (ltb p (t .size) && not (isAttached t p)) = rw (d, same p) at (o .detached p) in
-    let w : without p (t .detached) ≡ ds = rw (d, same p) (without-none p ds (omega (arith, bit-small (ltb p (t .size) && not (isAttached t p))))) in
-    let u : p ≡ t .size → ⊥ = λ y. past p (t .size) (isAttached t p) (occurs p ds) y h in
-    rw (a .2) (
-      rw d,
-      g′ .0,
-      λ f. planned fuel (suc k - slotsOf till p) ds n l (attach till t p f) _ (attach-sound till till-sane t fr p f o (g′ .0)) w (rw (ne-eqb p (t .size) u) c) i (a .0) (a .1) (g′ .1 f),
-    )
-  where
-    past : (p n : ℕ) (t : Bool) (m : ℕ) → p ≡ n → 1 + m ≡ bit (ltb p n && not t) → ⊥
-    past p n t m y h = let e : ltb p n ≡ false = le-ltb p n (omega arith) in let z : 1 + m ≡ 0 = rw e at h in omega arith
+module _ (z : Sizes) (sane : Sane z) where
+  planned : (fuel k : ℕ) (ds : List ℕ) (n l : ℕ) (t : Table) (fr : List ℕ) → Sound z t fr → t .detached ≡ ds → t .size ≡ n → t .limit ≡ l
+      → (ps : List ℕ) → pagesFrom z fuel k ds n l ≡ some ps → Grows z t ps → Follows z t ps
+  unfolding attach
+  planned zero zero ds n l t fr o d c i ps e g = let y : ps ≡ [] = cc in rw y tt
+  planned zero (suc k) ds n l t fr o d c i ps e g = apart (cc)
+  planned (suc fuel) zero ds n l t fr o d c i ps e g = let y : ps ≡ [] = cc in rw y tt
+  planned (suc fuel) (suc k) [] n l t fr o d c i ps e g = bool (eqb n l)
+      (λ q. let x : none ≡ some ps = rw q at e in apart (cc))
+      (λ q. let a = also-some n (pagesFrom z fuel (suc k - slotsOf z n) [] (suc n) l) ps (rw q at e) in
+      let g′ : Grows z t (n ∷ a .0) = rw (a .2) at g in
+      rw (a .2) (
+        rw (d, c),
+        g′ .0,
+        λ f. planned fuel (suc k - slotsOf z n) [] (suc n) l (attach z t n f) _ (attach-sound z sane t fr n f o (g′ .0)) (ap (without n) d) (rw (c, same n)) i (a .0) (a .1) (g′ .1 f),
+      ))
+  planned (suc fuel) (suc k) (p ∷ ds) n l t fr o d c i ps e g =
+      let a = also-some p (pagesFrom z fuel (suc k - slotsOf z p) ds n l) ps e in
+      let g′ : Grows z t (p ∷ a .0) = rw (a .2) at g in
+      let h : 1 + occurs p ds ≡ bit (ltb p (t .size) && not (isAttached t p)) = rw (d, same p) at (o .detached p) in
+      let w : without p (t .detached) ≡ ds = rw (d, same p) (without-none p ds (omega (arith, bit-small (ltb p (t .size) && not (isAttached t p))))) in
+      let u : p ≡ t .size → ⊥ = λ y. past p (t .size) (isAttached t p) (occurs p ds) y h in
+      rw (a .2) (
+        rw d,
+        g′ .0,
+        λ f. planned fuel (suc k - slotsOf z p) ds n l (attach z t p f) _ (attach-sound z sane t fr p f o (g′ .0)) w (rw (ne-eqb p (t .size) u) c) i (a .0) (a .1) (g′ .1 f),
+      )
+    where
+      past : (p n : ℕ) (t : Bool) (m : ℕ) → p ≡ n → 1 + m ≡ bit (ltb p n && not t) → ⊥
+      past p n t m y h = let e : ltb p n ≡ false = le-ltb p n (omega arith) in let z : 1 + m ≡ 0 = rw e at h in omega arith
 
-pub plan-follows : (t : Table) (fr : List ℕ) → Sound till t fr → (k : ℕ) (ps : List ℕ) → pagesFor till t k ≡ some ps → Follows t ps
-plan-follows t fr o k ps e = unfold pagesFor in
-    planned maxBatch (k - length (t .free)) (t .detached) (t .size) (t .limit) t fr o refl refl refl ps e (pages-grow till till-sane t fr o k ps e)
+  pub plan-follows : (t : Table) (fr : List ℕ) → Sound z t fr → (k : ℕ) (ps : List ℕ) → pagesFor z t k ≡ some ps → Follows z t ps
+  plan-follows t fr o k ps e = unfold pagesFor in
+      planned maxBatch (k - length (t .free)) (t .detached) (t .size) (t .limit) t fr o refl refl refl ps e (pages-grow z sane t fr o k ps e)
+
+  -- after growth the free order has as many slots as the batch
+  pub grow-enough : (t : Table) → Sound z t (t .free) → (k : ℕ) → k ≤ batchMax → (ps fs : List ℕ) → pagesFor z t k ≡ some ps → length ps ≤ length fs → k ≤ length (grow z ps fs t .free)
+  grow-enough t o k n ps fs e l = omega (arith, reserve-length z sane t (t .free) o k (omega (arith, batch-max)) ps fs e l, length-take k (grow z ps fs t .free))
 
 -- ---- states
 
@@ -133,9 +138,9 @@ module _ (sh : Shape) (b : ℕ) where
       let n = next-turn (s .tables b .detached) (s .tables b .size) p e in
       rw (next-is ws s h l w p f fs first room e) (attach-held ws sh s h b l w p f fs first room (n .0) (n .1))
 
-  next-frames : (s : State) → b < s .tableCount → Frames s → (p f : ℕ) (fs : List ℕ) → s .frames ≡ f ∷ fs → Room (s .tables b) p → Frames (paged s b (attach till (s .tables b) p f) fs)
-  next-frames s l w p f fs first room = frames-taken s b (attach till (s .tables b) p f) l w f fs first
-      (λ g. attachAll-owned till (p ∷ []) (f ∷ []) (s .tables b) (omega arith) (room, λ x. tt) g ∙ omega arith)
+  next-frames : (z : Sizes) (s : State) → b < s .tableCount → Frames s → (p f : ℕ) (fs : List ℕ) → s .frames ≡ f ∷ fs → Room (s .tables b) p → Frames (paged s b (attach z (s .tables b) p f) fs)
+  next-frames z s l w p f fs first room = frames-taken s b (attach z (s .tables b) p f) l w f fs first
+      (λ g. attachAll-owned z (p ∷ []) (f ∷ []) (s .tables b) (omega arith) (room, λ x. tt) g ∙ omega arith)
 
   next-kept : (ws : List ℕ) (s : State) → Held ws sh s → b < s .tableCount → Frames s → (p f : ℕ) (fs : List ℕ) → s .frames ≡ f ∷ fs → Room (s .tables b) p
       → p ≡ nextPage (s .tables b .detached) (s .tables b .size) → Kept sh ws (attachNextW ws sh b)
@@ -144,13 +149,13 @@ module _ (sh : Shape) (b : ℕ) where
       rw (next-is ws s h l w p f fs first room e) (paged-high b f (load ws sh) (load (attachW ws sh b p f) sh) (only ws sh s h b l w p f fs first room (n .0) (n .1)))
 
   -- THE PAGES of a plan
-  all-both : (ps : List ℕ) (ws : List ℕ) (s : State) → Held ws sh s → b < s .tableCount → Frames s → Follows (s .tables b) ps → length ps ≤ length (s .frames)
+  all-both : (ps : List ℕ) (ws : List ℕ) (s : State) → Held ws sh s → b < s .tableCount → Frames s → Follows till (s .tables b) ps → length ps ≤ length (s .frames)
       → Held (attachAllW ws sh b (length ps)) sh (paged s b (attachAll till ps (s .frames) (s .tables b)) (drop (length ps) (s .frames))) × Kept sh ws (attachAllW ws sh b (length ps))
   all-both [] ws s h l w g k = unfold attachAllW in (rw (paged-same s b) h, λ r x y i m. refl)
   all-both (p ∷ ps) ws s h l w g k = go (s .frames) refl (λ v u i j x y z. all-both ps v u i j x y z)
     where
       go : (fs : List ℕ) → s .frames ≡ fs
-          → ((v : List ℕ) (u : State) → Held v sh u → b < u .tableCount → Frames u → Follows (u .tables b) ps → length ps ≤ length (u .frames)
+          → ((v : List ℕ) (u : State) → Held v sh u → b < u .tableCount → Frames u → Follows till (u .tables b) ps → length ps ≤ length (u .frames)
           → Held (attachAllW v sh b (length ps)) sh (paged u b (attachAll till ps (u .frames) (u .tables b)) (drop (length ps) (u .frames))) × Kept sh v (attachAllW v sh b (length ps)))
           → Held (attachAllW ws sh b (length (p ∷ ps))) sh (paged s b (attachAll till (p ∷ ps) fs (s .tables b)) (drop (length (p ∷ ps)) fs)) × Kept sh ws (attachAllW ws sh b (length (p ∷ ps)))
       go [] e rest = absurd (omega (arith, ap length e))
@@ -160,7 +165,7 @@ module _ (sh : Shape) (b : ℕ) where
           let t₁ : s₁ .tables b ≡ u = paged-table s b u fs in
           let v : List ℕ = attachAllW (attachNextW ws sh b) sh b (length ps) in
           let i : Held v sh (paged s₁ b (attachAll till ps fs (s₁ .tables b)) (drop (length ps) fs)) × Kept sh (attachNextW ws sh b) v
-          = rest (attachNextW ws sh b) s₁ (next-held ws s h l w p f fs e (g .1) (g .0)) l (next-frames s l w p f fs e (g .1)) (rw t₁ (g .2 f)) (omega (arith, ap length e)) in
+          = rest (attachNextW ws sh b) s₁ (next-held ws s h l w p f fs e (g .1) (g .0)) l (next-frames till s l w p f fs e (g .1)) (rw t₁ (g .2 f)) (omega (arith, ap length e)) in
           let j : Held v sh (paged s₁ b (attachAll till ps fs u) (drop (length ps) fs))
           = subst (λ (x : Table). Held v sh (paged s₁ b (attachAll till ps fs x) (drop (length ps) fs))) t₁ (i .0) in
           subst (λ (x : List ℕ). Held x sh (paged s b (attachAll till ps fs u) (drop (length ps) fs)) × Kept sh ws x) (all-first ws sh b (length ps)) (
@@ -168,7 +173,7 @@ module _ (sh : Shape) (b : ℕ) where
             λ r x y m o. i .1 r x y m o ∙ next-kept ws s h l w p f fs e (g .1) (g .0) r x y m o,
           )
 
-  pub all-held : (ps : List ℕ) (ws : List ℕ) (s : State) → Held ws sh s → b < s .tableCount → Frames s → Follows (s .tables b) ps → length ps ≤ length (s .frames)
+  pub all-held : (ps : List ℕ) (ws : List ℕ) (s : State) → Held ws sh s → b < s .tableCount → Frames s → Follows till (s .tables b) ps → length ps ≤ length (s .frames)
       → Held (attachAllW ws sh b (length ps)) sh (paged s b (attachAll till ps (s .frames) (s .tables b)) (drop (length ps) (s .frames)))
   all-held ps ws s h l w g k = all-both ps ws s h l w g k .0
 
@@ -176,7 +181,7 @@ module _ (sh : Shape) (b : ℕ) where
   pub grow-held : (ws : List ℕ) (s : State) → Held ws sh s → b < s .tableCount → Frames s → (k : ℕ) (ps : List ℕ) → pagesFor till (s .tables b) k ≡ some ps → length ps ≤ length (s .frames)
       → Held (growW ws sh b (length ps)) sh (withFrames (withTable s b (grow till ps (s .frames) (s .tables b))) (drop (length ps) (s .frames)))
   unfolding growW
-  grow-held ws s h l w k ps e n = go ps (all-held ps ws s h l w (plan-follows (s .tables b) (s .tables b .free) (h .placed .sound b l) k ps e) n)
+  grow-held ws s h l w k ps e n = go ps (all-held ps ws s h l w (plan-follows till till-sane (s .tables b) (s .tables b .free) (h .placed .sound b l) k ps e) n)
     where
       go : (ps : List ℕ) → Held (attachAllW ws sh b (length ps)) sh (paged s b (attachAll till ps (s .frames) (s .tables b)) (drop (length ps) (s .frames)))
           → Held (growW ws sh b (length ps)) sh (paged s b (grow till ps (s .frames) (s .tables b)) (drop (length ps) (s .frames)))
@@ -189,7 +194,3 @@ module _ (sh : Shape) (b : ℕ) where
           let j′ : Held (advanceW (attachAllW ws sh b (length (p ∷ ps))) sh b) sh (paged (paged s b u fs) b (advance u) fs)
           = subst (λ (x : Table). Held (advanceW (attachAllW ws sh b (length (p ∷ ps))) sh b) sh (paged (paged s b u fs) b (advance x) fs)) (paged-table s b u fs) j in
           rw d (subst (λ (x : State). Held (advanceW (attachAllW ws sh b (length (p ∷ ps))) sh b) sh x) (paged-twice s b u (advance u) fs fs) j′)
-
-  -- the free order then has as many slots as the batch
-  pub grow-enough : (t : Table) → Sound till t (t .free) → (k : ℕ) → k ≤ batchMax → (ps fs : List ℕ) → pagesFor till t k ≡ some ps → length ps ≤ length fs → k ≤ length (grow till ps fs t .free)
-  grow-enough t o k n ps fs e l = omega (arith, reserve-length till till-sane t (t .free) o k (omega (arith, batch-max)) ps fs e l, length-take k (grow till ps fs t .free))

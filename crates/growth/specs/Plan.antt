@@ -9,7 +9,7 @@ use lib.Dec.{eqb, ltb}
 use borrow.Author.Tests.{ne-eqb, eqb-false, ltb-true}
 use Rattle.words.specs.Pick.{bool}
 use Rattle.model.specs.Base.{also, occurs}
-use Rattle.model.specs.State.{till, Table, maxBatch}
+use Rattle.model.specs.State.{Sizes, till, Table, maxBatch}
 use Rattle.model.specs.Storage.{slotsOf, pagesFrom, pagesFor}
 use Rattle.model.specs.Tests.{apart, same}
 use Rattle.model.specs.Create.{maxPages}
@@ -54,7 +54,7 @@ count-is m e l (suc fuel) (suc k) d n c (p ∷ ds) i a b h f =
     ∙ counted-also c p (pagesFrom till fuel (suc k - slotsOf till p) ds n l))
 
 -- a detached page is one of the table's
-detached-in : (t : Table) → Sound till t (t .free) → (p : ℕ) → 0 < occurs p (t .detached) → p < maxPages till
+detached-in : {z : Sizes} (t : Table) → Sound z t (t .free) → (p : ℕ) → 0 < occurs p (t .detached) → p < maxPages z
 detached-in t o p h = bool (ltb p (t .size))
     (λ e. omega (arith, ltb-true p (t .size) e, o .size, o .limit))
     (λ e. let z : occurs p (t .detached) ≡ 0 = rw e at (o .detached p) in absurd (omega arith))
@@ -77,15 +77,15 @@ also-short : (n p : ℕ) (x : Option (List ℕ)) → ((ps : List ℕ) → x ≡ 
 also-short n p none h ps e = apart (cc)
 also-short n p (some qs) h ps e = let y : ps ≡ p ∷ qs = cc in rw y (omega (arith, h qs refl))
 
-from-short : (fuel k : ℕ) (ds : List ℕ) (n l : ℕ) (ps : List ℕ) → pagesFrom till fuel k ds n l ≡ some ps → length ps ≤ fuel
-from-short zero zero ds n l ps e = let y : ps ≡ [] = cc in rw y (omega arith)
-from-short zero (suc k) ds n l ps e = apart (cc)
-from-short (suc fuel) zero ds n l ps e = let y : ps ≡ [] = cc in rw y (omega arith)
-from-short (suc fuel) (suc k) [] n l ps e = bool (eqb n l)
+from-short : (z : Sizes) (fuel k : ℕ) (ds : List ℕ) (n l : ℕ) (ps : List ℕ) → pagesFrom z fuel k ds n l ≡ some ps → length ps ≤ fuel
+from-short z zero zero ds n l ps e = let y : ps ≡ [] = cc in rw y (omega arith)
+from-short z zero (suc k) ds n l ps e = apart (cc)
+from-short z (suc fuel) zero ds n l ps e = let y : ps ≡ [] = cc in rw y (omega arith)
+from-short z (suc fuel) (suc k) [] n l ps e = bool (eqb n l)
     (λ t. let x : none ≡ some ps = rw t at e in apart (cc))
-    (λ t. also-short fuel n (pagesFrom till fuel (suc k - slotsOf till n) [] (suc n) l) (from-short fuel (suc k - slotsOf till n) [] (suc n) l) ps (rw t at e))
-from-short (suc fuel) (suc k) (p ∷ ds) n l ps e = also-short fuel p (pagesFrom till fuel (suc k - slotsOf till p) ds n l) (from-short fuel (suc k - slotsOf till p) ds n l) ps e
+    (λ t. also-short fuel n (pagesFrom z fuel (suc k - slotsOf z n) [] (suc n) l) (from-short z fuel (suc k - slotsOf z n) [] (suc n) l) ps (rw t at e))
+from-short z (suc fuel) (suc k) (p ∷ ds) n l ps e = also-short fuel p (pagesFrom z fuel (suc k - slotsOf z p) ds n l) (from-short z fuel (suc k - slotsOf z p) ds n l) ps e
 
-pub plan-short : (t : Table) (k : ℕ) (ps : List ℕ) → pagesFor till t k ≡ some ps → length ps ≤ batchMax
+pub plan-short : (z : Sizes) (t : Table) (k : ℕ) (ps : List ℕ) → pagesFor z t k ≡ some ps → length ps ≤ batchMax
 unfolding pagesFor maxBatch
-plan-short t k ps e = from-short batchMax (k - length (t .free)) (t .detached) (t .size) (t .limit) ps e
+plan-short z t k ps e = from-short z batchMax (k - length (t .free)) (t .detached) (t .size) (t .limit) ps e

@@ -21,8 +21,8 @@ use Rattle.model.specs.Create.{maxPages}
 use Rattle.model.specs.WellFormed.{isAttached, Generations}
 use Rattle.model.specs.Tests.{bool, clash, and-left, and-right, and-false, bit-true, same}
 use Rattle.model.specs.Sums.{occurs-push, occurs-without, occurs-dropIf}
-use Rattle.invariant.specs.Pointwise.{place-alike, place-slots, vacate-slots, takeFree-free, movedHandles, vacate-free, restoreAll-is}
-use Rattle.invariant.specs.Pointwise.{vacateAll-free, fillAll-free}
+use Rattle.invariant.specs.Pointwise.{place-alike, vacate-slots, takeFree-free, movedHandles, vacate-free, restoreAll-is}
+use Rattle.invariant.specs.Pointwise.{vacateAll-free, fillAll-free, place-free, keep-busy}
 use Rattle.invariant.specs.Pages.{Sane, busy-vacant, busy-there, vacant-there, absent-is, occurs-page, busy-other, busy-own, busy-none}
 
 -- the free order stands apart, as `fr`: between two steps of an operation the table holds another
@@ -207,9 +207,7 @@ module _ (z : Sizes) (sane : Sane z) where
         → Sound z (keepAll z f ks t) fr
     keepAll-sound [] t fr o busy = o
     keepAll-sound (k ∷ ks) t fr o busy = keepAll-sound ks (keep z f t k) fr (keep-sound t fr k o (busy k (rw (same k) (omega arith))))
-        (λ j c. rw (place-slots z t k (f (generation (t .slots k)))) (bool (eqb j k)
-        (λ e. rw (e, busyMark (generation (t .slots k))))
-        (λ e. rw e (busy j (omega arith)))))
+        (λ j c. keep-busy z f busyMark t k j (busy j (omega arith)))
 
     keepAll-taken : (ks : List ℕ) (t : Table) (fr : List ℕ) → Sound z t (ks ++ fr) → Sound z (keepAll z f ks t) fr
     keepAll-taken [] t fr o = o
@@ -232,11 +230,23 @@ module _ (z : Sizes) (sane : Sane z) where
   fillAll-sound (k ∷ ks) [] t fr o busy = o
   fillAll-sound (k ∷ ks) (h ∷ hs) t fr o busy = fillAll-sound ks hs (keep z (λ g. occupied g h) t k) fr
       (keep-sound (λ g. occupied g h) (λ g. refl) (λ g. refl) t fr k o (busy k (rw (same k) (omega arith))))
-      (λ j c. rw (place-slots z t k (occupied (generation (t .slots k)) h)) (bool (eqb j k)
-      (λ e. rw e)
-      (λ e. rw e (busy j (omega arith)))))
+      (λ j c. keep-busy z (λ g. occupied g h) (λ g. refl) t k j (busy j (omega arith)))
 
   -- with the table's own free order
+  pub place-good : (t : Table) (k : ℕ) (x : Slot) → Sound z t (t .free) → isBusy (t .slots k) ≡ true → isBusy x ≡ true
+      → (1 ≤ generation x) × (generation x ≤ generationLimit) → Sound z (place z t k x) (place z t k x .free)
+  place-good t k x o was now g = order-is z (place z t k x) (t .free) (place z t k x .free) (sym (place-free z t k x)) (place-busy t (t .free) k x o was now g)
+
+  pub keep-good : (f : ℕ → Slot) → ((g : ℕ) → isBusy (f g) ≡ true) → ((g : ℕ) → generation (f g) ≡ g) → (t : Table) (k : ℕ) → Sound z t (t .free)
+      → isBusy (t .slots k) ≡ true → Sound z (keep z f t k) (keep z f t k .free)
+  keep-good f p q t k o was = order-is z (keep z f t k) (t .free) (keep z f t k .free) (sym (place-free z t k (f (generation (t .slots k)))))
+      (keep-sound f p q t (t .free) k o was)
+
+  pub take-good : (t : Table) (k : ℕ) (ks : List ℕ) → t .free ≡ k ∷ ks → Sound z t (t .free) → (x : Slot) → isBusy x ≡ true
+      → (1 ≤ generation x) × (generation x ≤ generationLimit) → Sound z (place z (withFree t ks) k x) (place z (withFree t ks) k x .free)
+  take-good t k ks first o x now g = order-is z (place z (withFree t ks) k x) ks (place z (withFree t ks) k x .free) (sym (place-free z (withFree t ks) k x))
+      (place-taken (withFree t ks) ks k x (with-order z t (k ∷ ks) (order-is z t (t .free) (k ∷ ks) first o) ks) now g)
+
   pub vacate-good : (t : Table) (k : ℕ) → Sound z t (t .free) → isBusy (t .slots k) ≡ true → Sound z (vacate z t k) (vacate z t k .free)
   vacate-good t k o e = order-is z (vacate z t k) (k ∷ t .free) (vacate z t k .free) (sym (vacate-free z t k)) (vacate-sound t (t .free) k o e)
 

@@ -119,5 +119,9 @@ module _ (z : Sizes) (sane : Sane z) where
       (pageOf z k) k refl l in
       busyIn-put f k x (pageOf z k * z .pageSlots) (slotsOf z (pageOf z k)) (i .0) (i .1)
 
+  -- other busy contents of a busy slot
+  pub busy-same : (f : ℕ → Slot) (k : ℕ) (x : Slot) → isBusy (f k) ≡ true → isBusy x ≡ true → (p : ℕ) → busyOf z (put f k x) p ≡ busyOf z f p
+  busy-same f k x was now p = busy-other (put f k x) f p (λ j e l. bool (eqb j k) (λ d. rw (d, eqb-true j k d, was) now) (λ d. rw d))
+
   pub busy-none : (f : ℕ → Slot) (p : ℕ) → ((j : ℕ) → onPage z p j ≡ true → isBusy (f j) ≡ false) → busyOf z f p ≡ 0
   busy-none f p h = busyIn-zero f (p * z .pageSlots) (slotsOf z p) (λ j l m. h j (on-page p j l m))

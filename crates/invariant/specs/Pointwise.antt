@@ -1,16 +1,17 @@
 -- What each operation on a table shows at a slot, and the fields that it leaves alone.
 use mathlib.Core.Path.{_≡_, refl, ap, _∙_}
-use mathlib.Core.List.{List, [], _∷_}
+use mathlib.Core.Bool.{true}
+use mathlib.Core.List.{List, [], _∷_, _++_}
 use mathlib.Core.Option.{Option, none, some}
-use Prim.Native.Nat.{ℕ, _+_, _≤_}
+use Prim.Native.Nat.{ℕ, suc, _+_, _≤_}
 use native.Mathlib.Omega.{arith}
-use lib.ListN.{take, drop}
+use lib.ListN.{length, take, drop}
 use lib.Dec.{eqb}
 use borrow.Author.Tests.{eqb-true}
 use Rattle.codec.specs.Codec.{nextGeneration}
 use Rattle.model.specs.Base.{pick, put, pushAll, occurs, member, dropIf}
 use Rattle.model.specs.State.{Sizes, Handle, Slot, Slot.absent, Slot.vacant, Slot.occupied, Page, Table, Entry, Entry.moved, Entry.copied}
-use Rattle.model.specs.State.{generation}
+use Rattle.model.specs.State.{generation, isBusy}
 use Rattle.model.specs.Storage.{withFree, pageOf, raised, place, keep, keepAll, vacate, vacateAll, takeFree, attach, attachAll, grow, detach}
 use Rattle.model.specs.Storage.{onPage, pageRange}
 use Rattle.model.specs.Book.{movedOf}
@@ -57,6 +58,36 @@ module _ (z : Sizes) where
   pub vacate-free : (t : Table) (k : ℕ) → vacate z t k .free ≡ k ∷ t .free
   unfolding vacate place
   vacate-free t k = refl
+
+  -- busy contents for one slot leave every busy slot busy
+  pub keep-busy : (f : ℕ → Slot) → ((g : ℕ) → isBusy (f g) ≡ true) → (t : Table) (k j : ℕ) → isBusy (t .slots j) ≡ true
+      → isBusy (keep z f t k .slots j) ≡ true
+  keep-busy f h t k j e = rw (place-slots t k (f (generation (t .slots k)))) (bool (eqb j k) (λ q. rw (q, h (generation (t .slots k)))) (λ q. rw q e))
+
+  -- one slot more
+  pub vacateAll-more : (ks : List ℕ) (k : ℕ) (t : Table) → vacateAll z (ks ++ (k ∷ [])) t ≡ vacate z (vacateAll z ks t) k
+  vacateAll-more [] k t = refl
+  vacateAll-more (j ∷ ks) k t = vacateAll-more ks k (vacate z t j)
+
+  pub takeFree-none : (f : ℕ → Slot) (t : Table) → takeFree z 0 f t ≡ t
+  unfolding takeFree
+  takeFree-none f t = refl
+
+  pub takeFree-more : (n : ℕ) (f : ℕ → Slot) (t : Table) (k : ℕ) (l : List ℕ) → t .free ≡ k ∷ l
+      → takeFree z (suc n) f t ≡ takeFree z n f (keep z f (withFree t l) k)
+  unfolding takeFree place
+  takeFree-more n f t k l e = rw e
+
+  pub fillAll-none : (ks : List ℕ) (t : Table) → fillAll z ks [] t ≡ t
+  fillAll-none [] t = refl
+  fillAll-none (k ∷ ks) t = refl
+
+  pub fillAll-append : (ks : List ℕ) (gs hs : List Handle) (t : Table)
+      → fillAll z (drop (length gs) ks) hs (fillAll z ks gs t) ≡ fillAll z ks (gs ++ hs) t
+  fillAll-append [] [] hs t = refl
+  fillAll-append [] (g ∷ gs) hs t = refl
+  fillAll-append (k ∷ ks) [] hs t = refl
+  fillAll-append (k ∷ ks) (g ∷ gs) hs t = fillAll-append ks gs hs (keep z (λ n. occupied n g) t k)
 
   -- what an operation leaves alone: limit, mask, life, epoch, size, the detached order and the pages' frames
   pub record Alike (t u : Table) : Type 0 where

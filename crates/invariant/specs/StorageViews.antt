@@ -5,10 +5,9 @@ use mathlib.Core.List.{List, [], _∷_}
 use mathlib.Core.Option.{Option, none, some}
 use Prim.Native.Nat.{ℕ, zero, suc, _+_, _-_, _≤_}
 use native.Mathlib.Omega.{arith}
-use lib.Dec.{eqb}
 use Rattle.model.specs.Base.{bit, occurs}
 use Rattle.model.specs.State.{Sizes, Handle, Slot, Slot.absent, Slot.vacant, Slot.reserved, Slot.transferReserved, Slot.occupied, Table, Body}
-use Rattle.model.specs.State.{Body.reservation, Body.claim, Body.parcel, generation, isOccupied, isBusy}
+use Rattle.model.specs.State.{Body.reservation, Body.claim, Body.parcel, isOccupied, isBusy}
 use Rattle.model.specs.Storage.{keep, firstOccupied, lengthOf}
 use Rattle.model.specs.Decision.{asParcel}
 use Rattle.model.specs.Lookup.{handleOr}
@@ -16,7 +15,7 @@ use Rattle.model.specs.Step.{fillAll, nextOccupied, returned}
 use Rattle.model.specs.WellFormed.{Rising, isFrame}
 use Rattle.model.specs.Tests.{apart, bool, clash, same}
 use Rattle.model.specs.Sums.{occurs-insert}
-use Rattle.invariant.specs.Pointwise.{place-slots}
+use Rattle.invariant.specs.Pointwise.{keep-busy}
 use Rattle.invariant.specs.Frames.{rising-insert}
 
 first-occupied : (f : ℕ → Slot) (k n j : ℕ) → firstOccupied f k n ≡ some j → isOccupied (f j) ≡ true
@@ -46,8 +45,7 @@ pub fillAll-busy : (z : Sizes) (ks : List ℕ) (hs : List Handle) (t : Table) (j
     → isBusy (fillAll z ks hs t .slots j) ≡ true
 fillAll-busy z [] hs t j e = e
 fillAll-busy z (k ∷ ks) [] t j e = e
-fillAll-busy z (k ∷ ks) (h ∷ hs) t j e = fillAll-busy z ks hs (keep z (λ g. occupied g h) t k) j
-    (rw (place-slots z t k (occupied (generation (t .slots k)) h)) (bool (eqb j k) (λ q. rw q) (λ q. rw q e)))
+fillAll-busy z (k ∷ ks) (h ∷ hs) t j e = fillAll-busy z ks hs (keep z (λ g. occupied g h) t k) j (keep-busy z (λ g. occupied g h) (λ g. refl) t k j e)
 
 -- the frame that a page gives back
 

@@ -5,7 +5,7 @@ use Prim.Native.Nat.{ℕ, _<_}
 use lib.Dec.{eqb}
 use Rattle.words.specs.Pick.{pick, bool}
 use Rattle.authority.specs.Rights.{contains}
-use Rattle.model.specs.State.{till, Handle, Slot.occupied, Table, State}
+use Rattle.model.specs.State.{Sizes, Handle, Slot.occupied, Table, State}
 use Rattle.model.specs.Objects.{infoFor}
 use Rattle.model.specs.Request.{Request.getInfo, Request.resolve, Answer.infoOf, Answer.resolved}
 use Rattle.model.specs.Decision.{Decision, Decision.accept, unless_refuse_then_}
@@ -61,7 +61,7 @@ resolveR ws os sh base b v r kind =
 -- ---- in the model
 
 -- the object of a handle in a slot is known
-pub object-known : (s : State) → WellFormed till s → (b : ℕ) → b < s .tableCount → (k g : ℕ) (x : Handle) → s .tables b .slots k ≡ occupied g x → x .object < s .objectCount
+pub object-known : {z : Sizes} (s : State) → WellFormed z s → (b : ℕ) → b < s .tableCount → (k g : ℕ) (x : Handle) → s .tables b .slots k ≡ occupied g x → x .object < s .objectCount
 object-known s w b l k g x e = let r : SlotRange s (occupied g x) = rw e at (w .ranges .tables b l .slots k) in r .object
 
 -- a handle's info is the model's

@@ -19,6 +19,7 @@ use Rattle.model.specs.Step.{fillAll}
 use Rattle.model.specs.Sums.{occurs-split}
 use Rattle.model.specs.Tests.{apart, some-same}
 use Rattle.invariant.specs.Parcels.{parts}
+use Rattle.invariant.specs.Pointwise.{fillAll-none, fillAll-append, keep-busy}
 use Rattle.invariant.specs.StorageViews.{fillAll-busy}
 use Rattle.layout.specs.declared.Shape.{Shape}
 use Rattle.layout.specs.Layout.{Mem, row, item, load}
@@ -82,19 +83,6 @@ drop-few zero l = omega arith
 drop-few (suc n) [] = omega arith
 drop-few (suc n) (x ∷ l) = drop-few n l ∙ omega arith
 
-fill-none : (ks : List ℕ) (t : Table) → fillAll till ks [] t ≡ t
-fill-none [] t = refl
-fill-none (k ∷ ks) t = refl
-
-fill-append : (ks : List ℕ) (gs hs : List Handle) (t : Table) → fillAll till (drop (length gs) ks) hs (fillAll till ks gs t) ≡ fillAll till ks (gs ++ hs) t
-fill-append [] [] hs t = refl
-fill-append [] (g ∷ gs) hs t = refl
-fill-append (k ∷ ks) [] hs t = refl
-fill-append (k ∷ ks) (g ∷ gs) hs t = fill-append ks gs hs (keep till (λ n. occupied n g) t k)
-
-keep-busy : (t : Table) (k : ℕ) (h : Handle) (i : ℕ) → isBusy (t .slots i) ≡ true → isBusy (keep till (λ g. occupied g h) t k .slots i) ≡ true
-keep-busy t k h i e = fillAll-busy till (k ∷ []) (h ∷ []) t i e
-
 fill-more : (ws : List ℕ) (sh : Shape) (b x p y j n k : ℕ) (h : Handle) → p + j ≤ batchMax → load ws sh (item x (p + j) itemSlot) ≡ k → HandleIs (load ws sh) y j h
     → filledW ws sh b x p y j (suc n) ≡ filledW (occupyW ws sh b k (h .object) (h .rights) (h .flags)) sh b x p y (suc j) n
 unfolding filledW
@@ -115,13 +103,13 @@ module _ (sh : Shape) (b x y p : ℕ) where
       → Items (SlotsAt (load ws sh) x) (p + j) ks → Items (HandleIs (load ws sh) y) j hs → length hs ≤ length ks → p + j + length ks ≤ batchMax
       → Keeps sh ws s (filledW ws sh b x p y j (length hs)) (withTable s b (fillAll till ks hs (s .tables b)))
   filled-keeps [] ks ws s j h l busy slots handles few room =
-      rw (fill-stop ws sh b x p y j, fill-none ks (s .tables b), table-same s b) (keeps-none sh ws s h)
+      rw (fill-stop ws sh b x p y j, fillAll-none till ks (s .tables b), table-same s b) (keeps-none sh ws s h)
   filled-keeps (g ∷ hs) [] ws s j h l busy slots handles few room = absurd (omega arith)
   filled-keeps (g ∷ hs) (k ∷ ks) ws s j h l busy slots handles few room =
       let u : Table = keep till (λ n. occupied n g) (s .tables b) k in
       let v : List ℕ = occupyW ws sh b k (g .object) (g .rights) (g .flags) in
       let one = occupy-keeps sh ws s h b l k g (busy k (occurs-head k ks)) in
-      let still : (i : ℕ) → 0 < occurs i ks → isBusy (u .slots i) ≡ true = λ i o. keep-busy (s .tables b) k g i (busy i (omega arith)) in
+      let still : (i : ℕ) → 0 < occurs i ks → isBusy (u .slots i) ≡ true = λ i o. keep-busy till (λ n. occupied n g) (λ n. refl) (s .tables b) k i (busy i (omega arith)) in
       let z : suc (p + j) ≡ p + suc j = omega arith in
       let its : Items (SlotsAt (load v sh) x) (p + suc j) ks = rw z at (slots-kept (load ws sh) (load v sh) x (one .items x) (suc (p + j)) ks (slots .1)) in
       let rest = filled-keeps hs ks v (withTable s b u) (suc j) (one .held) l (rw (table-at s b u) still) its
@@ -148,7 +136,7 @@ module _ (sh : Shape) (b x : ℕ) where
       → length hs ≤ length ks → p + length ks ≤ batchMax → Keeps sh ws s (publishedW ws sh b x p is) (withTable s b (fillAll till ks hs (s .tables b)))
   published-keeps [] hs ks ws s p h f l busy slots e few room =
       let z : hs ≡ [] = cc in
-      rw (published-stop ws sh b x p, z, fill-none ks (s .tables b), table-same s b) (keeps-none sh ws s h)
+      rw (published-stop ws sh b x p, z, fillAll-none till ks (s .tables b), table-same s b) (keeps-none sh ws s h)
   published-keeps (i ∷ is) hs ks ws s p h f l busy slots e few room =
       let q = parts (find i (s .book .rows)) (handlesOf is (s .book .rows)) hs e in
       let gs : List Handle = q .first in let rest : List Handle = q .rest in
@@ -178,4 +166,4 @@ module _ (sh : Shape) (b x : ℕ) where
           (items-drop (SlotsAt (load v sh) x) (length gs) p ks (slots-kept (load ws sh) (load v sh) x (one .items x) p ks slots)) after (omega arith) (omega arith) in
           rw (published-more ws sh b x p i is y (length gs) n1 (a .body .1) (omega arith), whole)
           (keeps-then sh ws s v (withTable s b u) (publishedW v sh b x (p + length gs) is) (withTable s b (fillAll till ks (gs ++ rest) (s .tables b))) one
-          (rw (table-at s b u, table-twice s b u (fillAll till (drop (length gs) ks) rest u), fill-append ks gs rest (s .tables b)) at two))
+          (rw (table-at s b u, table-twice s b u (fillAll till (drop (length gs) ks) rest u), fillAll-append till ks gs rest (s .tables b)) at two))

@@ -20,6 +20,7 @@ use Rattle.model.specs.Decision.{Decision, Decision.refusal, Decision.accept, u
 use Rattle.model.specs.Step.{reserveOf, decide}
 use Rattle.model.specs.Words.{usedWords}
 use Rattle.model.specs.Bounds.{batch-max}
+use Rattle.invariant.specs.Pages.{till-sane}
 use Rattle.layout.specs.declared.Shape.{Shape}
 use Rattle.layout.specs.Layout.{root, load}
 use Rattle.layout.specs.Fields.{rootNextId, rootUsedRows, rootFreeFrames}
@@ -106,7 +107,7 @@ module _ (ws : List ℕ) (sh : Shape) (s : State) (r : Rep ws sh s) (b n : ℕ) 
       its = table-at s b u
 
       enough : n ≤ length (s₁ .tables b .free)
-      enough = rw its (grow-enough sh b (s .tables b) (held-of ws sh s r .placed .sound b (a .known)) n few ps (s .frames) e fit)
+      enough = rw its (grow-enough till till-sane (s .tables b) (held-of ws sh s r .placed .sound b (a .known)) n few ps (s .frames) e fit)
 
       open-words : batchWords (load (listW ws₁ sh b n) sh) b n ≡ usedWords (batch (s .book .next) (map (valueAt u) (take n (u .free))))
       open-words = rw its at (batch-words ws₁ sh s₁ grown b (a .known) n few enough room)
@@ -134,7 +135,7 @@ module _ (ws : List ℕ) (sh : Shape) (s : State) (r : Rep ws sh s) (b n : ℕ) 
       planned-does (some ps) e =
           let t = r .reps .memory .tables b (a .known) in
           let z : pagesNeeded (load ws sh) b n ≡ length ps = needed-some (load ws sh) b (s .tables b) t (held-of ws sh s r .placed .sound b (a .known)) n few ps e in
-          let k : eqb (length ps) noPlan ≡ false = ne-eqb (length ps) noPlan (λ y. omega (arith, plan-short (s .tables b) n ps e)) in
+          let k : eqb (length ps) noPlan ≡ false = ne-eqb (length ps) noPlan (λ y. omega (arith, plan-short till (s .tables b) n ps e)) in
           let frames : load ws sh (root rootFreeFrames) ≡ length (s .frames) = r .reps .memory .frames .count in
           let used : load ws sh (root rootUsedRows) ≡ length (s .book .rows) = r .reps .memory .book .used in
           let next : load ws sh (root rootNextId) ≡ s .book .next = r .reps .memory .book .next in

@@ -8,11 +8,11 @@ use native.Mathlib.Omega.{arith}
 use lib.ListN.{length}
 use Rattle.codec.specs.Codec.{encode}
 use Rattle.model.specs.Base.{nth, occurs}
-use Rattle.model.specs.State.{till, Slot, Slot.reserved, Table, Body.reservation, State, generation, isAbsent}
+use Rattle.model.specs.State.{till, Slot.reserved, Table, Body.reservation, State, generation, isAbsent}
 use Rattle.model.specs.Storage.{withFree, takeFree}
 use Rattle.model.specs.Change.{withTable}
 use Rattle.model.specs.Lookup.{valueAt}
-use Rattle.invariant.specs.Pointwise.{place-free}
+use Rattle.invariant.specs.Pointwise.{place-free, takeFree-none, takeFree-more}
 use Rattle.layout.specs.declared.Shape.{Shape}
 use Rattle.layout.specs.Layout.{Mem, head, item, load}
 use Rattle.layout.specs.Fields.{headFirstFree, slotGeneration, itemSlot}
@@ -21,7 +21,7 @@ use Rattle.storage.specs.Order.{occurs-head}
 use Rattle.storage.specs.Sight.{Spot.hd, look}
 use Rattle.storage.specs.Slots.{see, slot-gen}
 use Rattle.storage.specs.Ops.{seen, takeW}
-use Rattle.storage.specs.Take.{taken, take-more}
+use Rattle.storage.specs.Take.{taken}
 use Rattle.storage.specs.Turns.{take-turns}
 use Rattle.storage.specs.Reps.{Held, ready-of, take-held}
 use Rattle.book.specs.Find.{RowAt}
@@ -34,10 +34,6 @@ use Rattle.book.specs.Vacated.{with-table-at as table-at, with-own as table-sam
 head-is : (m : Mem) (b : ℕ) (t : Table) → TableIs m b t → (k : ℕ) (l : List ℕ) → t .free ≡ k ∷ l → look m b (hd headFirstFree) - 1 ≡ k
 unfolding look
 head-is m b t i k l e = let c : m (head b headFirstFree) ≡ suc k = (rw e at (i .free)) .0 in omega arith
-
-take-none : (f : ℕ → Slot) (t : Table) → takeFree till 0 f t ≡ t
-unfolding takeFree
-take-none f t = refl
 
 taken-free : (t : Table) (k : ℕ) (l : List ℕ) (i : ℕ) → taken t k l i .free ≡ l
 taken-free t k l i = place-free till (withFree t l) k (reserved (generation (t .slots k)) i)
@@ -55,7 +51,7 @@ module _ (sh : Shape) (x b i : ℕ) (ks : List ℕ) where
   pub taken-all : (n : ℕ) (ws : List ℕ) (s : State) (j : ℕ) → Held ws sh s → b < s .tableCount → RowAt (load ws sh) s x i (reservation b ks)
       → n ≤ length (s .tables b .free) → Lists j n (s .tables b .free) → Held (takenW ws sh b x j n) sh (withTable s b (takeFree till n (λ g. reserved g i) (s .tables b)))
   unfolding takenW
-  taken-all zero ws s j h l a few at = rw (take-none (λ g. reserved g i) (s .tables b), table-same s b) h
+  taken-all zero ws s j h l a few at = rw (takeFree-none till (λ g. reserved g i) (s .tables b), table-same s b) h
   taken-all (suc n) ws s j h l a few at = go (s .tables b .free) refl (λ v u c d. taken-all n v u (suc j) c d)
     where
       go : (fr : List ℕ) → s .tables b .free ≡ fr
@@ -75,7 +71,7 @@ module _ (sh : Shape) (x b i : ℕ) (ks : List ℕ) where
           let left : withTable s b u .tables b .free ≡ fr = ap (λ (t : Table). t .free) (table-at s b u) ∙ taken-free (s .tables b) k fr i in
           let g = rest ws₁ (withTable s b u) h₁ l a₁ (rw left (omega (arith, ap length e)))
           (rw left (λ q v c d. let y : suc j + q ≡ j + suc q = omega arith in rw y (at (suc q) v (omega arith) (rw e d)))) in
-          rw (taken-more ws sh b x j n k (head-is (load ws sh) b (s .tables b) (h .reps .memory .tables b l) k fr e), take-more n (λ g. reserved g i) (s .tables b) k fr e)
+          rw (taken-more ws sh b x j n k (head-is (load ws sh) b (s .tables b) (h .reps .memory .tables b l) k fr e), takeFree-more till n (λ g. reserved g i) (s .tables b) k fr e)
           (rw (table-at s b u, table-twice s b u (takeFree till n (λ g. reserved g i) u)) at g)
 
 -- ---- values

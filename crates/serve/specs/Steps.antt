@@ -2,7 +2,8 @@
 use mathlib.Core.Path.{refl}
 use mathlib.Core.List.{List}
 use Prim.Native.Nat.{ℕ, _≤_}
-use Rattle.model.specs.State.{State}
+use native.Mathlib.Omega.{arith}
+use Rattle.model.specs.State.{till, State}
 use Rattle.format.specs.Fields.{tableField, objectField, countField, valueField, rightsField, flagsField, idField, destinationField, kindField, koidField, cursorField}
 use Rattle.format.specs.Ops.{opLast}
 use Rattle.layout.specs.declared.Shape.{Shape}
@@ -68,4 +69,4 @@ module _ (ws os : List ℕ) (sh : Shape) (s : State) (list : List ℕ) (at base 
 pub steps : Steps oneR
 steps ws os sh s list at base r w =
     let e = request-is list at (opAt list at) refl in
-    (rw e (serves ws os sh s list at base r (opAt list at) (w .known .0) (w .known .1)), step-short s (requestAt list at))
+    (rw e (serves ws os sh s list at base r (opAt list at) (w .known .0) (w .known .1)), step-short till (omega arith) s (requestAt list at))

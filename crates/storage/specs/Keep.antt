@@ -6,12 +6,12 @@ use native.Mathlib.Omega.{arith}
 use lib.Dec.{eqb}
 use borrow.Author.Tests.{eqb-true, eqb-false, eq-eqb, ne-eqb}
 use Rattle.words.specs.Pick.{bool, clash}
-use Rattle.model.specs.Base.{put, occurs, isSome}
+use Rattle.model.specs.Base.{occurs, isSome}
 use Rattle.model.specs.State.{till, Handle, Slot, Slot.transferReserved, Slot.occupied, Table, generation, isBusy, isVacant, isAbsent}
-use Rattle.model.specs.Storage.{busyOf, place, keep}
+use Rattle.model.specs.Storage.{place, keep}
 use Rattle.model.specs.Tests.{and-false}
 use Rattle.invariant.specs.Pointwise.{place-alike}
-use Rattle.invariant.specs.Pages.{till-sane, busy-there, busy-vacant, busy-other}
+use Rattle.invariant.specs.Pages.{till-sane, busy-there, busy-vacant, busy-same}
 use Rattle.invariant.specs.Orders.{Sound}
 use Rattle.layout.specs.Layout.{Mem, row}
 use Rattle.layout.specs.Fields.{headFirstFree, headFirstEmpty, headFirstDetached, entryNext, entryPrevious, slotTag, slotGeneration, slotNextFree, slotPreviousFree, slotPlace, slotPosition, rowId}
@@ -45,9 +45,6 @@ module _ (m : Mem) (v w : Spot → ℕ) (t : Table) (z : Seen m v t) (o : Sound 
   other-slots : (i : ℕ) → (i ≡ k → ⊥) → slotV m w i ≡ slotV m v i
   other-slots i n = rw (h .heads 5, h .pages (i / pageSize) 0, h .slots i 0 n, h .slots i 1 n, h .slots i 2 n, h .slots i 3 n, h .slots i 4 n)
 
-  busy-same : (p : ℕ) → busyOf till (put (t .slots) k x) p ≡ busyOf till (t .slots) p
-  busy-same p = busy-other till till-sane (put (t .slots) k x) (t .slots) p (λ i e l. bool (eqb i k) (λ d. rw (d, eqb-true i k d, was) now) (λ d. rw d))
-
   -- a slot of the free order is another
   free-other : (i : ℕ) → 0 < occurs i (t .free) → i ≡ k → ⊥
   free-other i q e = let y : isVacant (t .slots i) ≡ false = rw e (busy-vacant (t .slots k) was) in clash (free-vacant t o i q) y
@@ -64,7 +61,7 @@ module _ (m : Mem) (v w : Spot → ℕ) (t : Table) (z : Seen m v t) (o : Sound 
     high = λ p l. h .pages p 1 ∙ z .high p l ∙ bool (eqb p (k / pageSize))
         (λ e. rw (e, eqb-true p (k / pageSize) e) (omega (arith, gen, o .generations k (busy-there (t .slots k) was) .2)))
         (λ e. rw e);
-    busy = λ p l a. h .pages p 2 ∙ z .busy p l (sym (ap isSome (place-alike till t k x .frame p)) ∙ a) ∙ sym (busy-same p);
+    busy = λ p l a. h .pages p 2 ∙ z .busy p l (sym (ap isSome (place-alike till t k x .frame p)) ∙ a) ∙ sym (busy-same till till-sane (t .slots) k x was now p);
     slots = λ i. bool (eqb i k)
         (λ e. rw (e, eqb-true i k e) is)
         (λ e. rw e (other-slots i (eqb-false i k e) ∙ z .slots i));

@@ -3,18 +3,18 @@ use mathlib.Core.Path.{_≡_, refl, sym, ap, _∙_}
 use mathlib.Core.Bool.{true, false}
 use mathlib.Core.Logic.{⊎-elim}
 use mathlib.Core.List.{List, _∷_}
-use Prim.Native.Nat.{ℕ, _-_, _≤_, _<_}
+use Prim.Native.Nat.{ℕ, _-_, _<_}
 use native.Mathlib.Omega.{arith}
 use lib.ListN.{length}
 use Rattle.words.specs.Pick.{clash}
-use Rattle.codec.specs.Codec.{nextGeneration, generationLimit}
+use Rattle.codec.specs.Codec.{nextGeneration}
 use Rattle.model.specs.State.{till, Handle, Slot, Slot.vacant, Slot.reserved, Slot.transferReserved, Slot.occupied, Table, State, generation, isBusy, isAbsent}
 use Rattle.model.specs.Storage.{withFree, place, keep, vacate}
 use Rattle.model.specs.Change.{withTable}
 use Rattle.model.specs.Tests.{put-other, put-same}
 use Rattle.invariant.specs.Pointwise.{Alike, place-alike, place-slots, vacate-alike, vacate-slots}
 use Rattle.invariant.specs.Pages.{till-sane, vacant-there}
-use Rattle.invariant.specs.Orders.{Sound, order-is, good-of, with-order, place-taken, keep-sound, vacate-good}
+use Rattle.invariant.specs.Orders.{Sound, good-of, take-good, keep-good, vacate-good}
 use Rattle.layout.specs.declared.Shape.{Shape}
 use Rattle.layout.specs.Layout.{Mem, rank, row, item, load}
 use Rattle.layout.specs.ShapeOf.{roots-kept}
@@ -36,7 +36,7 @@ use Rattle.storage.specs.Whole.{Placed, placed-of, placed-with, fit-of, 
 -- words that represent a state whose tables are in place: what each operation keeps
 pub record Held (ws : List ℕ) (sh : Shape) (s : State) : Type 0 where
   pub reps : Reps ws sh s
-  pub placed : Placed s
+  pub placed : Placed till s
 
 pub held-of : (ws : List ℕ) (sh : Shape) (s : State) → Rep ws sh s → Held ws sh s
 held-of ws sh s r = record { reps = r .reps; placed = placed-of s (r .wellFormed) }
@@ -101,16 +101,6 @@ module _ (ws ws′ : List ℕ) (sh : Shape) (s : State) (h : Held ws sh s) (b : 
     placed = placed-with s b u (h .placed) sound al;
   }
 
-take-sound : (t : Table) (k : ℕ) (ks : List ℕ) → t .free ≡ k ∷ ks → Sound till t (t .free) → (y : Slot)
-    → (1 ≤ generation y) × (generation y ≤ generationLimit) → isBusy y ≡ true → Sound till (place till (withFree t ks) k y) (place till (withFree t ks) k y .free)
-unfolding place
-take-sound t k ks first o y g d = place-taken till till-sane (withFree t ks) ks k y (with-order till t (k ∷ ks) (order-is till t (t .free) (k ∷ ks) first o) ks) d g
-
-keep-good : (f : ℕ → Slot) → ((g : ℕ) → isBusy (f g) ≡ true) → ((g : ℕ) → generation (f g) ≡ g) → (t : Table) (k : ℕ) → Sound till t (t .free) → isBusy (t .slots k) ≡ true
-    → Sound till (keep till f t k) (keep till f t k .free)
-unfolding place
-keep-good f p q t k o was = keep-sound till till-sane f p q t (t .free) k o was
-
 module _ (ws : List ℕ) (sh : Shape) (s : State) (h : Held ws sh s) (b : ℕ) (l : b < s .tableCount) where
   -- VACATE
   pub vacate-held : (k : ℕ) → isBusy (s .tables b .slots k) ≡ true → Held (vacateW ws sh b k) sh (withTable s b (vacate till (s .tables b) k))
@@ -135,7 +125,7 @@ module _ (ws : List ℕ) (sh : Shape) (s : State) (h : Held ws sh s) (b : ℕ) (
       let a = place-alike till (withFree t ks) k y in
       turned ws (takeW ws sh b k x j) sh s h b l k _ u turn
       (record { limit = a .limit; mask = a .mask; life = a .life; epoch = a .epoch; size = a .size; detached = a .detached; frame = a .frame })
-      (take-sound t k ks first o y (good-of till till-sane t (t .free) o k here) refl)
+      (take-good till till-sane t k ks first o y refl (good-of till till-sane t (t .free) o k here))
       (λ i n. ap (λ (f : ℕ → Slot). f i) (place-slots till (withFree t ks) k y) ∙ put-other (t .slots) k y i n)
       (λ e. mark-is ws (takeW ws sh b k x j) sh s h b l k _ u turn x j 0 1 (mk .0) (mk .1) (mk .2) (omega arith) p)
 
@@ -147,7 +137,7 @@ module _ (ws : List ℕ) (sh : Shape) (s : State) (h : Held ws sh s) (b : ℕ) (
       let turn = move-turns ws sh b t (ready-of ws sh s h b l) k was x j in
       let mk = moving-mark (look (load ws sh) b) k x j in
       turned ws (moveW ws sh b k x j) sh s h b l k _ (place till t k y) turn (place-alike till t k y)
-      (keep-good (λ g. transferReserved g (load ws sh (row x rowId))) (λ g. refl) (λ g. refl) t k (h .placed .sound b l) was)
+      (keep-good till till-sane (λ g. transferReserved g (load ws sh (row x rowId))) (λ g. refl) (λ g. refl) t k (h .placed .sound b l) was)
       (λ i n. ap (λ (f : ℕ → Slot). f i) (place-slots till t k y) ∙ put-other (t .slots) k y i n)
       (λ e. mark-is ws (moveW ws sh b k x j) sh s h b l k _ (place till t k y) turn x j 1 2 (mk .0) (mk .1) (mk .2) (omega arith) p)
 
@@ -158,6 +148,6 @@ module _ (ws : List ℕ) (sh : Shape) (s : State) (h : Held ws sh s) (b : ℕ) (
       let y : Slot = occupied (generation (t .slots k)) x in
       turned ws (occupyW ws sh b k (x .object) (x .rights) (x .flags)) sh s h b l k _ (place till t k y)
       (occupy-turns ws sh b t (ready-of ws sh s h b l) k was (x .object) (x .rights) (x .flags)) (place-alike till t k y)
-      (keep-good (λ g. occupied g x) (λ g. refl) (λ g. refl) t k (h .placed .sound b l) was)
+      (keep-good till till-sane (λ g. occupied g x) (λ g. refl) (λ g. refl) t k (h .placed .sound b l) was)
       (λ i n. ap (λ (f : ℕ → Slot). f i) (place-slots till t k y) ∙ put-other (t .slots) k y i n)
       (λ e. clash (sym (ap isMarked (ap (λ (f : ℕ → Slot). f k) (place-slots till t k y) ∙ put-same (t .slots) k y)) ∙ e) refl)

@@ -8,7 +8,7 @@ use lib.Dec.{eqb, ltb}
 use borrow.Author.Tests.{ltb-true}
 use Rattle.words.specs.Pick.{clash}
 use Rattle.model.specs.Base.{pick, occurs}
-use Rattle.model.specs.State.{till, Slot, Slot.absent, Slot.reserved, Slot.transferReserved, Table, generation, isVacant, isAbsent, maxSlots}
+use Rattle.model.specs.State.{Sizes, till, Slot, Slot.absent, Slot.reserved, Slot.transferReserved, Table, generation, isVacant, isAbsent, maxSlots}
 use Rattle.model.specs.Storage.{busyOf}
 use Rattle.model.specs.WellFormed.{isAttached}
 use Rattle.model.specs.Tests.{and-left, bit-true}
@@ -137,15 +137,15 @@ module _ (m : Mem) (v : Spot → ℕ) (t : Table) (z : Seen m v t) where
   pub vacant-tag : (k : ℕ) → isVacant (t .slots k) ≡ true → v (sl k slotTag) ≡ tagVacant
   vacant-tag k e = framed-vacant m (frameV v k) (v (sl k slotTag)) (v (sl k slotGeneration)) (v (sl k slotObject)) (v (sl k slotRights)) (v (sl k slotFlags)) (ap isVacant (z .slots k) ∙ e)
 
-module _ (t : Table) (o : Sound till t (t .free)) where
+module _ {z : Sizes} (t : Table) (o : Sound z t (t .free)) where
   pub free-vacant : (k : ℕ) → 0 < occurs k (t .free) → isVacant (t .slots k) ≡ true
   free-vacant k h = bit-true (isVacant (t .slots k)) (omega (arith, o .free k))
 
   pub empty-attached : (p : ℕ) → 0 < occurs p (t .empty) → isAttached t p ≡ true
-  empty-attached p h = and-left (isAttached t p) (eqb (busyOf till (t .slots) p) 0) (bit-true (isAttached t p && eqb (busyOf till (t .slots) p) 0) (omega (arith, o .empty p)))
+  empty-attached p h = and-left (isAttached t p) (eqb (busyOf z (t .slots) p) 0) (bit-true (isAttached t p && eqb (busyOf z (t .slots) p) 0) (omega (arith, o .empty p)))
 
   pub empty-below : (p : ℕ) → 0 < occurs p (t .empty) → p < t .size
-  empty-below p h = attached-below till t (t .free) o p (empty-attached p h)
+  empty-below p h = attached-below z t (t .free) o p (empty-attached p h)
 
   pub detached-below : (p : ℕ) → 0 < occurs p (t .detached) → p < t .size
   detached-below p h = ltb-true p (t .size) (and-left (ltb p (t .size)) (not (isAttached t p)) (bit-true (ltb p (t .size) && not (isAttached t p)) (omega (arith, o .detached p))))

@@ -11,7 +11,7 @@ use borrow.Author.Tests.{eqb-true, eqb-false, eq-eqb, ne-eqb}
 use Rattle.words.specs.Pick.{bool, clash}
 use Rattle.model.specs.Base.{put, bit, occurs, isSome}
 use Rattle.model.specs.State.{till, Slot, Slot.reserved, Table, generation, isBusy, isVacant, isAbsent}
-use Rattle.model.specs.Storage.{withFree, busyOf, place, keep, takeFree}
+use Rattle.model.specs.Storage.{withFree, busyOf, place, keep}
 use Rattle.model.specs.Bounds.{busy-small}
 use Rattle.model.specs.WellFormed.{isAttached}
 use Rattle.model.specs.Tests.{and-false}
@@ -59,11 +59,6 @@ reserved-mark v k r j = (rw (eq-eqb (suc k) (suc k) refl), rw (eq-eqb (suc k) (s
 -- the table after its first free slot k was Reserved by the row of an id
 abbrev pub taken : Table → ℕ → List ℕ → ℕ → Table
 taken t k l i = keep till (λ g. reserved g i) (withFree t l) k
-
--- so the first n are taken one by one
-pub take-more : (n : ℕ) (f : ℕ → Slot) (t : Table) (k : ℕ) (l : List ℕ) → t .free ≡ k ∷ l → takeFree till (suc n) f t ≡ takeFree till n f (keep till f (withFree t l) k)
-unfolding takeFree place
-take-more n f t k l e = rw e
 
 module _ (m : Mem) (v : Spot → ℕ) (t : Table) (z : Seen m v t) (o : Sound till t (t .free)) (k : ℕ) (l : List ℕ) (first : t .free ≡ k ∷ l) (r j : ℕ) where
   free-at : Chain (λ i. v (sl i slotNextFree)) (λ i. v (sl i slotPreviousFree)) (v (hd headFirstFree)) 0 (k ∷ l)

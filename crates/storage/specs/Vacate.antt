@@ -10,7 +10,7 @@ use borrow.Author.Tests.{eqb-true, eqb-false, eq-eqb, ne-eqb}
 use Rattle.words.specs.Pick.{bool, clash}
 use Rattle.codec.specs.Codec.{nextGeneration}
 use Rattle.model.specs.Base.{put, bit, occurs, isSome}
-use Rattle.model.specs.State.{till, Slot, Slot.vacant, Table, generation, isBusy, isVacant, isAbsent, maxSlots}
+use Rattle.model.specs.State.{Sizes, till, Slot, Slot.vacant, Table, generation, isBusy, isVacant, isAbsent, maxSlots}
 use Rattle.model.specs.Storage.{busyOf, place, vacate}
 use Rattle.model.specs.WellFormed.{isAttached}
 use Rattle.model.specs.Tests.{and-false, bit-small}
@@ -54,10 +54,10 @@ unfolding publishP markP joinP
 vacate-own v k f = (refl, refl)
 
 -- the free order is not longer than the table may be
-pub free-short : (t : Table) → Sound till t (t .free) → length (t .free) ≤ maxSlots
-free-short t o = length-below maxSlots (t .free)
+pub free-short : {z : Sizes} (t : Table) → Sound z t (t .free) → length (t .free) ≤ maxSlots
+free-short {z} t o = length-below maxSlots (t .free)
     (λ x. omega (arith, o .free x, bit-small (isVacant (t .slots x))))
-    (λ x h. below-of till t (t .free) o x (vacant-there (t .slots x) (free-vacant t o x h)))
+    (λ x h. below-of z t (t .free) o x (vacant-there (t .slots x) (free-vacant t o x h)))
 
 module _ (m : Mem) (v : Spot → ℕ) (t : Table) (z : Seen m v t) (o : Sound till t (t .free)) (k g : ℕ) where
   -- publish a slot that is there and is not vacant

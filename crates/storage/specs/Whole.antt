@@ -9,7 +9,7 @@ use lib.Dec.{eqb, ltb}
 use borrow.Author.Tests.{eqb-true, eqb-false, ltb-true}
 use Rattle.words.specs.Pick.{bool}
 use Rattle.model.specs.Base.{put, bit, sum}
-use Rattle.model.specs.State.{till, Table, State}
+use Rattle.model.specs.State.{Sizes, till, Table, State}
 use Rattle.model.specs.Change.{withTable}
 use Rattle.model.specs.WellFormed.{isFrame, WellFormed}
 use Rattle.model.specs.Tests.{bit-true, same}
@@ -28,16 +28,16 @@ use Rattle.storage.specs.Sight.{Fit, OnlyTable}
 use Rattle.storage.specs.Kept.{Stays, slot-kept, sound-kept, PoolSame, frames-kept, object-kept, RowsStay, rows-stay, MarkIs, mark-kept, book-kept}
 
 -- every table's storage is sound and in frames that there are
-pub record Placed (s : State) : Type 0 where
-  pub sound : (b : ℕ) → b < s .tableCount → Sound till (s .tables b) (s .tables b .free)
+pub record Placed (z : Sizes) (s : State) : Type 0 where
+  pub sound : (b : ℕ) → b < s .tableCount → Sound z (s .tables b) (s .tables b .free)
   pub frames : (b p f : ℕ) → b < s .tableCount → p < s .tables b .size → s .tables b .pages p .frame ≡ some f → f < s .frameCount
 
 -- that of a well-formed state is
-pub placed-of : (s : State) → WellFormed till s → Placed s
-placed-of s w = record {
-  sound = sound-of till s (storage-of till s w);
+pub placed-of : {z : Sizes} (s : State) → WellFormed z s → Placed z s
+placed-of {z} s w = record {
+  sound = sound-of z s (storage-of z s w);
   frames = λ b p f l h e.
-      let o : Sound till (s .tables b) (s .tables b .free) = sound-of till s (storage-of till s w) b l in
+      let o : Sound z (s .tables b) (s .tables b .free) = sound-of z s (storage-of z s w) b l in
       let one : bit (isFrame (s .tables b .pages p .frame) f) ≡ 1 = ap (λ (x : Option ℕ). bit (isFrame x f)) e ∙ ap bit (same f) in
       let i = sum-part (s .tables b .limit) (λ q. bit (isFrame (s .tables b .pages q .frame) f)) p (omega (arith, o .size)) in
       let j = sum-part (s .tableCount) (λ c. sum (s .tables c .limit) λ q. bit (isFrame (s .tables c .pages q .frame) f)) b l in
@@ -45,7 +45,7 @@ placed-of s w = record {
 }
 
 -- a change of one table that leaves its place
-pub placed-with : (s : State) (b : ℕ) (u : Table) → Placed s → Sound till u (u .free) → Alike till (s .tables b) u → Placed (withTable s b u)
+pub placed-with : {z : Sizes} (s : State) (b : ℕ) (u : Table) → Placed z s → Sound z u (u .free) → Alike z (s .tables b) u → Placed z (withTable s b u)
 placed-with s b u p o a = record {
   sound = λ c l. bool (eqb c b) (λ e. rw e o) (λ e. rw e (p .sound c l));
   frames = λ c q f l h i. bool (eqb c b)
@@ -53,7 +53,7 @@ placed-with s b u p o a = record {
       (λ e. p .frames c q f l (rw e at h) (rw e at i));
 }
 
-module _ (sh : Shape) (m : Mem) (s : State) (r : Represents sh m s) (pl : Placed s) where
+module _ (sh : Shape) (m : Mem) (s : State) (r : Represents sh m s) (pl : Placed till s) where
   -- pages below a table's size are its own
   frame-at : (b p f : ℕ) → b < s .tableCount → p < m (head b headPages) → m (entry (entryAt m b p) entryFrame) ≡ suc f → s .tables b .pages p .frame ≡ some f
   frame-at b p f l h e = let t = r .tables b l in let i : p < s .tables b .size = omega (arith, t .size) in
@@ -96,7 +96,7 @@ table-pool b m n o = record {
 
 -- ---- the other tables
 
-module _ (sh : Shape) (m : Mem) (s : State) (r : Represents sh m s) (pl : Placed s) (b : ℕ) (lb : b < s .tableCount) (n : Mem) (o : OnlyTable b m n) where
+module _ (sh : Shape) (m : Mem) (s : State) (r : Represents sh m s) (pl : Placed till s) (b : ℕ) (lb : b < s .tableCount) (n : Mem) (o : OnlyTable b m n) where
   module _ (c : ℕ) (lc : c < s .tableCount) (ne : c ≡ b → ⊥) where
     -- its words stay
     pub other-stays : Stays m n c
@@ -122,7 +122,7 @@ module _ (sh : Shape) (m : Mem) (s : State) (r : Represents sh m s) (pl : Placed
 pub put-like : {A : Type 0} (F : Table → A) (f : ℕ → Table) (b : ℕ) (u : Table) → F u ≡ F (f b) → (c : ℕ) → F (put f b u c) ≡ F (f c)
 put-like F f b u e c = bool (eqb c b) (λ q. rw (q, eqb-true c b q) e) (λ q. rw q)
 
-module _ (sh : Shape) (m : Mem) (s : State) (r : Represents sh m s) (pl : Placed s) (b : ℕ) (lb : b < s .tableCount) (n : Mem) (o : OnlyTable b m n)
+module _ (sh : Shape) (m : Mem) (s : State) (r : Represents sh m s) (pl : Placed till s) (b : ℕ) (lb : b < s .tableCount) (n : Mem) (o : OnlyTable b m n)
     (u : Table) (is : TableIs n b u) (al : Alike till (s .tables b) u) where
   off-root : (f : ℕ) → n (root f) ≡ m (root f)
   off-root f = off-table b m n o regionRoot 0 0 f (λ e. omega arith) (λ e. omega arith) (λ e. omega arith)

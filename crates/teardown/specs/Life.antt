@@ -90,7 +90,7 @@ module _ (sh : Shape) (m : Mem) (s : State) (r : Represents sh m s) (b w c : ℕ
   }
 
 module _ (ws : List ℕ) (sh : Shape) (s : State) (h : Held ws sh s) (b : ℕ) (lb : b < s .tableCount) (w c : ℕ) (x : Lifecycle) (is : LifeIs w c x) where
-  placed : Placed (withTable s b (withLife (s .tables b) x))
+  placed : Placed till (withTable s b (withLife (s .tables b) x))
   placed = let u : Table = withLife (s .tables b) x in let p = h .placed in record {
     sound = λ a l. bool (eqb a b)
         (λ e. let o = p .sound b lb in rw e (recast till (s .tables b) (s .tables b .free) o (s .tables b .mask) x (s .tables b .epoch) (s .tables b .free) (o .epoch)))

@@ -6,15 +6,14 @@ use mathlib.Core.Option.{some}
 use Prim.Native.Nat.{ℕ, suc, _+_, _^_, _≤_, _<_}
 use native.Mathlib.Omega.{arith}
 use lib.ListN.{length}
-use lib.Dec.{eqb}
 use borrow.Author.Tests.{eq-eqb}
 use Rattle.words.specs.Pick.{bool}
 use Rattle.model.specs.Base.{nth, occurs}
-use Rattle.model.specs.State.{till, Slot, Slot.transferReserved, Table, Entry, Entry.moved, Entry.copied, Body.claim, State, generation, isBusy}
+use Rattle.model.specs.State.{till, Slot.transferReserved, Table, Entry, Entry.moved, Entry.copied, Body.claim, State, isBusy}
 use Rattle.model.specs.Storage.{keep, keepAll}
 use Rattle.model.specs.Change.{withTable}
 use Rattle.model.specs.Book.{addRow, movedOf}
-use Rattle.invariant.specs.Pointwise.{place-slots}
+use Rattle.invariant.specs.Pointwise.{keep-busy}
 use Rattle.layout.specs.declared.Shape.{Shape}
 use Rattle.layout.specs.Layout.{Addr, Addr.reg, total, root, index, item, load, save, same, same-is, isIn, in-item, length-save, load-save-any, Write, Write.at, writes, load-writes}
 use Rattle.layout.specs.Fields.{rootUsedRows, indexPlace, itemOperation, itemMoved, itemObject, itemRights, itemFlags, itemGranted}
@@ -113,10 +112,6 @@ marked-more : (ws vs : List ℕ) (sh : Shape) (b x j n : ℕ) → markItemW ws s
 unfolding markedW
 marked-more ws vs sh b x j n e = ap (λ (w : List ℕ). markedW w sh b x (suc j) n) e
 
--- a slot that is marked stays busy, and so do the others
-keep-busy : (t : Table) (i k j : ℕ) → isBusy (t .slots j) ≡ true → isBusy (keep till (λ g. transferReserved g i) t k .slots j) ≡ true
-keep-busy t i k j e = ap (λ (f : ℕ → Slot). isBusy (f j)) (place-slots till t k (transferReserved (generation (t .slots k)) i)) ∙ bool (eqb j k) (λ d. rw d) (λ d. rw d e)
-
 module _ (sh : Shape) (x b i : ℕ) (es : List Entry) where
   -- THE ENTRIES of a claim from position j on mark the slots that they move
   pub marked-all : (ds : List Entry) (ws : List ℕ) (s : State) (j : ℕ) → Held ws sh s → b < s .tableCount → RowAt (load ws sh) s x i (claim b es)
@@ -139,7 +134,7 @@ module _ (sh : Shape) (x b i : ℕ) (es : List Entry) where
       let h₁ : Held ws₁ sh (withTable s b u) = rw (a .id) at (move-held ws sh s h b l k x j was (names-claim (load ws sh) s x i b es a j k y r here)) in
       let a₁ = row-turned (load ws sh) (load ws₁ sh) s b u (move-turns ws sh b (s .tables b) (ready-of ws sh s h b l) k was x j .only) x i (claim b es) a in
       let still : (q : ℕ) → 0 < occurs q (movedOf ds) → isBusy (withTable s b u .tables b .slots q) ≡ true
-      = λ q o. rw (table-at s b u) (keep-busy (s .tables b) i k q (busy q (omega arith))) in
+      = λ q o. rw (table-at s b u) (keep-busy till (λ g. transferReserved g i) (λ g. refl) (s .tables b) k q (busy q (omega arith))) in
       let rest = marked-all ds ws₁ (withTable s b u) (suc j) h₁ l a₁ (λ q e d. let v : suc j + q ≡ j + suc q = omega arith in rw v (names (suc q) e d)) still in
       rw (marked-more ws ws₁ sh b x j (length ds) (mark-move ws sh b x j k (p .0) (p .1)))
       (rw (table-at s b u, table-twice s b u (keepAll till (λ g. transferReserved g i) (movedOf ds) u)) at rest)

@@ -9,7 +9,7 @@ use lib.Dec.{eqb}
 use borrow.Author.Tests.{eq-eqb, eqb-true}
 use Rattle.words.specs.Pick.{bool}
 use Rattle.model.specs.Base.{bit, nth, occurs}
-use Rattle.model.specs.State.{till, Slot, Slot.reserved, Slot.transferReserved, Entry, Entry.moved, Entry.copied, Body, Body.reservation, Body.claim, Body.parcel, Row, State}
+use Rattle.model.specs.State.{Sizes, till, Slot, Slot.reserved, Slot.transferReserved, Entry, Entry.moved, Entry.copied, Body, Body.reservation, Body.claim, Body.parcel, Row, State}
 use Rattle.model.specs.Book.{find, movedOf}
 use Rattle.model.specs.Bounds.{batch-max}
 use Rattle.model.specs.WellFormed.{isReservedBy, isMovingBy, inReservation, inClaim, All, BodyRange, RowRange, Marks, WellFormed}
@@ -53,7 +53,7 @@ all-at P [] i a h e = let z : _≡_ {A = ℕ} 0 1 = cc in absurd (omega arith)
 all-at P (x ∷ l) zero a h e = let q : x ≡ a = cc in rw q at (h .0)
 all-at P (x ∷ l) (suc i) a h e = all-at P l i a (h .1) e
 
-pub range-of : (s : State) (w : WellFormed till s) (i : ℕ) (d : Body) → find i (s .book .rows) ≡ some d → BodyRange s d
+pub range-of : {z : Sizes} (s : State) (w : WellFormed z s) (i : ℕ) (d : Body) → find i (s .book .rows) ≡ some d → BodyRange s d
 range-of s w i d e = all-at (RowRange s) (s .book .rows) (rankOf i (s .book .rows)) (record { id = i; body = d }) (w .ranges .rows) (rank-found i (s .book .rows) d e .1)
 
 -- ---- the words of a row
