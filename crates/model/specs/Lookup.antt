@@ -4,7 +4,7 @@ use lib.Dec.{eqb}
 use Rattle.codec.specs.Codec.{encode, decodes, slotIn, generationIn}
 use Rattle.model.specs.Base.{pick}
 use Rattle.model.specs.State.{Handle, Slot, Slot.absent, Slot.vacant, Slot.reserved, Slot.transferReserved, Slot.occupied, Table, State}
-use Rattle.model.specs.State.{generation, isActive}
+use Rattle.model.specs.State.{generation, isActive, maxObjects}
 use Rattle.model.specs.Request.{Snapshot}
 use Rattle.model.specs.Objects.{infoFor}
 use Rattle.model.specs.Decision.{Decision, Decision.refusal}
@@ -41,9 +41,9 @@ handle_of_refuse_orBusy_then_ v t n m f = onView (lookup t v) n m f
 abbrev pub valueAt : Table → ℕ → ℕ
 valueAt t k = encode (t .mask) k (generation (t .slots k))
 
--- a handle of nothing, which no accepted request uses
+-- a handle of no object, since objects are numbered from 0 and there are at most 4,096: no accepted request uses it
 abbrev pub noHandle : Handle
-noHandle = record { object = 0; rights = 0; flags = 0 }
+noHandle = record { object = maxObjects; rights = 0; flags = 0 }
 
 -- the handle of an occupied slot
 abbrev pub handleOr : Slot → Handle
