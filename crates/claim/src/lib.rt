@@ -9,6 +9,8 @@ ghost use Rattle.answer.specs.Does.{both};
 ghost use Rattle.claim.specs.EndsOps.{abortedW, trimmedW, abortR, trimR};
 ghost use Rattle.claim.specs.Ops.{claimLink, undoW, undoneW, rolledW, rollbackR, sentRights, leaveW, leftW, sendW, sentW, committedW, commitR};
 ghost use Rattle.claim.specs.Ops.{paired, filledW, directW, directCommitR, directRollbackR};
+ghost use Rattle.format.specs.Fields.{countField, idField, destinationField};
+ghost use Rattle.request.specs.Place.{fieldOf};
 use codec::ReservationId;
 use layout::Shape;
 use layout::field;
@@ -304,4 +306,102 @@ pub fn direct_rollback(
         return;
     }
     answer::refuse(out, base, format::refusal::MISUSE);
+}
+
+// The request of a list at a place: its fields are read.
+pub fn serve_trim(s: &mut [u64], sh: Shape, rq: &[u64], at: usize, out: &mut [u64], base: usize)
+    ensures { λ _. ⌜ both (now (s .exit)) (now (out .exit)) ≡ trimR (now (s .entry)) (now (out .entry)) sh base (fieldOf (now (rq .entry)) at idField) (fieldOf (now (rq .entry)) at countField) ⌝ }
+{
+    let f = request::read_three(
+        rq,
+        at,
+        format::op::OP_TRIM,
+        format::field::FIELD_ID,
+        format::field::FIELD_COUNT,
+        format::field::NO_FIELD,
+    );
+    let id = f.a;
+    let count = f.b;
+    trim(s, sh, ReservationId(id), count, out, base);
+}
+
+pub fn serve_abort(s: &mut [u64], sh: Shape, rq: &[u64], at: usize, out: &mut [u64], base: usize)
+    ensures { λ _. ⌜ both (now (s .exit)) (now (out .exit)) ≡ abortR (now (s .entry)) (now (out .entry)) sh base (fieldOf (now (rq .entry)) at idField) ⌝ }
+{
+    let id = request::field(rq, at, format::field::FIELD_ID);
+    abort(s, sh, ReservationId(id), out, base);
+}
+
+pub fn serve_rollback(s: &mut [u64], sh: Shape, rq: &[u64], at: usize, out: &mut [u64], base: usize)
+    ensures { λ _. ⌜ both (now (s .exit)) (now (out .exit)) ≡ rollbackR (now (s .entry)) (now (out .entry)) sh base (fieldOf (now (rq .entry)) at idField) ⌝ }
+{
+    let id = request::field(rq, at, format::field::FIELD_ID);
+    rollback(s, sh, ReservationId(id), out, base);
+}
+
+pub fn serve_commit(s: &mut [u64], sh: Shape, rq: &[u64], at: usize, out: &mut [u64], base: usize)
+    ensures { λ _. ⌜ both (now (s .exit)) (now (out .exit)) ≡ commitR (now (s .entry)) (now (out .entry)) sh base (fieldOf (now (rq .entry)) at idField) ⌝ }
+{
+    let id = request::field(rq, at, format::field::FIELD_ID);
+    commit(s, sh, ReservationId(id), out, base);
+}
+
+pub fn serve_direct_commit(
+    s: &mut [u64],
+    sh: Shape,
+    rq: &[u64],
+    at: usize,
+    out: &mut [u64],
+    base: usize,
+)
+    ensures { λ _. ⌜ both (now (s .exit)) (now (out .exit)) ≡ directCommitR (now (s .entry)) (now (out .entry)) sh base (fieldOf (now (rq .entry)) at idField) (fieldOf (now (rq .entry)) at destinationField) ⌝ }
+{
+    let f = request::read_three(
+        rq,
+        at,
+        format::op::OP_DIRECT_COMMIT,
+        format::field::FIELD_ID,
+        format::field::FIELD_DESTINATION,
+        format::field::NO_FIELD,
+    );
+    let id = f.a;
+    let destination = f.b;
+    direct_commit(
+        s,
+        sh,
+        ReservationId(id),
+        ReservationId(destination),
+        out,
+        base,
+    );
+}
+
+pub fn serve_direct_rollback(
+    s: &mut [u64],
+    sh: Shape,
+    rq: &[u64],
+    at: usize,
+    out: &mut [u64],
+    base: usize,
+)
+    ensures { λ _. ⌜ both (now (s .exit)) (now (out .exit)) ≡ directRollbackR (now (s .entry)) (now (out .entry)) sh base (fieldOf (now (rq .entry)) at idField) (fieldOf (now (rq .entry)) at destinationField) ⌝ }
+{
+    let f = request::read_three(
+        rq,
+        at,
+        format::op::OP_DIRECT_ROLLBACK,
+        format::field::FIELD_ID,
+        format::field::FIELD_DESTINATION,
+        format::field::NO_FIELD,
+    );
+    let id = f.a;
+    let destination = f.b;
+    direct_rollback(
+        s,
+        sh,
+        ReservationId(id),
+        ReservationId(destination),
+        out,
+        base,
+    );
 }

@@ -8,6 +8,8 @@ ghost use Rattle.answer.specs.Does.{both};
 ghost use Rattle.close.specs.Close.{closedR, closeR};
 ghost use Rattle.close.specs.Renew.{highW, renewW};
 ghost use Rattle.close.specs.Replace.{replacedR, replaceR};
+ghost use Rattle.format.specs.Fields.{tableField, valueField, rightsField};
+ghost use Rattle.request.specs.Place.{fieldOf};
 use authority::Rights;
 use codec::HandleCodec;
 use codec::HandleValue;
@@ -106,4 +108,38 @@ pub fn replace(
             replace_handle(s, sh, b, h, rights, out, base);
         }
     }
+}
+
+// The request of a list at a place: its fields are read.
+pub fn serve_replace(s: &mut [u64], sh: Shape, rq: &[u64], at: usize, out: &mut [u64], base: usize)
+    ensures { λ _. ⌜ both (now (s .exit)) (now (out .exit)) ≡ replaceR (now (s .entry)) (now (out .entry)) sh base (fieldOf (now (rq .entry)) at tableField) (fieldOf (now (rq .entry)) at valueField) (fieldOf (now (rq .entry)) at rightsField) ⌝ }
+{
+    let f = request::read_three(
+        rq,
+        at,
+        format::op::OP_REPLACE,
+        format::field::FIELD_TABLE,
+        format::field::FIELD_VALUE,
+        format::field::FIELD_RIGHTS,
+    );
+    let table = f.a;
+    let value = f.b;
+    let rights = f.c;
+    replace(s, sh, table, HandleValue(value), Rights(rights), out, base);
+}
+
+pub fn serve_close(s: &mut [u64], sh: Shape, rq: &[u64], at: usize, out: &mut [u64], base: usize)
+    ensures { λ _. ⌜ both (now (s .exit)) (now (out .exit)) ≡ closeR (now (s .entry)) (now (out .entry)) sh base (fieldOf (now (rq .entry)) at tableField) (fieldOf (now (rq .entry)) at valueField) ⌝ }
+{
+    let f = request::read_three(
+        rq,
+        at,
+        format::op::OP_CLOSE,
+        format::field::FIELD_TABLE,
+        format::field::FIELD_VALUE,
+        format::field::NO_FIELD,
+    );
+    let table = f.a;
+    let value = f.b;
+    close(s, sh, table, HandleValue(value), out, base);
 }

@@ -9,6 +9,8 @@ ghost use Rattle.representation.specs.Represents.{wordIn};
 ghost use Rattle.answer.specs.Does.{both};
 ghost use Rattle.storage.specs.Ops.{leaveW};
 ghost use Rattle.detach.specs.Ops.{linkW, unlinkW, unlinkPageW, joinDetachedW, detachW, firstEmpty, takePageR};
+ghost use Rattle.format.specs.Fields.{tableField};
+ghost use Rattle.request.specs.Place.{fieldOf};
 use layout::Shape;
 use layout::field;
 use layout::size;
@@ -114,4 +116,19 @@ pub fn take_empty_page(s: &mut [u64], sh: Shape, b: u64, out: &mut [u64], base: 
         return;
     }
     answer::refuse(out, base, format::refusal::MISUSE);
+}
+
+// The request of a list at a place: its fields are read.
+pub fn serve_take_empty_page(
+    s: &mut [u64],
+    sh: Shape,
+    rq: &[u64],
+    at: usize,
+    out: &mut [u64],
+    base: usize,
+)
+    ensures { λ _. ⌜ both (now (s .exit)) (now (out .exit)) ≡ takePageR (now (s .entry)) (now (out .entry)) sh base (fieldOf (now (rq .entry)) at tableField) ⌝ }
+{
+    let table = request::field(rq, at, format::field::FIELD_TABLE);
+    take_empty_page(s, sh, table, out, base);
 }

@@ -17,6 +17,8 @@ ghost use Rattle.answer.specs.Does.{both, answered};
 ghost use Rattle.lookup.specs.View.{handleBy, handleAt, slotRefusal, slotView, viewOf, tableRefusal, viewOpened, openOf};
 ghost use Rattle.lookup.specs.Read.{infoAt, getInfoR, resolvedR, resolveR};
 ghost use Rattle.lookup.specs.Scan.{lengthAt, entryBy, entryOf, noEntry, FrameFor, nextAt, endedOf, scanOf, hasNext, nextWord, entryWords, entryList, pageList, scanR};
+ghost use Rattle.format.specs.Fields.{tableField, valueField, rightsField, kindField, cursorField};
+ghost use Rattle.request.specs.Place.{fieldOf};
 use authority::Rights;
 use codec::Decoded;
 use codec::HandleCodec;
@@ -495,4 +497,79 @@ pub fn scan_handles(s: &[u64], sh: Shape, b: u64, cursor: u64, out: &mut [u64], 
         return;
     }
     answer::refuse(out, base, n);
+}
+
+// The request of a list at a place: its fields are read.
+pub fn serve_get_info(s: &mut [u64], sh: Shape, rq: &[u64], at: usize, out: &mut [u64], base: usize)
+    ensures { λ _. ⌜ both (now (s .exit)) (now (out .exit)) ≡ getInfoR (now (s .entry)) (now (out .entry)) sh base (fieldOf (now (rq .entry)) at tableField) (fieldOf (now (rq .entry)) at valueField) ⌝ }
+{
+    let f = request::read_three(
+        rq,
+        at,
+        format::op::OP_GET_INFO,
+        format::field::FIELD_TABLE,
+        format::field::FIELD_VALUE,
+        format::field::NO_FIELD,
+    );
+    let table = f.a;
+    let value = f.b;
+    get_info(s, sh, table, HandleValue(value), out, base);
+}
+
+pub fn serve_resolve(s: &mut [u64], sh: Shape, rq: &[u64], at: usize, out: &mut [u64], base: usize)
+    ensures { λ _. ⌜ both (now (s .exit)) (now (out .exit)) ≡ resolveR (now (s .entry)) (now (out .entry)) sh base (fieldOf (now (rq .entry)) at tableField) (fieldOf (now (rq .entry)) at valueField) (fieldOf (now (rq .entry)) at rightsField) (fieldOf (now (rq .entry)) at kindField) ⌝ }
+{
+    let f = request::read_three(
+        rq,
+        at,
+        format::op::OP_RESOLVE,
+        format::field::FIELD_TABLE,
+        format::field::FIELD_VALUE,
+        format::field::FIELD_RIGHTS,
+    );
+    let g = request::read_three(
+        rq,
+        at,
+        format::op::OP_RESOLVE,
+        format::field::FIELD_KIND,
+        format::field::NO_FIELD,
+        format::field::NO_FIELD,
+    );
+    let table = f.a;
+    let value = f.b;
+    let rights = f.c;
+    let kind = g.a;
+    resolve(
+        s,
+        sh,
+        table,
+        HandleValue(value),
+        Rights(rights),
+        kind,
+        out,
+        base,
+    );
+}
+
+pub fn serve_scan_handles(
+    s: &mut [u64],
+    sh: Shape,
+    rq: &[u64],
+    at: usize,
+    out: &mut [u64],
+    base: usize,
+)
+    ensures { λ _. ⌜ both (now (s .exit)) (now (out .exit)) ≡ scanR (now (s .entry)) (now (out .entry)) sh base (fieldOf (now (rq .entry)) at tableField) (fieldOf (now (rq .entry)) at cursorField) ⌝ }
+{
+    let f = request::read_three(
+        rq,
+        at,
+        format::op::OP_SCAN_HANDLES,
+        format::field::FIELD_TABLE,
+        format::field::FIELD_CURSOR,
+        format::field::NO_FIELD,
+    );
+    let table = f.a;
+    let cursor = f.b;
+    scan_handles(s, sh, table, cursor, out, base);
 }

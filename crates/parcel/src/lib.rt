@@ -7,7 +7,7 @@ ghost use mathlib.Core.Path.{_≡_};
 ghost use Rattle.authority.specs.Rights.{contains};
 ghost use Rattle.model.specs.State.{knownFlags};
 ghost use Rattle.model.specs.Words.{must};
-ghost use Rattle.request.specs.Place.{fieldsAt, endAt};
+ghost use Rattle.request.specs.Place.{fieldsAt, endAt, countAt, fieldOf};
 ghost use Rattle.layout.specs.Layout.{load as loadAt};
 ghost use Rattle.book.specs.Ops.{spare, handleW};
 ghost use Rattle.answer.specs.Does.{both};
@@ -15,7 +15,7 @@ ghost use Rattle.parcel.specs.Ops.{retireR, activationRefusal, rowRefusa
 ghost use Rattle.parcel.specs.Ops.{copyRefusal, copiedR, duplicateR, parcelLink, loweredW, releasedW, releaseR};
 ghost use Rattle.model.specs.Base.{member};
 ghost use Rattle.model.specs.Decision.{distinct};
-ghost use Rattle.format.specs.Fields.{idField};
+ghost use Rattle.format.specs.Fields.{idField, tableField, objectField, valueField, rightsField, flagsField};
 ghost use Rattle.parcel.specs.Publishing.{idsAt, plus, fits, filledW, publishedW, droppedW, spentW, publishR};
 use authority::Rights;
 use codec::HandleValue;
@@ -432,4 +432,98 @@ pub fn publish(
         return;
     }
     answer::refuse(out, base, format::refusal::MISUSE);
+}
+
+// The request of a list at a place: its fields are read.
+pub fn serve_new_object(
+    s: &mut [u64],
+    sh: Shape,
+    rq: &[u64],
+    at: usize,
+    out: &mut [u64],
+    base: usize,
+)
+    ensures { λ _. ⌜ both (now (s .exit)) (now (out .exit)) ≡ newObjectR (now (s .entry)) (now (out .entry)) sh base (fieldOf (now (rq .entry)) at objectField) (fieldOf (now (rq .entry)) at rightsField) (fieldOf (now (rq .entry)) at flagsField) ⌝ }
+{
+    let f = request::read_three(
+        rq,
+        at,
+        format::op::OP_NEW_OBJECT,
+        format::field::FIELD_OBJECT,
+        format::field::FIELD_RIGHTS,
+        format::field::FIELD_FLAGS,
+    );
+    let object = f.a;
+    let rights = f.b;
+    let flags = f.c;
+    new_object(s, sh, object, Rights(rights), flags, out, base);
+}
+
+pub fn serve_duplicate(
+    s: &mut [u64],
+    sh: Shape,
+    rq: &[u64],
+    at: usize,
+    out: &mut [u64],
+    base: usize,
+)
+    ensures { λ _. ⌜ both (now (s .exit)) (now (out .exit)) ≡ duplicateR (now (s .entry)) (now (out .entry)) sh base (fieldOf (now (rq .entry)) at tableField) (fieldOf (now (rq .entry)) at valueField) (fieldOf (now (rq .entry)) at rightsField) ⌝ }
+{
+    let f = request::read_three(
+        rq,
+        at,
+        format::op::OP_DUPLICATE,
+        format::field::FIELD_TABLE,
+        format::field::FIELD_VALUE,
+        format::field::FIELD_RIGHTS,
+    );
+    let table = f.a;
+    let value = f.b;
+    let rights = f.c;
+    duplicate(s, sh, table, HandleValue(value), Rights(rights), out, base);
+}
+
+pub fn serve_release_parcel(
+    s: &mut [u64],
+    sh: Shape,
+    rq: &[u64],
+    at: usize,
+    out: &mut [u64],
+    base: usize,
+)
+    ensures { λ _. ⌜ both (now (s .exit)) (now (out .exit)) ≡ releaseR (now (s .entry)) (now (out .entry)) sh base (fieldOf (now (rq .entry)) at idField) ⌝ }
+{
+    let id = request::field(rq, at, format::field::FIELD_ID);
+    release_parcel(s, sh, ReservationId(id), out, base);
+}
+
+pub fn serve_retire_object(
+    s: &mut [u64],
+    sh: Shape,
+    rq: &[u64],
+    at: usize,
+    out: &mut [u64],
+    base: usize,
+)
+    ensures { λ _. ⌜ both (now (s .exit)) (now (out .exit)) ≡ retireR (now (s .entry)) (now (out .entry)) sh base (fieldOf (now (rq .entry)) at objectField) ⌝ }
+{
+    let object = request::field(rq, at, format::field::FIELD_OBJECT);
+    retire_object(s, sh, object, out, base);
+}
+
+pub fn serve_publish(s: &mut [u64], sh: Shape, rq: &[u64], at: usize, out: &mut [u64], base: usize)
+    ensures { λ _. ⌜ both (now (s .exit)) (now (out .exit)) ≡ publishR (now (s .entry)) (now (out .entry)) sh base (fieldOf (now (rq .entry)) at idField) (idsAt (now (rq .entry)) (endAt (now (rq .entry)) at) (countAt (now (rq .entry)) at)) ⌝ }
+{
+    let f = request::read_three(
+        rq,
+        at,
+        format::op::OP_PUBLISH,
+        format::field::FIELD_ID,
+        format::field::FIELD_COUNT,
+        format::field::NO_FIELD,
+    );
+    let id = f.a;
+    let count = f.b;
+    let items = request::record_end(rq, at);
+    publish(s, sh, rq, items, count, ReservationId(id), out, base);
 }

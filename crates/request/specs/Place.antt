@@ -86,6 +86,10 @@ hasMap ws at map = ltb at (length ws) && eqb (mapAt ws at) map
 unfoldable pub fieldsAt : List ℕ → ℕ → Fields
 fieldsAt ws at = fieldsFrom fieldCount (mapAt ws at) ws (suc at)
 
+-- a field's word
+abbrev pub fieldOf : List ℕ → ℕ → ℕ → ℕ
+fieldOf ws at k = must (fieldsAt ws at) k
+
 -- three of a record's fields, by their bits
 unfoldable pub threeAt : Fields → ℕ → ℕ → ℕ → Three
 threeAt fs a b c = record { a = must fs a; b = must fs b; c = must fs c }

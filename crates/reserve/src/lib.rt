@@ -10,6 +10,8 @@ ghost use Rattle.layout.specs.Sizes.{batchMax};
 ghost use Rattle.request.specs.Answers.{puts};
 ghost use Rattle.answer.specs.Does.{both, answered};
 ghost use Rattle.reserve.specs.Ops.{batchRefusal, roomRefusal, listedW, listW, takenW, batchW, valuesAt, batchWords, openR, reserveR};
+ghost use Rattle.format.specs.Fields.{tableField, countField};
+ghost use Rattle.request.specs.Place.{fieldOf};
 use codec::HandleCodec;
 use layout::Shape;
 use layout::field;
@@ -151,4 +153,21 @@ pub fn reserve(s: &mut [u64], sh: Shape, b: u64, n: u64, out: &mut [u64], base: 
         return;
     }
     reserve_slots(s, sh, b, n, p, out, base);
+}
+
+// The request of a list at a place: its fields are read.
+pub fn serve_reserve(s: &mut [u64], sh: Shape, rq: &[u64], at: usize, out: &mut [u64], base: usize)
+    ensures { λ _. ⌜ both (now (s .exit)) (now (out .exit)) ≡ reserveR (now (s .entry)) (now (out .entry)) sh base (fieldOf (now (rq .entry)) at tableField) (fieldOf (now (rq .entry)) at countField) ⌝ }
+{
+    let f = request::read_three(
+        rq,
+        at,
+        format::op::OP_RESERVE,
+        format::field::FIELD_TABLE,
+        format::field::FIELD_COUNT,
+        format::field::NO_FIELD,
+    );
+    let table = f.a;
+    let count = f.b;
+    reserve(s, sh, table, count, out, base);
 }

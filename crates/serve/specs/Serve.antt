@@ -4,11 +4,10 @@ use mathlib.Core.Path.{_≡_}
 use Prim.Native.Nat.{ℕ}
 use lib.Dec.{eqb}
 use Rattle.words.specs.Pick.{pick}
-use Rattle.model.specs.Words.{must}
 use Rattle.format.specs.Fields.{tableField, objectField, countField, valueField, rightsField, flagsField, idField, destinationField, kindField, koidField, cursorField}
 use Rattle.format.specs.Ops.{opNewObject, opDuplicate, opReleaseParcel, opRetireObject, opReserve, opTrim, opAbort, opPublish, opGetInfo, opResolve, opReplace, opClose, opScanHandles, opPrepareTransfer, opPrepareConsumption, opRollback, opCommit, opDirectCommit, opDirectRollback, opRemoveStoppingOwner, opTeardownStart, opTeardownStep, opTeardownFinish, opTakeEmptyPage}
 use Rattle.layout.specs.declared.Shape.{Shape}
-use Rattle.request.specs.Place.{fieldsAt, opAt, endAt, countAt}
+use Rattle.request.specs.Place.{fieldOf, opAt, endAt, countAt}
 use Rattle.answer.specs.Does.{Both, both}
 use Rattle.parcel.specs.Ops.{newObjectR, duplicateR, releaseR, retireR}
 use Rattle.reserve.specs.Ops.{reserveR}
@@ -23,10 +22,6 @@ use Rattle.claim.specs.EndsOps.{trimR, abortR}
 use Rattle.claim.specs.Ops.{rollbackR, commitR, directCommitR, directRollbackR}
 use Rattle.teardown.specs.Ops.{stoppingR, teardownStartR, teardownStepR, teardownFinishR}
 use Rattle.detach.specs.Ops.{takePageR}
-
--- a field's word
-abbrev pub fieldOf : List ℕ → ℕ → ℕ → ℕ
-fieldOf list at k = must (fieldsAt list at) k
 
 unfoldable pub serveR : ℕ → List ℕ → List ℕ → Shape → List ℕ → ℕ → ℕ → Both
 serveR op ws os sh list at base =

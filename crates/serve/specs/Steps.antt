@@ -8,7 +8,7 @@ use Rattle.format.specs.Fields.{tableField, objectField, countField, valueField
 use Rattle.format.specs.Ops.{opLast}
 use Rattle.layout.specs.declared.Shape.{Shape}
 use Rattle.representation.specs.Represents.{Rep}
-use Rattle.request.specs.Place.{opAt, countAt, endAt, requestOf, requestAt}
+use Rattle.request.specs.Place.{fieldOf, opAt, countAt, endAt, requestOf, requestAt}
 use Rattle.request.specs.Laws.{request-is}
 use Rattle.answer.specs.Does.{Does}
 use Rattle.lookup.specs.Read.{getInfo-does, resolve-does}
@@ -30,7 +30,7 @@ use Rattle.claim.specs.Direct.{directCommit-does, directRollback-does}
 use Rattle.teardown.specs.Teardown.{removeStoppingOwner-does, teardownStart-does, teardownStep-does, teardownFinish-does}
 use Rattle.contract.specs.Run.{Steps}
 use Rattle.contract.specs.Short.{step-short}
-use Rattle.serve.specs.Serve.{fieldOf, serveR, oneR}
+use Rattle.serve.specs.Serve.{serveR, oneR}
 use Rattle.serve.specs.Known.{known}
 
 module _ (ws os : List ℕ) (sh : Shape) (s : State) (list : List ℕ) (at base : ℕ) (r : Rep ws sh s) where

@@ -8,6 +8,8 @@ ghost use Rattle.layout.specs.Layout.{load as loadAt};
 ghost use Rattle.layout.specs.Values.{lifeTearingDown, lifeRetired};
 ghost use Rattle.answer.specs.Does.{both};
 ghost use Rattle.teardown.specs.Ops.{nextLink, removeW, lifeW, opensAt, openIn, tearing, stoppedR, stoppingR, teardownStartR, tornR, teardownStepR, teardownFinishR};
+ghost use Rattle.format.specs.Fields.{tableField, cursorField};
+ghost use Rattle.request.specs.Place.{fieldOf};
 use layout::Shape;
 use layout::field;
 use layout::size;
@@ -225,4 +227,70 @@ pub fn finish_teardown(s: &mut [u64], sh: Shape, b: u64, out: &mut [u64], base: 
         return;
     }
     answer::refuse(out, base, format::refusal::MISUSE);
+}
+
+// The request of a list at a place: its fields are read.
+pub fn serve_remove_stopping_owner(
+    s: &mut [u64],
+    sh: Shape,
+    rq: &[u64],
+    at: usize,
+    out: &mut [u64],
+    base: usize,
+)
+    ensures { λ _. ⌜ both (now (s .exit)) (now (out .exit)) ≡ stoppingR (now (s .entry)) (now (out .entry)) sh base (fieldOf (now (rq .entry)) at tableField) (fieldOf (now (rq .entry)) at cursorField) ⌝ }
+{
+    let f = request::read_three(
+        rq,
+        at,
+        format::op::OP_REMOVE_STOPPING_OWNER,
+        format::field::FIELD_TABLE,
+        format::field::FIELD_CURSOR,
+        format::field::NO_FIELD,
+    );
+    let table = f.a;
+    let cursor = f.b;
+    remove_stopping_owner(s, sh, table, cursor, out, base);
+}
+
+pub fn serve_teardown_start(
+    s: &mut [u64],
+    sh: Shape,
+    rq: &[u64],
+    at: usize,
+    out: &mut [u64],
+    base: usize,
+)
+    ensures { λ _. ⌜ both (now (s .exit)) (now (out .exit)) ≡ teardownStartR (now (s .entry)) (now (out .entry)) sh base (fieldOf (now (rq .entry)) at tableField) ⌝ }
+{
+    let table = request::field(rq, at, format::field::FIELD_TABLE);
+    begin_teardown(s, sh, table, out, base);
+}
+
+pub fn serve_teardown_step(
+    s: &mut [u64],
+    sh: Shape,
+    rq: &[u64],
+    at: usize,
+    out: &mut [u64],
+    base: usize,
+)
+    ensures { λ _. ⌜ both (now (s .exit)) (now (out .exit)) ≡ teardownStepR (now (s .entry)) (now (out .entry)) sh base (fieldOf (now (rq .entry)) at tableField) ⌝ }
+{
+    let table = request::field(rq, at, format::field::FIELD_TABLE);
+    remove_next(s, sh, table, out, base);
+}
+
+pub fn serve_teardown_finish(
+    s: &mut [u64],
+    sh: Shape,
+    rq: &[u64],
+    at: usize,
+    out: &mut [u64],
+    base: usize,
+)
+    ensures { λ _. ⌜ both (now (s .exit)) (now (out .exit)) ≡ teardownFinishR (now (s .entry)) (now (out .entry)) sh base (fieldOf (now (rq .entry)) at tableField) ⌝ }
+{
+    let table = request::field(rq, at, format::field::FIELD_TABLE);
+    finish_teardown(s, sh, table, out, base);
 }

@@ -14,10 +14,10 @@ ghost use Rattle.authority.specs.Rights.{contains};
 ghost use Rattle.model.specs.Base.{orElse, agrees, bans, member};
 ghost use Rattle.model.specs.Words.{must, operationOf};
 ghost use Rattle.model.specs.Transfer.{isCopy};
-ghost use Rattle.format.specs.Fields.{valueField};
+ghost use Rattle.format.specs.Fields.{valueField, tableField, rightsField, kindField, koidField};
 ghost use Rattle.layout.specs.Layout.{item, place, load as loadAt};
 ghost use Rattle.layout.specs.Fields.{itemOperation};
-ghost use Rattle.request.specs.Place.{fieldsAt, endAt, itemAt};
+ghost use Rattle.request.specs.Place.{fieldsAt, endAt, itemAt, fieldOf};
 ghost use Rattle.book.specs.Ops.{spare};
 ghost use Rattle.answer.specs.Does.{both};
 ghost use Rattle.transfer.specs.Ops.{movedW, markItemW, markedW, claimW, consumeRefusal, consumedR, consumptionR};
@@ -750,4 +750,49 @@ pub fn prepare_transfer(
     let t = read_rules(rq, at);
     let first = request::record_end(rq, at);
     prepare_items(s, sh, rq, first, count, b, t, out, base);
+}
+
+// The request of a list at a place: its fields are read.
+pub fn serve_prepare_consumption(
+    s: &mut [u64],
+    sh: Shape,
+    rq: &[u64],
+    at: usize,
+    out: &mut [u64],
+    base: usize,
+)
+    ensures { λ _. ⌜ both (now (s .exit)) (now (out .exit)) ≡ consumptionR (now (s .entry)) (now (out .entry)) sh base (fieldOf (now (rq .entry)) at tableField) (fieldOf (now (rq .entry)) at valueField) (fieldOf (now (rq .entry)) at rightsField) (fieldOf (now (rq .entry)) at kindField) (fieldOf (now (rq .entry)) at koidField) ⌝ }
+{
+    let f = request::read_three(
+        rq,
+        at,
+        format::op::OP_PREPARE_CONSUMPTION,
+        format::field::FIELD_TABLE,
+        format::field::FIELD_VALUE,
+        format::field::FIELD_RIGHTS,
+    );
+    let g = request::read_three(
+        rq,
+        at,
+        format::op::OP_PREPARE_CONSUMPTION,
+        format::field::FIELD_KIND,
+        format::field::FIELD_KOID,
+        format::field::NO_FIELD,
+    );
+    let table = f.a;
+    let value = f.b;
+    let rights = f.c;
+    let kind = g.a;
+    let koid = g.b;
+    prepare_consumption(
+        s,
+        sh,
+        table,
+        HandleValue(value),
+        Rights(rights),
+        kind,
+        Koid(koid),
+        out,
+        base,
+    );
 }
