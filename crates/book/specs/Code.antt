@@ -12,7 +12,7 @@ use Rattle.layout.specs.Layout.{Mem, root, index, rank, row, item, load, save}
 use Rattle.layout.specs.Fields.{rootNextId, rootUsedRows, rowId, rowKind, rowTable, rowLength, itemSlot}
 use Rattle.layout.specs.Sizes.{batchMax}
 use Rattle.storage.specs.Ops.{up, vacateW}
-use Rattle.book.specs.Ops.{idAt, linkFrom, rowLink, kindLink, rowLeft, idRefusal, spare, openP, openW, shiftW, closeW, vacateItemsW}
+use Rattle.book.specs.Ops.{idAt, linkFrom, usedOf, likelyRank, likelyLink, rowLink, kindLink, rowLeft, idRefusal, spare, openP, openW, shiftW, closeW, vacateItemsW}
 
 -- the row of a kind with an id
 module _ (what : ℕ) (m : Mem) (sh : Shape) (i l x w : ℕ) (t : Bool) (e₁ : l ≡ rowLink m sh i) (e₂ : x ≡ l - 1) (e₃ : w ≡ m (row x rowKind)) (e₄ : t ≡ eqb w what) where
@@ -43,7 +43,7 @@ module _ (m : Mem) (w : ℕ) (t : Bool) (e : w ≡ m (root rootNextId)) (q : t �
   pub id-left : t ≡ false → 0 ≡ idRefusal m
   id-left y = no-is _ _ _ _ (last-id ∙ y) refl
 
--- ---- `row_of`
+-- ---- `search_row`
 
 -- fuel enough is enough
 link-fuel : (m : Mem) (id f g i n : ℕ) → n ≤ f → n ≤ g → linkFrom m id f i n ≡ linkFrom m id g i n
@@ -63,34 +63,72 @@ link-look m id i zero h l e = absurd (omega arith)
 link-look m id i (suc n) h l e =
     rw (e, link-fuel m id n (suc n - suc n / 2 - 1) (i + suc n / 2 + 1) (suc n - suc n / 2 - 1) (omega arith) (omega arith), link-fuel m id n (suc n / 2) i (suc n / 2) (omega arith) (omega arith))
 
-pub link-start : (m : Mem) (sh : Shape) (id u n : ℕ) → u ≡ m (root rootUsedRows) → n ≡ min u (sh .rows) → rowLink m sh id ≡ linkFrom m id n 0 n
-unfolding rowLink
-link-start m sh id u n d e = rw (e, d)
-
--- n ranks are left, from i on
-module _ (m : Mem) (sh : Shape) (id i n : ℕ) (inv : rowLink m sh id ≡ linkFrom m id n i n) where
-  module _ (l : 0 < n) (h x w : ℕ) (t : Bool) (eh : h ≡ n / 2) (ex : x ≡ m (index (i + h))) (ew : w ≡ m (row x rowId)) (et : t ≡ eqb w id) where
+-- n ranks are left, from i on; l is the link that is searched
+module _ (m : Mem) (l id i n : ℕ) (inv : l ≡ linkFrom m id n i n) where
+  module _ (some : 0 < n) (h x w : ℕ) (t : Bool) (eh : h ≡ n / 2) (ex : x ≡ m (index (i + h))) (ew : w ≡ m (row x rowId)) (et : t ≡ eqb w id) where
     there : w ≡ idAt m (i + h)
     there = rw ex at ew
 
     test-is : eqb (idAt m (i + h)) id ≡ t
     test-is = sym (et ∙ ap (λ (v : ℕ). eqb v id) there)
 
-    pub link-yes : (y : ℕ) → t ≡ true → y ≡ up x → y ≡ rowLink m sh id
-    link-yes y d e = e ∙ ap up ex ∙ yes-is _ _ _ _ (test-is ∙ d) refl ∙ sym (inv ∙ link-look m id i n h l eh)
+    pub link-yes : (y : ℕ) → t ≡ true → y ≡ up x → y ≡ l
+    link-yes y d e = e ∙ ap up ex ∙ yes-is _ _ _ _ (test-is ∙ d) refl ∙ sym (inv ∙ link-look m id i n h some eh)
 
     module _ (d : t ≡ false) (t₂ : Bool) (et₂ : t₂ ≡ ltb w id) where
       order-is : ltb (idAt m (i + h)) id ≡ t₂
       order-is = sym (et₂ ∙ ap (λ (v : ℕ). ltb v id) there)
 
-      pub link-above : t₂ ≡ true → rowLink m sh id ≡ linkFrom m id (n - h - 1) (i + h + 1) (n - h - 1)
-      link-above z = inv ∙ link-look m id i n h l eh ∙ sym (no-is _ _ _ _ (test-is ∙ d) (yes-is _ _ _ _ (order-is ∙ z) refl))
+      pub link-above : t₂ ≡ true → l ≡ linkFrom m id (n - h - 1) (i + h + 1) (n - h - 1)
+      link-above z = inv ∙ link-look m id i n h some eh ∙ sym (no-is _ _ _ _ (test-is ∙ d) (yes-is _ _ _ _ (order-is ∙ z) refl))
 
-      pub link-below : t₂ ≡ false → rowLink m sh id ≡ linkFrom m id h i h
-      link-below z = inv ∙ link-look m id i n h l eh ∙ sym (no-is _ _ _ _ (test-is ∙ d) (no-is _ _ _ _ (order-is ∙ z) refl))
+      pub link-below : t₂ ≡ false → l ≡ linkFrom m id h i h
+      link-below z = inv ∙ link-look m id i n h some eh ∙ sym (no-is _ _ _ _ (test-is ∙ d) (no-is _ _ _ _ (order-is ∙ z) refl))
 
-  pub link-end : n ≤ 0 → 0 ≡ rowLink m sh id
-  link-end l = let z : n ≡ 0 = omega arith in sym (inv ∙ ap (λ (v : ℕ). linkFrom m id v i v) z)
+  pub link-end : n ≤ 0 → 0 ≡ l
+  link-end none = let z : n ≡ 0 = omega arith in sym (inv ∙ ap (λ (v : ℕ). linkFrom m id v i v) z)
+
+-- ---- `likely_row`
+
+module _ (m : Mem) (id n next d i : ℕ) (t : Bool) (e₁ : next ≡ m (root rootNextId)) (e₂ : d ≡ next - id) (e₃ : i ≡ n - d) (e₄ : t ≡ ltb i n) where
+  rank-is : likelyRank m id n ≡ i
+  rank-is = rw (e₃, e₂, e₁)
+
+  under-is : ltb (likelyRank m id n) n ≡ t
+  under-is = rw (e₄, rank-is)
+
+  pub likely-out : t ≡ false → 0 ≡ likelyLink m id n
+  unfolding likelyLink
+  likely-out f = no-is _ _ _ _ (under-is ∙ f) refl
+
+  module _ (y : t ≡ true) (x w : ℕ) (u : Bool) (e₅ : x ≡ m (index i)) (e₆ : w ≡ m (row x rowId)) (e₇ : u ≡ eqb w id) where
+    likely-test : eqb (idAt m (likelyRank m id n)) id ≡ u
+    likely-test = rw (e₇, e₆, e₅, rank-is)
+
+    pub likely-yes : (r : ℕ) → u ≡ true → r ≡ up x → r ≡ likelyLink m id n
+    unfolding likelyLink
+    likely-yes r f q = yes-is _ _ _ _ (under-is ∙ y) (yes-is _ _ _ _ (likely-test ∙ f) (rw (q, e₅, rank-is)))
+
+    pub likely-no : u ≡ false → 0 ≡ likelyLink m id n
+    unfolding likelyLink
+    likely-no f = yes-is _ _ _ _ (under-is ∙ y) (no-is _ _ _ _ (likely-test ∙ f) refl)
+
+-- ---- `row_of`
+
+module _ (m : Mem) (sh : Shape) (id u n l : ℕ) (t : Bool) (e₁ : u ≡ m (root rootUsedRows)) (e₂ : n ≡ min u (sh .rows)) (e₃ : l ≡ likelyLink m id n) (e₄ : t ≡ eqb l 0) where
+  used-here : n ≡ usedOf m sh
+  used-here = rw (e₂, e₁)
+
+  likely-none : eqb (likelyLink m id (usedOf m sh)) 0 ≡ t
+  likely-none = rw (e₄, e₃, used-here)
+
+  pub row-search : (r : ℕ) → t ≡ true → r ≡ linkFrom m id n 0 n → r ≡ rowLink m sh id
+  unfolding rowLink
+  row-search r y q = yes-is _ _ _ _ (likely-none ∙ y) (rw (q, used-here))
+
+  pub row-likely : t ≡ false → l ≡ rowLink m sh id
+  unfolding rowLink
+  row-likely y = no-is _ _ _ _ (likely-none ∙ y) (rw (e₃, used-here))
 
 -- ---- `open_row`
 

@@ -21,7 +21,7 @@ use Rattle.storage.specs.Kept.{body-kept, RowsStay}
 use Rattle.storage.specs.Ops.{up}
 use Rattle.book.specs.Lists.{ids-rise, find-nth, nth-find, nth-below}
 use Rattle.book.specs.Places.{Indexed, row-of}
-use Rattle.book.specs.Ops.{idAt, linkFrom, usedOf, rowLink, kindLink}
+use Rattle.book.specs.Ops.{idAt, linkFrom, usedOf, likelyRank, likelyLink, rowLink, kindLink}
 
 -- the book of a well-formed state: its rows have places, and their ids rise
 pub record Fits (s : State) : Type 0 where
@@ -87,6 +87,34 @@ link-some m id c few (suc f) i (suc n) x l low e = bool (eqb (idAt m (i + suc n 
     (λ g. let p = link-some m id c few f i (suc n / 2) x (omega arith) (λ j h. low j (omega arith)) (rw (q, g) at e) in
     (p .0, omega (arith, p .1), p .2, p .3)))
 
+-- so is the row of the likely rank
+likely-some : (m : Mem) (id c : ℕ) → c ≤ rowsMax → (n x : ℕ) → ((j : ℕ) → j < n → m (index j) < c) → likelyLink m id n ≡ suc x → (j : ℕ) × (j < n) × (m (index j) ≡ x) × (m (row x rowId) ≡ id)
+unfolding likelyLink
+likely-some m id c few n x low e = bool (ltb (likelyRank m id n) n)
+    (λ y. let under : likelyRank m id n < n = ltb-true (likelyRank m id n) n y in
+    bool (eqb (idAt m (likelyRank m id n)) id)
+    (λ q. let d : up (m (index (likelyRank m id n))) ≡ suc x = rw (y, q) at e in
+    let z : m (index (likelyRank m id n)) ≡ x = omega (arith, low (likelyRank m id n) under) in
+    (likelyRank m id n, under, z, ap (λ (v : ℕ). m (row v rowId)) (sym z) ∙ eqb-true (idAt m (likelyRank m id n)) id q))
+    (λ q. let d : 0 ≡ suc x = rw (y, q) at e in absurd (omega arith)))
+    (λ y. let d : 0 ≡ suc x = rw y at e in absurd (omega arith))
+
+-- whichever of the two it is
+row-some : (m : Mem) (sh : Shape) (id : ℕ) → sh .rows ≤ rowsMax → (x : ℕ) → ((j : ℕ) → j < usedOf m sh → m (index j) < sh .rows) → rowLink m sh id ≡ suc x
+    → (j : ℕ) × (j < usedOf m sh) × (m (index j) ≡ x) × (m (row x rowId) ≡ id)
+unfolding rowLink
+row-some m sh id few x low e = bool (eqb (likelyLink m id (usedOf m sh)) 0)
+    (λ y. let p = link-some m id (sh .rows) few (usedOf m sh) 0 (usedOf m sh) x (omega arith) (λ j h. low j (omega arith)) (rw y at e) in
+    (p .0, omega (arith, p .1), p .2, p .3))
+    (λ y. likely-some m id (sh .rows) few (usedOf m sh) x low (rw y at e))
+
+-- where there is none, the search found none
+row-left-none : (m : Mem) (sh : Shape) (id : ℕ) → rowLink m sh id ≡ 0 → linkFrom m id (usedOf m sh) 0 (usedOf m sh) ≡ 0
+unfolding rowLink
+row-left-none m sh id e = bool (eqb (likelyLink m id (usedOf m sh)) 0)
+    (λ y. rw y at e)
+    (λ y. absurd (eqb-false (likelyLink m id (usedOf m sh)) 0 y (rw y at e)))
+
 -- the ids of the ranks under n rise
 abbrev Rising : Mem → ℕ → Type 0
 Rising m n = (j k : ℕ) → j < k → k < n → idAt m j < idAt m k
@@ -127,10 +155,9 @@ module _ (sh : Shape) (m : Mem) (s : State) (r : Represents sh m s) (f : Fits s)
 
   -- THE ROW that the search finds
   pub row-found : sh .rows ≤ rowsMax → (i x : ℕ) → rowLink m sh i ≡ suc x → (b : Body) × (find i (s .book .rows) ≡ some b) × RowAt m s x i b
-  unfolding rowLink
   row-found few i x e =
-      let low : (j : ℕ) → j < 0 + usedOf m sh → m (index j) < sh .rows = λ j h. let p = r .book .places j (omega (arith, r .capacity)) .0 in omega (arith, r .capacity) in
-      let p = link-some m i (sh .rows) few (usedOf m sh) 0 (usedOf m sh) x (omega arith) low e in
+      let low : (j : ℕ) → j < usedOf m sh → m (index j) < sh .rows = λ j h. let p = r .book .places j (omega (arith, r .capacity)) .0 in omega (arith, r .capacity) in
+      let p = row-some m sh i few x low e in
       let j : ℕ = p .0 in
       let under : j < length (s .book .rows) = omega (arith, p .1, used-is sh m s r f) in
       let q = nth-some (s .book .rows) j under in
@@ -141,14 +168,13 @@ module _ (sh : Shape) (m : Mem) (s : State) (r : Represents sh m s) (f : Fits s)
 
   -- or there is none
   pub row-none : (i : ℕ) → rowLink m sh i ≡ 0 → find i (s .book .rows) ≡ none
-  unfolding rowLink
   row-none i e = go (find i (s .book .rows)) refl
     where
       go : (o : Option Body) → find i (s .book .rows) ≡ o → o ≡ none
       go none d = refl
       go (some b) d = let p = nth-find (s .book .rows) i b d in
           let a = row-at sh m s r f (p .0) i b (p .1) in
-          absurd (link-none m i (usedOf m sh) 0 (usedOf m sh) (omega arith) rising e (p .0) (omega arith) (omega (arith, used-is sh m s r f, nth-below (s .book .rows) (p .0) (record { id = i; body = b }) (p .1))) (a .id))
+          absurd (link-none m i (usedOf m sh) 0 (usedOf m sh) (omega arith) rising (row-left-none m sh i e) (p .0) (omega arith) (omega (arith, used-is sh m s r f, nth-below (s .book .rows) (p .0) (record { id = i; body = b }) (p .1))) (a .id))
 
   -- no row of the kind: none with the id, or one that word 1 tells from it
   pub kind-none : sh .rows ≤ rowsMax → (what i : ℕ) (P : Option Body → Type 0) → P none → ((x : ℕ) (b : Body) → BodyIs m x b → (m (row x rowKind) ≡ what → ⊥) → P (some b))

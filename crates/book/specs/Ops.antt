@@ -27,12 +27,21 @@ linkFrom m id (suc fuel) i (suc n) =
     pick (eqb (idAt m (i + suc n / 2)) id) (up (m (index (i + suc n / 2))))
     (pick (ltb (idAt m (i + suc n / 2)) id) (linkFrom m id fuel (i + suc n / 2 + 1) (suc n - suc n / 2 - 1)) (linkFrom m id fuel i (suc n / 2)))
 
+-- the likely rank of a row among n: as far from their end as its id is from the next one
+abbrev pub likelyRank : Mem → ℕ → ℕ → ℕ
+likelyRank m id n = n - (m (root rootNextId) - id)
+
+-- the row of that rank, if it has the id: its place plus 1, else 0
+unfoldable pub likelyLink : Mem → ℕ → ℕ → ℕ
+likelyLink m id n = pick (ltb (likelyRank m id n) n) (pick (eqb (idAt m (likelyRank m id n)) id) (up (m (index (likelyRank m id n)))) 0) 0
+
 -- how many rows are in use, at most those that there are
 abbrev pub usedOf : Mem → Shape → ℕ
 usedOf m sh = min (m (root rootUsedRows)) (sh .rows)
 
+-- the row in use with an id: that of the likely rank, or else by the search
 unfoldable pub rowLink : Mem → Shape → ℕ → ℕ
-rowLink m sh id = linkFrom m id (usedOf m sh) 0 (usedOf m sh)
+rowLink m sh id = pick (eqb (likelyLink m id (usedOf m sh)) 0) (linkFrom m id (usedOf m sh) 0 (usedOf m sh)) (likelyLink m id (usedOf m sh))
 
 -- if that row is of a kind
 unfoldable pub kindLink : ℕ → Mem → Shape → ℕ → ℕ

@@ -4,7 +4,7 @@ ghost use mathlib.Core.Path.{_≡_};
 ghost use Prim.Native.Nat.{ℕ, _-_, min};
 ghost use Rattle.layout.specs.Layout.{load as loadAt};
 ghost use Rattle.layout.specs.Sizes.{batchMax};
-ghost use Rattle.book.specs.Ops.{rowLink, reservationLink, rowLeft, idRefusal, spare, openW, handleW, shiftW, closeW, shrinkW, vacateItemsW, spendW};
+ghost use Rattle.book.specs.Ops.{linkFrom, likelyLink, rowLink, reservationLink, rowLeft, idRefusal, spare, openW, handleW, shiftW, closeW, shrinkW, vacateItemsW, spendW};
 use codec::ReservationId;
 use layout::Shape;
 use layout::field;
@@ -14,12 +14,29 @@ use layout::value;
 // The id that is never given out.
 pub const LAST_ID: u64 = 0xffff_ffff_ffff_ffff;
 
-// The place of the row in use with an id, plus 1; 0 if there is none. Ids rise with rank, so that each look leaves half of the ranks.
-pub fn row_of(s: &[u64], sh: Shape, id: u64) -> u64
-    ensures { λ r. ⌜ r ≡ rowLink (loadAt (now (s .entry)) sh) sh id ⌝ }
+// The place of the row of the likely rank among n, plus 1, if that row has the id; else 0. Where no row that opened after it has left, a row stands as far from the ranks' end
+// as its id is from the next one.
+fn likely_row(s: &[u64], sh: Shape, id: u64, n: u64) -> u64
+    ensures { λ r. ⌜ r ≡ likelyLink (loadAt (now (s .entry)) sh) id n ⌝ }
 {
-    let rows = sh.rows as u64;
-    let mut n = words::smaller(layout::root_word(s, sh, field::ROOT_USED_ROWS), rows);
+    let i = words::left(
+        n,
+        words::left(layout::root_word(s, sh, field::ROOT_NEXT_ID), id),
+    );
+    if words::lt(i, n) {
+        let x = layout::index_word(s, sh, i);
+        if words::eq(layout::row_word(s, sh, x, field::ROW_ID), id) {
+            return words::inc(x);
+        }
+    }
+    0
+}
+
+// The place of the row with an id among the first count ranks, plus 1; 0 if there is none. Ids rise with rank, so that each look leaves half of the ranks.
+fn search_row(s: &[u64], sh: Shape, id: u64, count: u64) -> u64
+    ensures { λ r. ⌜ r ≡ linkFrom (loadAt (now (s .entry)) sh) id count 0 count ⌝ }
+{
+    let mut n = count;
     let mut i: u64 = 0;
     while 0 < n {
         let half = n / 2;
@@ -36,6 +53,19 @@ pub fn row_of(s: &[u64], sh: Shape, id: u64) -> u64
         n = half;
     }
     0
+}
+
+// The place of the row in use with an id, plus 1; 0 if there is none. The likely rank first, then a search.
+pub fn row_of(s: &[u64], sh: Shape, id: u64) -> u64
+    ensures { λ r. ⌜ r ≡ rowLink (loadAt (now (s .entry)) sh) sh id ⌝ }
+{
+    let rows = sh.rows as u64;
+    let n = words::smaller(layout::root_word(s, sh, field::ROOT_USED_ROWS), rows);
+    let link = likely_row(s, sh, id, n);
+    if words::eq(link, 0) {
+        return search_row(s, sh, id, n);
+    }
+    link
 }
 
 // The place of the open reservation with an id, plus 1; 0 if there is none.

@@ -1,123 +1,50 @@
-use borrow.Author.Needs.{needs}
-use mathlib.Core.Path.{_≡_, refl}
-use Prim.Native.Nat.{_+_, _≤_}
-use native.Mathlib.Omega.{arith}
+use Rattle.book.specs.Code.{row-search, row-likely}
 use Rattle.layout.specs.Layout.{load}
-use Rattle.layout.specs.Sizes.{framesMax}
-use Rattle.book.specs.Code.{link-start, link-yes, link-above, link-below, link-end}
-use Rattle.book.specs.Ops.{rowLink, linkFrom}
+use borrow.Author.Needs.{needs}
 use Rattle.book.proofs.row_of.Statement.{statement}
 use Rattle.book.proofs.row_of.Tie as tie
 
-abbrev Inv-loop : tie.InvT-loop
-Inv-loop s sh id rows n₀ i₀ n i = (i + n ≤ framesMax) × (rowLink (load s sh) sh id ≡ linkFrom (load s sh) id n i n)
-
-abbrev μ-loop : tie.MeasureT-loop
-μ-loop s sh id rows n₀ i₀ n i = n
-
--- src/lib.rt:13:16
-cast-rows : tie.Need-cast-rows Inv-loop μ-loop
+-- src/lib.rt:62:16
+cast-rows : tie.Need-cast-rows
 cast-rows c = search needs
 
--- src/lib.rt:14:32
-root-word-requires : tie.Need-root-word-requires Inv-loop μ-loop
+-- src/lib.rt:63:28
+root-word-requires : tie.Need-root-word-requires
 root-word-requires c κs = tt
 
--- src/lib.rt:14:9
-smaller-requires : tie.Need-smaller-requires Inv-loop μ-loop
+-- src/lib.rt:63:9
+smaller-requires : tie.Need-smaller-requires
 smaller-requires c κs = tt
 
--- src/lib.rt:16:5
-loop-holds : tie.Need-loop-holds Inv-loop μ-loop
-loop-holds c = (omega (arith, c .smaller .ensures, c .before .before .before .before .fits), link-start (load (c .before .before .before .before .args .s .now) (c .before .before .before .before .args .sh)) (c .before .before .before .before .args .sh) (c .before .before .before .before .args .id) _ _ (c .before .root-word .ensures) (c .smaller .ensures))
+-- src/lib.rt:64:9
+likely-row-requires : tie.Need-likely-row-requires
+likely-row-requires c κs = tt
 
--- src/lib.rt:18:43
-add-index-word : tie.Need-add-index-word Inv-loop μ-loop
-add-index-word c = omega (arith, c .before .loop .inv .0)
-
--- src/lib.rt:18:13
-index-word-requires : tie.Need-index-word-requires Inv-loop μ-loop
-index-word-requires c κs = tt
-
--- src/lib.rt:19:13
-row-word-requires : tie.Need-row-word-requires Inv-loop μ-loop
-row-word-requires c κs = tt
-
--- src/lib.rt:20:12
-eq-requires : tie.Need-eq-requires Inv-loop μ-loop
+-- src/lib.rt:65:8
+eq-requires : tie.Need-eq-requires
 eq-requires c κs = tt
 
--- src/lib.rt:21:13
-inc-requires : tie.Need-inc-requires Inv-loop μ-loop
-inc-requires c κs = tt
+-- src/lib.rt:66:9
+search-row-requires : tie.Need-search-row-requires
+search-row-requires c κs = tt
 
--- src/lib.rt:21:13
-returns : tie.Need-returns Inv-loop μ-loop
-returns c = link-yes (load (c .before .before .before .before .before .before .before .before .before .before .before .args .s .now) (c .before .before .before .before .before .before .before .before .before .before .before .args .sh)) (c .before .before .before .before .before .before .before .before .before .before .before .args .sh) (c .before .before .before .before .before .before .before .before .before .before .before .args .id) _ _ (c .before .before .before .before .before .before .loop .inv .1) (c .before .before .before .before .before .loop-test .taken) _ _ _ _ refl (c .before .before .before .before .index-word .ensures) (c .before .before .before .row-word .ensures) (c .before .before .eq .ensures) _ (c .before .if1 .taken) (c .inc .ensures)
+-- src/lib.rt:66:9
+returns : tie.Need-returns
+returns c = row-search (load (c .before .before .before .before .before .before .before .before .args .s .now) (c .before .before .before .before .before .before .before .before .args .sh)) (c .before .before .before .before .before .before .before .before .args .sh) (c .before .before .before .before .before .before .before .before .args .id) _ _ _ _ (c .before .before .before .before .before .root-word .ensures) (c .before .before .before .before .smaller .ensures) (c .before .before .before .likely-row .ensures) (c .before .before .eq .ensures) _ (c .before .if1 .taken) (c .search-row .ensures)
 
--- src/lib.rt:23:12
-lt-requires : tie.Need-lt-requires Inv-loop μ-loop
-lt-requires c κs = tt
-
--- src/lib.rt:24:17
-add-i : tie.Need-add-i Inv-loop μ-loop
-add-i c = omega (arith, c .before .before .before .before .before .before .before .loop .inv .0)
-
--- src/lib.rt:24:17
-add-i-2 : tie.Need-add-i-2 Inv-loop μ-loop
-add-i-2 c = omega (arith, c .before .before .before .before .before .before .before .loop .inv .0)
-
--- src/lib.rt:25:17
-sub-n : tie.Need-sub-n Inv-loop μ-loop
-sub-n c = omega arith
-
--- src/lib.rt:25:17
-sub-n-2 : tie.Need-sub-n-2 Inv-loop μ-loop
-sub-n-2 c = omega arith
-
--- src/lib.rt:16:5
-loop-less : tie.Need-loop-less Inv-loop μ-loop
-loop-less c = omega (arith, c .before .before .before .before .before .before .loop-test .taken)
-
--- src/lib.rt:16:5
-loop-again : tie.Need-loop-again Inv-loop μ-loop
-loop-again c = (omega (arith, c .before .before .before .before .before .before .before .loop .inv .0), link-above (load (c .before .before .before .before .before .before .before .before .before .before .before .before .args .s .now) (c .before .before .before .before .before .before .before .before .before .before .before .before .args .sh)) (c .before .before .before .before .before .before .before .before .before .before .before .before .args .sh) (c .before .before .before .before .before .before .before .before .before .before .before .before .args .id) _ _ (c .before .before .before .before .before .before .before .loop .inv .1) (c .before .before .before .before .before .before .loop-test .taken) _ _ _ _ refl (c .before .before .before .before .before .index-word .ensures) (c .before .before .before .before .row-word .ensures) (c .before .before .before .eq .ensures) (c .before .before .if1 .left) _ (c .before .lt .ensures) (c .if2 .taken))
-
--- src/lib.rt:16:5
-loop-less-2 : tie.Need-loop-less-2 Inv-loop μ-loop
-loop-less-2 c = omega (arith, c .before .before .before .before .before .before .loop-test .taken)
-
--- src/lib.rt:16:5
-loop-again-2 : tie.Need-loop-again-2 Inv-loop μ-loop
-loop-again-2 c = (omega (arith, c .before .before .before .before .before .before .before .loop .inv .0), link-below (load (c .before .before .before .before .before .before .before .before .before .before .before .before .args .s .now) (c .before .before .before .before .before .before .before .before .before .before .before .before .args .sh)) (c .before .before .before .before .before .before .before .before .before .before .before .before .args .sh) (c .before .before .before .before .before .before .before .before .before .before .before .before .args .id) _ _ (c .before .before .before .before .before .before .before .loop .inv .1) (c .before .before .before .before .before .before .loop-test .taken) _ _ _ _ refl (c .before .before .before .before .before .index-word .ensures) (c .before .before .before .before .row-word .ensures) (c .before .before .before .eq .ensures) (c .before .before .if1 .left) _ (c .before .lt .ensures) (c .if2 .left))
-
--- src/lib.rt:10:1
-returns-2 : tie.Need-returns-2 Inv-loop μ-loop
-returns-2 c = link-end (load (c .before .before .before .before .before .before .args .s .now) (c .before .before .before .before .before .before .args .sh)) (c .before .before .before .before .before .before .args .sh) (c .before .before .before .before .before .before .args .id) _ _ (c .before .loop .inv .1) (c .loop-test .left)
+-- src/lib.rt:59:1
+returns-2 : tie.Need-returns-2
+returns-2 c = row-likely (load (c .before .before .before .before .before .before .before .args .s .now) (c .before .before .before .before .before .before .before .args .sh)) (c .before .before .before .before .before .before .before .args .sh) (c .before .before .before .before .before .before .before .args .id) _ _ _ _ (c .before .before .before .before .root-word .ensures) (c .before .before .before .smaller .ensures) (c .before .before .likely-row .ensures) (c .before .eq .ensures) (c .if1 .left)
 
 pub row-of-spec : {M : Type 1} → statement M
 row-of-spec =
     tie.close
     (tie.spec
-    Inv-loop
-    μ-loop
     cast-rows
     root-word-requires
     smaller-requires
-    loop-holds
-    add-index-word
-    index-word-requires
-    row-word-requires
+    likely-row-requires
     eq-requires
-    inc-requires
+    search-row-requires
     returns
-    lt-requires
-    add-i
-    add-i-2
-    sub-n
-    sub-n-2
-    loop-less
-    loop-again
-    loop-less-2
-    loop-again-2
     returns-2)
