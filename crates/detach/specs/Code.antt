@@ -2,69 +2,22 @@
 use mathlib.Core.Path.{_≡_, refl, sym, ap, _∙_}
 use mathlib.Core.Bool.{Bool, true, false}
 use mathlib.Core.List.{List, [], _∷_}
-use Prim.Native.Nat.{ℕ, zero, suc, _+_, _-_, _*_, _%_, _<_}
-use native.Mathlib.Omega.{arith}
-use native.Mathlib.Numerals.{add-one}
+use Prim.Native.Nat.{ℕ, _+_, _-_}
 use lib.Dec.{eqb, ltb}
 use Rattle.words.specs.Pick.{yes-is, no-is}
-use Rattle.model.specs.State.{till}
-use Rattle.model.specs.Storage.{slotsOf}
-use Rattle.model.specs.Bounds.{slots-max}
 use Rattle.layout.specs.declared.Shape.{Shape}
 use Rattle.layout.specs.Layout.{Mem, head, entry, load, save, Write.at, writes}
-use Rattle.layout.specs.Fields.{headLifecycle, headEpoch, headFirstEmpty, headFirstDetached, headFirstEntry, entryFrame, entryNext, slotNextFree, slotPreviousFree}
-use Rattle.layout.specs.Sizes.{pageSize, pagesMax}
+use Rattle.layout.specs.Fields.{headLifecycle, headEpoch, headFirstEmpty, headFirstDetached, headFirstEntry, entryFrame, entryNext}
 use Rattle.layout.specs.Values.{lifeActive}
-use Rattle.representation.specs.Represents.{wordIn, frameOf, slotWord}
 use Rattle.head.specs.declared.TableHead.{TableHead}
-use Rattle.head.specs.Head.{headAt, takenBy, emptyBy, detachedBy, nextEpoch, freeP, detachedP}
+use Rattle.head.specs.Head.{headAt, emptyBy, detachedBy, nextEpoch, detachedP}
 use Rattle.head.specs.Apart.{save-off, load-other}
 use Rattle.answer.specs.Does.{both, answered}
-use Rattle.storage.specs.Sight.{look, cellP}
+use Rattle.storage.specs.Sight.{look}
 use Rattle.storage.specs.Ops.{up, leaveW}
 use Rattle.storage.specs.Late.{unlinkedW, firstWithout, unlinked-keeps, leave-by}
 use Rattle.frames.specs.Ops.{giveFrameW}
-use Rattle.detach.specs.Ops.{firstAfter, linkW, unlinkW, unlinkAll, unlinkPageW, joinDetachedW, detachW, firstEmpty, takePageR}
-
--- `put_link`
-pub link-none : (ws : List ℕ) (sh : Shape) (b l f v : ℕ) → l ≡ 0 → ws ≡ linkW ws sh b l f v
-unfolding linkW
-link-none ws sh b zero f v h = refl
-link-none ws sh b (suc l) f v h = absurd (omega arith)
-
-pub link-some : (ws vs : List ℕ) (sh : Shape) (b l f v : ℕ) → (l ≡ 0 → ⊥) → vs ≡ writes ws sh (cellP (frameOf (load ws sh) b (l - 1)) ((l - 1) % pageSize) f v) → vs ≡ linkW ws sh b l f v
-unfolding linkW
-link-some ws vs sh b zero f v h q = absurd (h refl)
-link-some ws vs sh b (suc l) f v h q = let y : suc l - 1 ≡ l = omega arith in rw y at q
-
--- `unlink_slot`: a word of slot k, by the frame that the slot stands in
-pub word-is : (m : Mem) (b k f fr r : ℕ) → fr ≡ frameOf m b k → r ≡ wordIn m fr (k % pageSize) f → r ≡ slotWord m b k f
-word-is m b k f fr r e a = a ∙ ap (λ (z : ℕ). wordIn m z (k % pageSize) f) e
-
--- its stores
-pub unlink-is : (ws : List ℕ) (sh : Shape) (b k : ℕ) (h t : TableHead) (n q x : ℕ) (w₁ w₂ w₃ : List ℕ)
-    → h ≡ headAt (load ws sh) b → n ≡ slotWord (load ws sh) b k slotNextFree → q ≡ slotWord (load ws sh) b k slotPreviousFree → x ≡ firstAfter q n (h .«first_free») → t ≡ takenBy h x
-    → w₁ ≡ linkW ws sh b q slotNextFree n → w₂ ≡ linkW w₁ sh b n slotPreviousFree q → w₃ ≡ writes w₂ sh (freeP b t)
-    → w₃ ≡ unlinkW ws sh b k
-unfolding unlinkW look headAt
-unlink-is ws sh b k h t n q x w₁ w₂ w₃ e₁ e₂ e₃ e₄ e₅ a₁ a₂ a₃ = rw (a₃, a₂, a₁, e₅, e₄, e₃, e₂, e₁)
-
--- a page that has a slot
-pub slots-low : (p n j : ℕ) → n ≡ slotsOf till p → j < n → (p < pagesMax) × (j < pageSize)
-slots-low p n j e h = (omega (arith, slots-max), omega arith)
-
--- the loop of `unlink_page`
-pub unlink-start : (ws : List ℕ) (sh : Shape) (b a : ℕ) → ws ≡ unlinkAll ws sh b a 0
-unfolding unlinkAll
-unlink-start ws sh b a = refl
-
-pub unlink-more : (ws us vs : List ℕ) (sh : Shape) (b a j : ℕ) → us ≡ unlinkAll ws sh b a j → vs ≡ unlinkW us sh b (a + j) → vs ≡ unlinkAll ws sh b a (j + 1)
-unfolding unlinkAll
-unlink-more ws us vs sh b a j e q = rw (add-one, ← e) q
-
-pub unlink-end : (ws us : List ℕ) (sh : Shape) (b p j n : ℕ) → us ≡ unlinkAll ws sh b (p * pageSize) j → j ≡ n → n ≡ slotsOf till p → us ≡ unlinkPageW ws sh b p
-unfolding unlinkPageW
-unlink-end ws us sh b p j n e q d = rw (← d, ← q) e
+use Rattle.detach.specs.Ops.{unlinkPageW, joinDetachedW, detachW, firstEmpty, takePageR}
 
 -- a page that left the empty pages' order and is detached, with the head's words last
 detached-last : (ws : List ℕ) (sh : Shape) (b e p x d n : ℕ) → load (save ws sh (head b headFirstEmpty) x) sh (head b headFirstEntry) ≡ e → load (save ws sh (head b headFirstEmpty) x) sh (head b headFirstDetached) ≡ d

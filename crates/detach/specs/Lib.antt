@@ -4,4 +4,5 @@ pub mod Page
 pub mod Detached
 pub mod Reps
 pub mod Take
+pub mod Late
 pub mod Code

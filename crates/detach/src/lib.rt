@@ -8,9 +8,11 @@ ghost use Rattle.layout.specs.Layout.{load as loadAt};
 ghost use Rattle.representation.specs.Represents.{wordIn};
 ghost use Rattle.answer.specs.Does.{both};
 ghost use Rattle.storage.specs.Ops.{leaveW};
-ghost use Rattle.detach.specs.Ops.{linkW, unlinkW, unlinkPageW, joinDetachedW, detachW, firstEmpty, takePageR};
 ghost use Rattle.format.specs.Fields.{tableField};
 ghost use Rattle.request.specs.Place.{fieldOf};
+ghost use Rattle.detach.specs.Late.{withoutW, withoutBy};
+ghost use Rattle.detach.specs.Ops.{unlinkPageW, joinDetachedW, detachW, firstEmpty, takePageR};
+use head::TableHead;
 use layout::Shape;
 use layout::field;
 use layout::size;
@@ -26,40 +28,34 @@ fn word_in(s: &[u64], sh: Shape, fr: u64, j: u64, f: u64) -> u64
     layout::cell_word(s, sh, fr - 1, j, f)
 }
 
-// Word f of the slot of a link; through 0 nothing.
-fn put_link(s: &mut [u64], sh: Shape, b: u64, l: u64, f: u64, v: u64)
-    ensures { λ _. ⌜ now (s .exit) ≡ linkW (now (s .entry)) sh b l f v ⌝ }
+// Slot j of the frame fr, which is vacant, leaves the free order of the table of a head, wherever it stands in it: the head then. Its own words stay.
+fn unlink_slot(s: &mut [u64], sh: Shape, h: TableHead, fr: u64, j: u64) -> TableHead
+    ensures words { λ _. ⌜ now (s .exit) ≡ withoutW (now (s .entry)) sh h fr j ⌝ }
+    ensures head { λ r. ⌜ r ≡ withoutBy (loadAt (now (s .entry)) sh) h fr j ⌝ }
 {
-    if l == 0 {
-        return;
-    }
-    storage::put_slot_word(s, sh, b, l - 1, f, v);
+    let n = word_in(s, sh, fr, j, field::SLOT_NEXT_FREE);
+    let q = word_in(s, sh, fr, j, field::SLOT_PREVIOUS_FREE);
+    let qf = storage::link_frame(s, sh, h, q);
+    let nf = storage::link_frame(s, sh, h, n);
+    storage::put_slot_link(s, sh, qf, q, field::SLOT_NEXT_FREE, n);
+    storage::put_slot_link(s, sh, nf, n, field::SLOT_PREVIOUS_FREE, q);
+    head::take_local(h, storage::head_after(q, n, h.first_free))
 }
 
-// Slot k, which is vacant, leaves the free order, wherever it stands in it. Its own words stay.
-fn unlink_slot(s: &mut [u64], sh: Shape, b: u64, k: u64)
-    ensures words { λ _. ⌜ now (s .exit) ≡ unlinkW (now (s .entry)) sh b k ⌝ }
-{
-    let h = head::load(s, sh, b);
-    let fr = storage::frame_link(s, sh, b, k);
-    let n = word_in(s, sh, fr, k % size::PAGE_SIZE, field::SLOT_NEXT_FREE);
-    let q = word_in(s, sh, fr, k % size::PAGE_SIZE, field::SLOT_PREVIOUS_FREE);
-    let t = head::take_local(h, storage::head_after(q, n, h.first_free));
-    put_link(s, sh, b, q, field::SLOT_NEXT_FREE, n);
-    put_link(s, sh, b, n, field::SLOT_PREVIOUS_FREE, q);
-    head::store_free(s, sh, b, t);
-}
-
-// The slots of page p, all vacant, leave the free order.
+// The slots of page p, all vacant, leave the free order. They stand in one frame, and the head's words are stored last.
 fn unlink_page(s: &mut [u64], sh: Shape, b: u64, p: u64)
     ensures words { λ _. ⌜ now (s .exit) ≡ unlinkPageW (now (s .entry)) sh b p ⌝ }
 {
     let n = head::slots_of(p) as u64;
+    let first = words::smaller(p, size::LAST_PAGE) * size::PAGE_SIZE;
+    let fr = storage::frame_link(s, sh, b, first);
+    let mut h = head::load(s, sh, b);
     let mut j: u64 = 0;
     while j < n {
-        unlink_slot(s, sh, b, p * size::PAGE_SIZE + j);
+        h = unlink_slot(s, sh, h, fr, j);
         j += 1;
     }
+    head::store_free(s, sh, b, h);
 }
 
 // Page p has no frame and goes from the empty pages' order to the head of the detached pages' order; its high mark stays, and the epoch advances.
