@@ -170,15 +170,23 @@ pub fn shrink_row(s: &mut [u64], sh: Shape, x: u64, n: u64)
     layout::put_row(s, sh, x, field::ROW_LENGTH, n);
 }
 
-// The slots that the items of a reservation of table b name, from one item up to another, fall vacant; the row stands in place x.
+// The slots that the items of a reservation of table b name, from one item up to another, fall vacant; the row stands in place x. The shape is copied field by field: the copy
+// of it in one go, which the calls would make, waits until the caller's stores of its fields are in the cache.
 pub fn vacate_items(s: &mut [u64], sh: Shape, b: u64, x: u64, from: u64, to: u64)
     ensures words { λ _. ⌜ now (s .exit) ≡ vacateItemsW (now (s .entry)) sh b x from (min to batchMax - from) ⌝ }
 {
     let end = words::smaller(to, size::BATCH_MAX);
+    let own = Shape {
+        tables: sh.tables,
+        pages: sh.pages,
+        frames: sh.frames,
+        objects: sh.objects,
+        rows: sh.rows,
+    };
     let mut j: u64 = from;
     while j < end {
-        let k = layout::item_word(s, sh, x, j, field::ITEM_SLOT);
-        storage::vacate(s, sh, b, k);
+        let k = layout::item_word(s, own, x, j, field::ITEM_SLOT);
+        storage::vacate(s, own, b, k);
         j += 1;
     }
 }

@@ -26,16 +26,24 @@ fn abort_row(s: &mut [u64], sh: Shape, x: u64)
     book::close_row(s, sh, x);
 }
 
-// "Closing, aborting, trimming and committing put slots at the head of the free order, one by one in list order".
+// "Closing, aborting, trimming and committing put slots at the head of the free order, one by one in list order". The shape is copied field by field, as in
+// `book::vacate_items`.
 pub fn abort(s: &mut [u64], sh: Shape, id: ReservationId, out: &mut [u64], base: usize)
     ensures { λ _. ⌜ both (now (s .exit)) (now (out .exit)) ≡ abortR (now (s .entry)) (now (out .entry)) sh base (id .0) ⌝ }
 {
-    let link = book::reservation_of(s, sh, id);
+    let own = Shape {
+        tables: sh.tables,
+        pages: sh.pages,
+        frames: sh.frames,
+        objects: sh.objects,
+        rows: sh.rows,
+    };
+    let link = book::reservation_of(s, own, id);
     if words::eq(link, 0) {
         answer::refuse(out, base, format::refusal::MISUSE);
         return;
     }
-    abort_row(s, sh, words::dec(link));
+    abort_row(s, own, words::dec(link));
     answer::say(out, base);
 }
 

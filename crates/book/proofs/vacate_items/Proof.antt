@@ -9,10 +9,10 @@ use Rattle.book.proofs.vacate_items.Statement.{statement}
 use Rattle.book.proofs.vacate_items.Tie as tie
 
 abbrev Inv-loop : tie.InvT-loop
-Inv-loop s₀ sh b x from to end j₀ s j = (from ≤ j) × (j - from ≤ end - from) × (length s ≡ length s₀) × (s ≡ vacateItemsW s₀ sh b x from (j - from))
+Inv-loop s₀ b x from to end own j₀ s j = (from ≤ j) × (j - from ≤ end - from) × (length s ≡ length s₀) × (s ≡ vacateItemsW s₀ own b x from (j - from))
 
 abbrev μ-loop : tie.MeasureT-loop
-μ-loop s₀ sh b x from to end j₀ s j = end - j
+μ-loop s₀ b x from to end own j₀ s j = end - j
 
 -- src/lib.rt:98:9
 smaller-requires : tie.Need-smaller-requires Inv-loop μ-loop
