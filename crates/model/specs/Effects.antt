@@ -7,7 +7,7 @@ use lib.ListN.{length, take}
 use Rattle.authority.specs.Rights.{contains}
 use Rattle.codec.specs.Codec.{encode, payload, decodes, payloadIn, numberIn, slotIn, generationIn, nextGeneration, maskOf}
 use Rattle.model.specs.Base.{bit, put, nth, range}
-use Rattle.model.specs.State.{till, Slot.absent, Table, Object, State, Lifecycle, Lifecycle.active, Lifecycle.tearingDown, Lifecycle.retired, maxTables, maxFrames, maxObjects, maxRows, maxBatch, maxSlots, maxLimit, knownFlags, lastId}
+use Rattle.model.specs.State.{till, Slot.absent, Table, Object, State, Lifecycle.active, Lifecycle.tearingDown, Lifecycle.retired, maxTables, maxFrames, maxObjects, maxRows, maxBatch, maxSlots, maxLimit, knownFlags, lastId}
 use Rattle.model.specs.Storage.{place, vacate, takeFree, pagesFor, attach, detach}
 use Rattle.model.specs.Request.{Route.buffered, Route.stagedStartup, Operation.asMove, Operation.asCopy}
 use Rattle.model.specs.Request.{Request, Request.newObject, Request.duplicate, Request.releaseParcel, Request.retireObject, Request.reserve, Request.abort, Request.publish, Request.getInfo, Request.resolve, Request.replace, Request.close, Request.scanHandles, Request.prepareTransfer, Request.prepareConsumption, Request.commit, Request.directRollback, Request.removeStoppingOwner, Request.teardownStart, Request.teardownStep, Request.teardownFinish, Request.takeEmptyPage}
@@ -15,7 +15,7 @@ use Rattle.model.specs.Change.{withTable, withLife, withObjects}
 use Rattle.model.specs.Step.{decide, step, newObjectOf, duplicateOf, releaseParcelOf, retireObjectOf, reserveOf, trimOf, abortOf, publishOf, getInfoOf, resolveOf, replaceOf, closeOf, scanHandlesOf, prepareTransferOf, prepareConsumptionOf, rollbackOf, commitOf, directCommitOf, directRollbackOf, removeStoppingOwnerOf, teardownStartOf, teardownStepOf, teardownFinishOf, takeEmptyPageOf}
 use Rattle.model.specs.Create.{TableParameters, permitted, maxPages}
 use Rattle.model.specs.Words.{usedWords}
-use Rattle.model.specs.Cases.{Case, _is_, line, fresh, holding, with0, end, last, numbers, placesOf, places, scan, first, v63, item, transfer, at0, orders, lastIds, countOf, three, down, objectWith}
+use Rattle.model.specs.Cases.{Case, _is_, line, fresh, holding, with0, end, last, numbers, placesOf, places, scan, first, v63, item, transfer, at0, orders, lastIds, countOf, three, cursorIn, down, objectWith}
 
 -- a detached last page before another one
 abbrev sparse : Table
@@ -26,11 +26,6 @@ roomForOne s = withObjects s (put (s .objects) 0 (let x : Object = s .objects 0 
 
 abbrev eight : List Request
 eight = map (λ k. reserve 0 1) (range 0 8)
-
-abbrev cursorOf : Lifecycle → List ℕ
-cursorOf active = []
-cursorOf (tearingDown c) = c ∷ []
-cursorOf retired = []
 
 -- whether creation permits so many tables of so many pages each, frames and rows; and one object of these parameters
 abbrev tablesOf : ℕ → ℕ → List TableParameters
@@ -110,7 +105,7 @@ effects =
     -- frames given back out of order are given out lowest first
     ∷ end fresh (reserve 0 1 ∷ reserve 1 1 ∷ abort 1 ∷ takeEmptyPage 0 ∷ abort 2 ∷ takeEmptyPage 1 ∷ []) .frames is (0 ∷ 1 ∷ 2 ∷ 3 ∷ [])
     -- a teardown's cursor stands past the slot that it removed
-    ∷ (let s : State = end fresh (three ++ (teardownStart 0 ∷ teardownStep 0 ∷ [])) in cursorOf (s .tables 0 .life)) is (62 ∷ [])
+    ∷ (let s : State = end fresh (three ++ (teardownStart 0 ∷ teardownStep 0 ∷ [])) in cursorIn (s .tables 0 .life)) is (62 ∷ [])
     -- the length of a table of 262,144 pages is 16,777,215
     ∷ scan (with0 sparse) (scanHandles 0 16777200 ∷ []) is (0 ∷ 0 ∷ 0 ∷ 15 ∷ [])
     -- 15 before 1 for want of a row
@@ -120,7 +115,7 @@ effects =
     -- rows stand by rising id
     ∷ map (λ r. r .id) (end fresh (reserve 0 1 ∷ reserve 0 1 ∷ abort 1 ∷ reserve 0 1 ∷ []) .book .rows) is (2 ∷ 3 ∷ [])
     -- a teardown begins at slot 0
-    ∷ cursorOf (end (holding 1 64 9 []) (teardownStart 0 ∷ teardownStep 0 ∷ []) .tables 0 .life) is (1 ∷ [])
+    ∷ cursorIn (end (holding 1 64 9 []) (teardownStart 0 ∷ teardownStep 0 ∷ []) .tables 0 .life) is (1 ∷ [])
     -- "Limits", at each end and one past it
     ∷ (permits1 1 4 4 8 ∷ permits1 0 4 4 8 ∷ permits1 16 1 0 1 ∷ permits1 17 1 0 1 ∷ []) is (1 ∷ 0 ∷ 1 ∷ 0 ∷ [])
     ∷ (permits1 1 262144 65535 256 ∷ permits1 1 262145 4 8 ∷ permits1 1 0 4 8 ∷ permits1 1 4 65536 8 ∷ permits1 1 4 4 0 ∷ permits1 1 4 4 257 ∷ []) is (1 ∷ 0 ∷ 0 ∷ 0 ∷ 0 ∷ 0 ∷ [])

@@ -2,7 +2,7 @@
 use mathlib.Core.Path.{_≡_, refl, sym, ap, _∙_}
 use mathlib.Core.Bool.{true, false}
 use mathlib.Core.Option.{some}
-use Prim.Native.Nat.{ℕ, zero, suc, _+_, _*_, _/_, _≤_, _<_}
+use Prim.Native.Nat.{ℕ, suc, _+_, _*_, _/_, _≤_, _<_}
 use native.Mathlib.Omega.{arith}
 use lib.ListN.{length}
 use lib.Dec.{eqb, ltb}
@@ -23,7 +23,7 @@ use Rattle.representation.specs.Represents.{entryAt, tagged, LifeIs, TableIs, R
 use Rattle.representation.specs.Told.{link-some}
 use Rattle.structure.specs.Facts.{limitsTo, isFree, freeFrom, attachedTo, HeadIs, SlotIs, PageIs, Structure}
 use Rattle.structure.specs.Checks.{structureB}
-use Rattle.structure.specs.Whole.{structure-complete}
+use Rattle.structure.specs.Whole.{link-small, structure-complete}
 use Rattle.structure.specs.Frames.{pagesOf, pages-counted}
 use Rattle.structure.specs.Slots.{slot-at, tag-there, tagged-generation, tagged-held, busy-page}
 use Rattle.structure.specs.View.{pages-with}
@@ -45,10 +45,6 @@ life-gone : (w c : ℕ) (l : Lifecycle) → LifeIs w c l → w ≡ lifeRetired �
 life-gone w c active i e = absurd (omega arith)
 life-gone w c (tearingDown n) i e = absurd (omega arith)
 life-gone w c retired i e = refl
-
-link-small : (l F : ℕ) → ((f : ℕ) → l ≡ suc f → f < F) → l ≤ F
-link-small zero F h = omega arith
-link-small (suc f) F h = h f refl
 
 module _ (sh : Shape) (m : Mem) (s : State) (r : Represents sh m s) (w : WellFormed till s) where
   limits-same : (n : ℕ) → n ≤ s .tableCount → (sum n λ c. s .tables c .limit) ≡ limitsTo m n

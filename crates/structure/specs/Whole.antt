@@ -25,6 +25,11 @@ FrameIs : Mem → Shape → ℕ → ℕ → ℕ → ℕ → Type 0
 FrameIs m sh life e n f =
     (f < sh .frames) × (m (owner f) ≡ suc e) × (m (entry e entryBusy) ≡ busyCells m f n) × ((j : ℕ) → j < n → SlotIs m (sh .objects) life (m (entry e entryHigh)) f j)
 
+-- a link to something below F
+pub link-small : (l F : ℕ) → ((f : ℕ) → l ≡ suc f → f < F) → l ≤ F
+link-small zero F h = omega arith
+link-small (suc f) F h = h f refl
+
 module _ (m : Mem) (sh : Shape) (life e n : ℕ) where
   frame-is : (l f : ℕ) → frameB m sh life e n l ≡ true → l ≡ suc f → FrameIs m sh life e n f
   unfolding frameB slotsB FrameIs
@@ -52,10 +57,6 @@ module _ (m : Mem) (sh : Shape) (life e n : ℕ) where
         eq-eqb (busyCells m f n) (m (entry e entryBusy)) (sym (k .2)),
       )
 
-  frame-small : (l F : ℕ) → ((f : ℕ) → l ≡ suc f → f < F) → l ≤ F
-  frame-small zero F h = omega arith
-  frame-small (suc f) F h = h f refl
-
   pub page-is : pageB m sh life e n ≡ true → PageIs m sh life e n
   unfolding pageB FrameIs
   page-is q =
@@ -64,7 +65,7 @@ module _ (m : Mem) (sh : Shape) (life e n : ℕ) where
       record {
         some-high = leb-true 1 (m (entry e entryHigh)) (t1 .0);
         few-high = leb-true (m (entry e entryHigh)) generationLimit (t2 .0);
-        link = frame-small (m (entry e entryFrame)) (sh .frames) (λ f z. u f z .0);
+        link = link-small (m (entry e entryFrame)) (sh .frames) (λ f z. u f z .0);
         named = λ f z. u f z .1;
         busy = λ f z. u f z .2;
         slots = λ f z. u f z .3;
