@@ -2,18 +2,18 @@
 use mathlib.Core.Path.{_≡_, refl, sym, ap, _∙_}
 use mathlib.Core.Bool.{Bool, true, false, not, _&&_}
 use mathlib.Core.List.{List, [], _∷_}
-use Prim.Native.Nat.{ℕ, zero, suc, _+_, _-_, _*_, _/_, _≤_, _<_}
+use Prim.Native.Nat.{ℕ, zero, suc, _+_, _-_, _*_, _≤_, _<_}
 use native.Mathlib.Omega.{arith}
 use lib.ListN.{length}
 use lib.Dec.{eqb, ltb}
 use borrow.Author.Tests.{eqb-true, eqb-false, lt-ltb, le-ltb, ltb-true, ltb-false, not-true}
 use Rattle.words.specs.Pick.{bool, clash, both}
 use Rattle.model.specs.Base.{pick, occurs, without, dropIf, bit}
-use Rattle.model.specs.State.{till, Slot, Slot.absent, Slot.vacant, Slot.reserved, Slot.transferReserved, Slot.occupied, Table, isVacant, isAbsent, isBusy, maxSlots}
-use Rattle.model.specs.Storage.{withFree, busyOf, slotsOf, onPage}
+use Rattle.model.specs.State.{Sizes, till, Slot, Slot.absent, Slot.vacant, Slot.reserved, Slot.transferReserved, Slot.occupied, Table, isVacant, isAbsent, isBusy, maxSlots}
+use Rattle.model.specs.Storage.{withFree, pageOf, busyOf, slotsOf, onPage}
 use Rattle.model.specs.WellFormed.{isAttached}
 use Rattle.model.specs.Sums.{occurs-dropIf}
-use Rattle.invariant.specs.Pages.{till-sane, vacant-there, page-in, page-of, page-below, on-page}
+use Rattle.invariant.specs.Pages.{Sane, till-sane, vacant-there, page-in, page-of, page-below, on-page}
 use Rattle.invariant.specs.Orders.{Sound}
 use Rattle.invariant.specs.Growth.{busy-nowhere}
 use Rattle.layout.specs.declared.Shape.{Shape}
@@ -60,13 +60,13 @@ drop-same f g e [] = refl
 drop-same f g e (x ∷ l) = rw (e x, drop-same f g e l)
 
 -- the slots of a page are a run
-run-page : (p x : ℕ) → inRun (p * pageSize) (slotsOf till p) x ≡ onPage till p x
-run-page p x = bool (inRun (p * pageSize) (slotsOf till p) x)
-    (λ e. let q = run-is (p * pageSize) (slotsOf till p) x e in e ∙ sym (on-page till till-sane p x (q .0) (q .1)))
-    (λ e. e ∙ sym (bool (onPage till p x)
-    (λ d. let q = both (eqb (x / pageSize) p) (ltb x maxSlots) d in
-    let i = page-in till till-sane p x (eqb-true (x / pageSize) p (q .0)) (ltb-true x maxSlots (q .1)) in
-    clash (run-yes (p * pageSize) (slotsOf till p) x (i .0) (i .1)) e)
+run-page : (z : Sizes) → Sane z → (p x : ℕ) → inRun (p * z .pageSlots) (slotsOf z p) x ≡ onPage z p x
+run-page z sane p x = bool (inRun (p * z .pageSlots) (slotsOf z p) x)
+    (λ e. let q = run-is (p * z .pageSlots) (slotsOf z p) x e in e ∙ sym (on-page z sane p x (q .0) (q .1)))
+    (λ e. e ∙ sym (bool (onPage z p x)
+    (λ d. let q = both (eqb (pageOf z x) p) (ltb x maxSlots) d in
+    let i = page-in z sane p x (eqb-true (pageOf z x) p (q .0)) (ltb-true x maxSlots (q .1)) in
+    clash (run-yes (p * z .pageSlots) (slotsOf z p) x (i .0) (i .1)) e)
     (λ d. d)))
 
 -- ---- the slots of an empty page are vacant
@@ -78,11 +78,11 @@ idle-vacant (reserved g i) e d = clash refl d
 idle-vacant (transferReserved g i) e d = clash refl d
 idle-vacant (occupied g h) e d = clash refl d
 
-page-vacant : (t : Table) (fr : List ℕ) → Sound till t fr → (p : ℕ) → isAttached t p ≡ true → busyOf till (t .slots) p ≡ 0
-    → (i : ℕ) → p * pageSize ≤ i → i < p * pageSize + slotsOf till p → isVacant (t .slots i) ≡ true
-page-vacant t fr o p att none i h l = idle-vacant (t .slots i)
-    (o .there i ∙ rw (page-of till till-sane p i h l, att, lt-ltb i maxSlots (page-below till till-sane p i h l)))
-    (busy-nowhere (t .slots) (p * pageSize) (slotsOf till p) none i h l)
+page-vacant : (z : Sizes) → Sane z → (t : Table) (fr : List ℕ) → Sound z t fr → (p : ℕ) → isAttached t p ≡ true → busyOf z (t .slots) p ≡ 0
+    → (i : ℕ) → p * z .pageSlots ≤ i → i < p * z .pageSlots + slotsOf z p → isVacant (t .slots i) ≡ true
+page-vacant z sane t fr o p att none i h l = idle-vacant (t .slots i)
+    (o .there i ∙ rw (page-of z sane p i h l, att, lt-ltb i maxSlots (page-below z sane p i h l)))
+    (busy-nowhere (t .slots) (p * z .pageSlots) (slotsOf z p) none i h l)
 
 -- ---- one slot, in the words
 
@@ -154,5 +154,5 @@ module _ (ws : List ℕ) (sh : Shape) (b : ℕ) (t : Table) (r : Ready ws sh b t
   -- THE SLOTS OF AN EMPTY PAGE
   pub page-cleared : (p : ℕ) → isAttached t p ≡ true → busyOf till (t .slots) p ≡ 0 → Cleared ws (unlinkPageW ws sh b p) sh b t (dropIf (onPage till p) (t .free))
   unfolding unlinkPageW
-  page-cleared p att none = rw (← drop-same (inRun (p * pageSize) (slotsOf till p)) (onPage till p) (run-page p) (t .free))
-      (cleared-run (p * pageSize) (slotsOf till p) (page-vacant t (t .free) (r .sound) p att none))
+  page-cleared p att none = rw (← drop-same (inRun (p * pageSize) (slotsOf till p)) (onPage till p) (run-page till till-sane p) (t .free))
+      (cleared-run (p * pageSize) (slotsOf till p) (page-vacant till till-sane t (t .free) (r .sound) p att none))
