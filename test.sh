@@ -105,6 +105,7 @@ check "what is promised is what docs/statements/ has" tests/statements.py
 check "the layout of every file (rt fmt --check)" rt fmt --check
 check "the tables of docs/formats.md are those of the code" tests/formats.py
 check "fields, tags, ops and sizes stand in the code by name" tests/numerals.py
+check "fields and regions stand in definitions and proofs by name" tests/specnames.py
 check "what the documents cite is there" tests/trace.py
 check "what docs/reading.md quotes and docs/working.md lists is there" tests/quotes.py
 check "docs/map.md is drawn from crates.txt and the sources as they are" tests/map.py

@@ -15,6 +15,7 @@ use Rattle.model.specs.Book.{spendId}
 use Rattle.model.specs.Step.{decide, step}
 use Rattle.model.specs.Words.{usedWords}
 use Rattle.layout.specs.declared.Shape.{Shape}
+use Rattle.layout.specs.Fields.{rootNextId}
 use Rattle.representation.specs.Represents.{Reps}
 use Rattle.request.specs.Answers.{puts}
 
@@ -40,7 +41,7 @@ onRowR f ws os base l = pick (eqb l 0) (refuseR ws os base 18) (both (f (l - 1))
 
 -- the words with one id spent: the header's next id is one more
 unfoldable pub idSpent : List ℕ → List ℕ
-idSpent ws = set ws 5 (getD ws 5 0 + 1)
+idSpent ws = set ws rootNextId (getD ws rootNextId 0 + 1)
 
 -- what a decision is, it is alone
 refusal-is : (n k : ℕ) → refusal n ≡ refusalAfterId k → ⊥

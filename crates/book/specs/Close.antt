@@ -58,7 +58,7 @@ leave m n c x last low l p =
       rank-high = λ z b a. rw (ne-eqb z x (other z (λ q. omega arith))) (p .rank-high z b (omega arith));
       rows = p .rows;
       items = p .items;
-      next = p .roots 5;
+      next = p .roots rootNextId;
       used = refl;
     }
 
@@ -109,7 +109,7 @@ module _ (ws : List ℕ) (sh : Shape) (s : State) (h : Held ws sh s) (f : Fits s
 
   moved-row : (j k : ℕ) (q : Row) → load (closeW ws sh x) sh (index j) ≡ load ws sh (index k) → RowIs (load ws sh) k q → RowIs (load (closeW ws sh x) sh) j q
   moved-row j k q e w = rw e (
-    left .rows (load ws sh (index k)) 0 ∙ w .0,
+    left .rows (load ws sh (index k)) rowId ∙ w .0,
     body-kept (load ws sh) (load (closeW ws sh x) sh) (load ws sh (index k)) (left .items (load ws sh (index k))) (left .rows (load ws sh (index k))) (q .body) (w .1),
   )
 
@@ -160,7 +160,7 @@ module _ (ws : List ℕ) (sh : Shape) (s : State) (h : Held ws sh s) (f : Fits s
   pub close-held : ((d k : ℕ) → d < s .tableCount → isMarked (s .tables d .slots k) ≡ true → slotWord (load ws sh) d k slotPlace ≡ x → ⊥) → Held (closeW ws sh x) sh (dropRow i s)
   close-held unnamed =
       book-held ws (closeW ws sh x) sh s (dropRow i s .book) h (close-books ws sh x (h .reps .shaped .room)) refl
-      (λ d l k mk. left .rows (slotWord (load ws sh) d k slotPlace) 0)
+      (λ d l k mk. left .rows (slotWord (load ws sh) d k slotPlace) rowId)
       (record {
         next = left .next ∙ r .book .next;
         used = left .used ∙ sym fewer;
@@ -169,7 +169,7 @@ module _ (ws : List ℕ) (sh : Shape) (s : State) (h : Held ws sh s) (f : Fits s
         marks = λ d k l mk. let w = r .book .marks d k l mk in let z : ℕ = slotWord (load ws sh) d k slotPlace in
             let u = under z (w .0) (unnamed d k l mk) (w .1) in
             mark-words (load (closeW ws sh x) sh) (s .book .capacity) (length (dropId i (s .book .rows))) d k (slotWord (load ws sh) d k slotTag) (slotWord (load ws sh) d k slotPlace) (slotWord (load ws sh) d k slotPosition)
-            (slotWord (load (closeW ws sh x) sh) d k slotTag) (slotWord (load (closeW ws sh x) sh) d k slotPlace) (slotWord (load (closeW ws sh x) sh) d k slotPosition) (close-slots d k 0) (close-slots d k 2) (close-slots d k 3)
+            (slotWord (load (closeW ws sh x) sh) d k slotTag) (slotWord (load (closeW ws sh x) sh) d k slotPlace) (slotWord (load (closeW ws sh x) sh) d k slotPosition) (close-slots d k slotTag) (close-slots d k slotPlace) (close-slots d k slotPosition)
             (mark-kept (load ws sh) (load (closeW ws sh x) sh) (s .book .capacity) (length (s .book .rows)) (length (dropId i (s .book .rows))) d k (slotWord (load ws sh) d k slotTag) (slotWord (load ws sh) d k slotPlace) (slotWord (load ws sh) d k slotPosition)
             (omega (arith, u, fewer)) (left .rows z) (left .items z) w);
       })
@@ -197,7 +197,7 @@ module _ (ws : List ℕ) (sh : Shape) (s : State) (h : Held ws sh s) (f : Fits s
         used = omega (arith, under z (q .place) ne (q .used), fewer);
         named = rw e d;
         listed = rw e l;
-        id = left .rows z 0 ∙ q .id;
+        id = left .rows z rowId ∙ q .id;
         body = body-kept (load ws sh) (load (closeW ws sh x) sh) z (left .items z) (left .rows z) c (q .body);
       }
 

@@ -17,7 +17,7 @@ use Rattle.invariant.specs.BookLemmas.{length-drop, ids-drop}
 use Rattle.invariant.specs.Pointwise.{place-slots, vacate-slots}
 use Rattle.layout.specs.declared.Shape.{Shape}
 use Rattle.layout.specs.Layout.{Mem, load}
-use Rattle.layout.specs.Fields.{slotPosition}
+use Rattle.layout.specs.Fields.{slotPlace, slotPosition}
 use Rattle.representation.specs.Represents.{slotWord, isMarked}
 use Rattle.representation.specs.Told.{marked-full}
 use Rattle.storage.specs.Sight.{OnlyTable}
@@ -58,12 +58,12 @@ fades-rows m s n u c t w = record {
 pub named-fades : (m : Mem) (s : State) (n : Mem) (u : State) (x b : ℕ) (P : ℕ → ℕ → Type 0) → Fades m s n u → NamedBy m s x b P → NamedBy n u x b P
 named-fades m s n u x b P p q d k l mk e =
     let l′ : d < s .tableCount = omega (arith, p .count) in
-    let y = q d k l′ (p .marked d k mk) (sym (p .words d k 2 l′ mk) ∙ e) in
-    let z : slotWord m d k slotPosition ≡ slotWord n d k slotPosition = sym (p .words d k 3 l′ mk) in
+    let y = q d k l′ (p .marked d k mk) (sym (p .words d k slotPlace l′ mk) ∙ e) in
+    let z : slotWord m d k slotPosition ≡ slotWord n d k slotPosition = sym (p .words d k slotPosition l′ mk) in
     (y .0, rw z at (y .1))
 
 pub unnamed-fades : (m : Mem) (s : State) (n : Mem) (u : State) (x : ℕ) → Fades m s n u → Unnamed m s x → Unnamed n u x
-unnamed-fades m s n u x p q d k l mk e = let l′ : d < s .tableCount = omega (arith, p .count) in q d k l′ (p .marked d k mk) (sym (p .words d k 2 l′ mk) ∙ e)
+unnamed-fades m s n u x p q d k l mk e = let l′ : d < s .tableCount = omega (arith, p .count) in q d k l′ (p .marked d k mk) (sym (p .words d k slotPlace l′ mk) ∙ e)
 
 -- a row that leaves
 pub close-fades : (ws : List ℕ) (sh : Shape) (s : State) → Held ws sh s → Fits s → (x i : ℕ) (y : Body) → RowAt (load ws sh) s x i y → Fades (load ws sh) s (load (closeW ws sh x) sh) (dropRow i s)

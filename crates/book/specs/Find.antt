@@ -47,7 +47,7 @@ row-kept m n s u e o x i b a = record {
   used = rw (o .ranks x, e) (a .used);
   named = rw (o .ranks x) (o .places (m (rank x)) ∙ a .named);
   listed = rw (o .ranks x, e) (a .listed);
-  id = o .rows x 0 ∙ a .id;
+  id = o .rows x rowId ∙ a .id;
   body = body-kept m n x (o .items x) (o .rows x) b (a .body);
 }
 

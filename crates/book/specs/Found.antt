@@ -34,7 +34,7 @@ pub record Open (m : Mem) (s : State) (x i b : ℕ) (ks : List ℕ) : Type 0 whe
 module _ (ws : List ℕ) (sh : Shape) (s : State) (r : Rep ws sh s) (i : ℕ) where
   -- "unknown .. open row of the kind named": 18
   pub reservation-none : reservationLink (load ws sh) sh i ≡ 0 → (f : ℕ → List ℕ → Decision) → (reservationRow i of s refuse 18 then f) ≡ refusal 18
-  reservation-none e f = kind-none sh (load ws sh) s (r .reps .memory) (fits-of s (r .wellFormed)) (r .reps .shaped .limits .few-rows) 1 i (λ o. asReservation o 18 f ≡ refusal 18)
+  reservation-none e f = kind-none sh (load ws sh) s (r .reps .memory) (fits-of s (r .wellFormed)) (r .reps .shaped .limits .few-rows) kindReservation i (λ o. asReservation o 18 f ≡ refusal 18)
       refl (λ x y p n. no-reservation (load ws sh) x y p n f) e
 
   open-of : (x : ℕ) (y : Body) (b : ℕ) (ks : List ℕ) → find i (s .book .rows) ≡ some y → RowAt (load ws sh) s x i y → y ≡ reservation b ks → (b : ℕ) × (ks : List ℕ) × Open (load ws sh) s x i b ks
@@ -42,6 +42,6 @@ module _ (ws : List ℕ) (sh : Shape) (s : State) (r : Rep ws sh s) (i : ℕ) wh
 
   pub reservation-some : (x : ℕ) → reservationLink (load ws sh) sh i ≡ suc x → (b : ℕ) × (ks : List ℕ) × Open (load ws sh) s x i b ks
   reservation-some x e =
-      let p = kind-some sh (load ws sh) s (r .reps .memory) (fits-of s (r .wellFormed)) (r .reps .shaped .limits .few-rows) 1 i x e in
+      let p = kind-some sh (load ws sh) s (r .reps .memory) (fits-of s (r .wellFormed)) (r .reps .shaped .limits .few-rows) kindReservation i x e in
       let g = a-reservation (load ws sh) x (p .0) (p .2 .body) (p .3) in
       open-of x (p .0) (g .0) (g .1) (p .1) (p .2) (g .2)

@@ -191,7 +191,7 @@ module _ (sh : Shape) (m : Mem) (s : State) (r : Represents sh m s) (f : Fits s)
       go (false, z, q) = omega arith
 
 -- what the storage's operations ask of the row: its position j names slot k
-pub names-reservation : (m : Mem) (s : State) (x i b : ℕ) (ks : List ℕ) → RowAt m s x i (reservation b ks) → (j k : ℕ) → nth ks j ≡ some k → Names m s b k x j 0
+pub names-reservation : (m : Mem) (s : State) (x i b : ℕ) (ks : List ℕ) → RowAt m s x i (reservation b ks) → (j k : ℕ) → nth ks j ≡ some k → Names m s b k x j itemSlot
 names-reservation m s x i b ks a j k e = record {
   place = a .place;
   used = a .used;
@@ -201,7 +201,7 @@ names-reservation m s x i b ks a j k e = record {
   moved = λ z. absurd (omega arith);
 }
 
-pub names-claim : (m : Mem) (s : State) (x i b : ℕ) (es : List Entry) → RowAt m s x i (claim b es) → (j k : ℕ) (h : Handle) (g : ℕ) → nth es j ≡ some (moved k h g) → Names m s b k x j 1
+pub names-claim : (m : Mem) (s : State) (x i b : ℕ) (es : List Entry) → RowAt m s x i (claim b es) → (j k : ℕ) (h : Handle) (g : ℕ) → nth es j ≡ some (moved k h g) → Names m s b k x j itemMoved
 names-claim m s x i b es a j k h g e = record {
   place = a .place;
   used = a .used;

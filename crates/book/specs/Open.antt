@@ -129,7 +129,7 @@ module _ (ws : List ℕ) (sh : Shape) (s : State) (h : Held ws sh s) (free : len
       let w = row-of (load ws sh) (s .book .rows) (r .book .rows) j q e′ in
       let ne : load ws sh (index j) ≡ spare (load ws sh) → ⊥ = apart (load ws sh (index j)) (let i = r .book .places j (omega (arith, free)) .1 in omega arith) in
       rw (index-same j) (
-        row-off (load ws sh (index j)) ne 0 ∙ w .0,
+        row-off (load ws sh (index j)) ne rowId ∙ w .0,
         body-kept (load ws sh) (load (openW ws sh what b c) sh) (load ws sh (index j)) (item-same (load ws sh (index j))) (row-off (load ws sh (index j)) ne) (q .body) (w .1),
       ))
       (same? j (length (s .book .rows)))
@@ -143,7 +143,7 @@ module _ (ws : List ℕ) (sh : Shape) (s : State) (h : Held ws sh s) (free : len
         let o = slot-kept (load ws sh) (load (openW ws sh what b c) sh) (books .only) in
         let few = h .reps .shaped .limits .few-rows in
         book-held ws (openW ws sh what b c) sh s (addRow y s .book) h books refl
-        (λ d l k mk. row-off (slotWord (load ws sh) d k slotPlace) (apart (slotWord (load ws sh) d k slotPlace) (r .book .marks d k l mk .1)) 0)
+        (λ d l k mk. row-off (slotWord (load ws sh) d k slotPlace) (apart (slotWord (load ws sh) d k slotPlace) (r .book .marks d k l mk .1)) rowId)
         (record {
           next = root-5 ∙ ap up (r .book .next) ∙ omega arith;
           used = root-6 ∙ ap up (r .book .used) ∙ omega (arith, more, r .capacity);
@@ -153,7 +153,7 @@ module _ (ws : List ℕ) (sh : Shape) (s : State) (h : Held ws sh s) (free : len
               let z : ℕ = slotWord (load ws sh) d k slotPlace in
               let ne = apart z (w .1) in
               mark-words (load (openW ws sh what b c) sh) (s .book .capacity) (length rs) d k (slotWord (load ws sh) d k slotTag) (slotWord (load ws sh) d k slotPlace) (slotWord (load ws sh) d k slotPosition)
-              (slotWord (load (openW ws sh what b c) sh) d k slotTag) (slotWord (load (openW ws sh what b c) sh) d k slotPlace) (slotWord (load (openW ws sh what b c) sh) d k slotPosition) (o d k 0) (o d k 2) (o d k 3)
+              (slotWord (load (openW ws sh what b c) sh) d k slotTag) (slotWord (load (openW ws sh what b c) sh) d k slotPlace) (slotWord (load (openW ws sh what b c) sh) d k slotPosition) (o d k slotTag) (o d k slotPlace) (o d k slotPosition)
               (mark-kept (load ws sh) (load (openW ws sh what b c) sh) (s .book .capacity) (length (s .book .rows)) (length rs) d k (slotWord (load ws sh) d k slotTag) (slotWord (load ws sh) d k slotPlace) (slotWord (load ws sh) d k slotPosition)
               (let e = rank-same z in omega (arith, w .1, more)) (row-off z ne) (item-same z) w);
         })
@@ -200,7 +200,7 @@ module _ (ws : List ℕ) (sh : Shape) (s : State) (h : Held ws sh s) where
         places = λ j l. rw (spend-sees (index j)) (q .places j l .0, spend-sees (rank (load ws sh (index j))) ∙ q .places j l .1);
         marks = λ d k l mk. let w = q .marks d k l mk in let z : ℕ = slotWord (load ws sh) d k slotPlace in
             mark-words (load (spendW ws sh) sh) (s .book .capacity) (length (s .book .rows)) d k (slotWord (load ws sh) d k slotTag) (slotWord (load ws sh) d k slotPlace) (slotWord (load ws sh) d k slotPosition)
-            (slotWord (load (spendW ws sh) sh) d k slotTag) (slotWord (load (spendW ws sh) sh) d k slotPlace) (slotWord (load (spendW ws sh) sh) d k slotPosition) (o d k 0) (o d k 2) (o d k 3)
+            (slotWord (load (spendW ws sh) sh) d k slotTag) (slotWord (load (spendW ws sh) sh) d k slotPlace) (slotWord (load (spendW ws sh) sh) d k slotPosition) (o d k slotTag) (o d k slotPlace) (o d k slotPosition)
             (mark-kept (load ws sh) (load (spendW ws sh) sh) (s .book .capacity) (length (s .book .rows)) (length (s .book .rows)) d k (slotWord (load ws sh) d k slotTag) (slotWord (load ws sh) d k slotPlace) (slotWord (load ws sh) d k slotPosition)
             (rw (spend-sees (rank z)) (w .1)) (λ f. spend-sees (row z f)) (λ j f. spend-sees (item z j f)) w);
       })

@@ -145,5 +145,5 @@ unfolding handleW
 fills-handle ws sh h x j o r f =
     let ws₁ : List ℕ = save ws sh (item x j itemObject) o in let ws₂ : List ℕ = save ws₁ sh (item x j itemRights) r in
     let l₁ = length-save ws sh (item x j itemObject) o in let l₂ = length-save ws₁ sh (item x j itemRights) r in
-    fills-then ws ws₁ (save ws₂ sh (item x j itemFlags) f) sh x (fills-item ws sh h x j 2 o)
-    (fills-then ws₁ ws₂ (save ws₂ sh (item x j itemFlags) f) sh x (fills-item ws₁ sh (omega (arith, l₁)) x j 3 r) (fills-item ws₂ sh (omega (arith, l₁, l₂)) x j 4 f))
+    fills-then ws ws₁ (save ws₂ sh (item x j itemFlags) f) sh x (fills-item ws sh h x j itemObject o)
+    (fills-then ws₁ ws₂ (save ws₂ sh (item x j itemFlags) f) sh x (fills-item ws₁ sh (omega (arith, l₁)) x j itemRights r) (fills-item ws₂ sh (omega (arith, l₁, l₂)) x j itemFlags f))

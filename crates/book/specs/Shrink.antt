@@ -23,7 +23,7 @@ use Rattle.book.specs.Swap.{swap-held}
 module _ (ws : List ℕ) (sh : Shape) (s : State) (h : Held ws sh s) (f : Fits s) (x i b : ℕ) (ks : List ℕ) (a : RowAt (load ws sh) s x i (reservation b ks)) (n : ℕ) (few : n ≤ length ks) where
   fills : Fills ws (shrinkW ws sh x n) sh x
   unfolding shrinkW
-  fills = fills-row ws sh (h .reps .shaped .room) x 3 n
+  fills = fills-row ws sh (h .reps .shaped .room) x rowLength n
 
   sees : (g : Addr) → load (shrinkW ws sh x n) sh g ≡ upds (load ws sh) (at (row x rowLength) n ∷ []) g
   unfolding shrinkW

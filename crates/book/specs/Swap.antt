@@ -13,7 +13,7 @@ use Rattle.model.specs.Book.{swapId, swapRow}
 use Rattle.invariant.specs.BookLemmas.{length-swap}
 use Rattle.layout.specs.declared.Shape.{Shape}
 use Rattle.layout.specs.Layout.{Mem, root, index, rank, row, item, load}
-use Rattle.layout.specs.Fields.{slotTag, slotPlace, slotPosition, indexPlace, indexRank, rowId, rowTable, rowLength, itemOperation}
+use Rattle.layout.specs.Fields.{rootNextId, rootUsedRows, slotTag, slotPlace, slotPosition, indexPlace, indexRank, rowId, rowTable, rowLength, itemOperation}
 use Rattle.layout.specs.Values.{tagTransferReserved, operationMove}
 use Rattle.layout.specs.RegionNames.{regionRoot, regionIndex, regionRow}
 use Rattle.representation.specs.Represents.{slotWord, BodyIs, isMarked, Represents}
@@ -36,7 +36,7 @@ mark-words m c l b k t x j t′ x′ j′ e₀ e₂ e₃ p = rw (e₀, e₂, e�
 -- it stays while the row keeps its words and is in use
 pub mark-kept : (m n : Mem) (c l l′ b k t x j : ℕ) → n (rank x) < l′ → ((f : ℕ) → n (row x f) ≡ m (row x f)) → ((i f : ℕ) → n (item x i f) ≡ m (item x i f))
     → MarkAt m c l b k t x j → MarkAt n c l′ b k t x j
-mark-kept m n c l l′ b k t x j u rws its w = (w .0, u, rw (rws 3) (w .2), rws 2 ∙ w .3, its j (t - 1) ∙ w .4, λ e. its j 0 ∙ w .5 e)
+mark-kept m n c l l′ b k t x j u rws its w = (w .0, u, rw (rws rowLength) (w .2), rws rowTable ∙ w .3, its j (t - 1) ∙ w .4, λ e. its j itemOperation ∙ w .5 e)
 
 pub fills-books : (ws ws′ : List ℕ) (sh : Shape) (x : ℕ) → Fills ws ws′ sh x → Books ws ws′ sh
 fills-books ws ws′ sh x p = record {
@@ -69,7 +69,7 @@ module _ (ws ws′ : List ℕ) (sh : Shape) (s : State) (h : Held ws sh s) (x : 
   -- rows in other places
   rows-off : (i : ℕ) (q : Row) → (load ws sh (index i) ≡ x → ⊥) → RowIs (load ws sh) i q → RowIs (load ws′ sh) i q
   rows-off i q ne w = rw (index-same i)
-      (row-off (load ws sh (index i)) ne 0 ∙ w .0, body-kept (load ws sh) (load ws′ sh) (load ws sh (index i)) (item-off (load ws sh (index i)) ne) (row-off (load ws sh (index i)) ne) (q .body) (w .1))
+      (row-off (load ws sh (index i)) ne rowId ∙ w .0, body-kept (load ws sh) (load ws′ sh) (load ws sh (index i)) (item-off (load ws sh (index i)) ne) (row-off (load ws sh (index i)) ne) (q .body) (w .1))
 
   -- marks that name them
   mark-off : (b k t z j l : ℕ) → (z ≡ x → ⊥) → MarkAt (load ws sh) (s .book .capacity) l b k t z j → MarkAt (load ws′ sh) (s .book .capacity) l b k t z j
@@ -82,10 +82,10 @@ module _ (ws ws′ : List ℕ) (sh : Shape) (s : State) (h : Held ws sh s) (x : 
       let top : load ws sh (rank x) ≡ length (s .book .rows) = ap (λ (z : ℕ). load ws sh (rank z)) at ∙ r .book .places (length (s .book .rows)) free .1 in
       let apart : (z : ℕ) → load ws sh (rank z) < length (s .book .rows) → z ≡ x → ⊥ = λ z l q. let y : load ws sh (rank z) ≡ load ws sh (rank x) = ap (λ (v : ℕ). load ws sh (rank v)) q in omega arith in
       book-held ws ws′ sh s (s .book) h (fills-books ws ws′ sh x p) refl
-      (λ b l k mk. row-off (slotWord (load ws sh) b k slotPlace) (apart (slotWord (load ws sh) b k slotPlace) (r .book .marks b k l mk .1)) 0)
+      (λ b l k mk. row-off (slotWord (load ws sh) b k slotPlace) (apart (slotWord (load ws sh) b k slotPlace) (r .book .marks b k l mk .1)) rowId)
       (record {
-        next = root-same 5 ∙ r .book .next;
-        used = root-same 6 ∙ r .book .used;
+        next = root-same rootNextId ∙ r .book .next;
+        used = root-same rootUsedRows ∙ r .book .used;
         rows = rows-all (load ws′ sh) (s .book .rows) (λ j q d. rows-off j q
             (λ z. let l : j < length (s .book .rows) = nth-below (s .book .rows) j q d in
             let i = r .book .places j (omega (arith, free)) .1 in apart (load ws sh (index j)) (omega arith) z)
@@ -93,7 +93,7 @@ module _ (ws ws′ : List ℕ) (sh : Shape) (s : State) (h : Held ws sh s) (x : 
         places = λ i l. rw (index-same i) (r .book .places i l .0, rank-same (load ws sh (index i)) ∙ r .book .places i l .1);
         marks = λ b k l mk. let w = r .book .marks b k l mk in
             mark-words (load ws′ sh) (s .book .capacity) (length (s .book .rows)) b k (slotWord (load ws sh) b k slotTag) (slotWord (load ws sh) b k slotPlace) (slotWord (load ws sh) b k slotPosition)
-            (slotWord (load ws′ sh) b k slotTag) (slotWord (load ws′ sh) b k slotPlace) (slotWord (load ws′ sh) b k slotPosition) (slot-same b k 0) (slot-same b k 2) (slot-same b k 3)
+            (slotWord (load ws′ sh) b k slotTag) (slotWord (load ws′ sh) b k slotPlace) (slotWord (load ws′ sh) b k slotPosition) (slot-same b k slotTag) (slot-same b k slotPlace) (slot-same b k slotPosition)
             (mark-off b k (slotWord (load ws sh) b k slotTag) (slotWord (load ws sh) b k slotPlace) (slotWord (load ws sh) b k slotPosition) (length (s .book .rows)) (apart (slotWord (load ws sh) b k slotPlace) (w .1)) w);
       })
 
@@ -128,13 +128,13 @@ module _ (ws ws′ : List ℕ) (sh : Shape) (s : State) (h : Held ws sh s) (x : 
         (λ (z : slotWord (load ws sh) d k slotPlace ≡ x → ⊥). row-off (slotWord (load ws sh) d k slotPlace) z 0)
         (same? (slotWord (load ws sh) d k slotPlace) x))
         (record {
-          next = root-same 5 ∙ r .book .next;
-          used = root-same 6 ∙ r .book .used ∙ sym (length-swap i c (s .book .rows));
+          next = root-same rootNextId ∙ r .book .next;
+          used = root-same rootUsedRows ∙ r .book .used ∙ sym (length-swap i c (s .book .rows));
           rows = rows-all (load ws′ sh) (swapId i c (s .book .rows)) swapped-row;
           places = λ j l. rw (index-same j) (r .book .places j l .0, rank-same (load ws sh (index j)) ∙ r .book .places j l .1);
           marks = λ d k l mk. let w = r .book .marks d k l mk in
               mark-words (load ws′ sh) (s .book .capacity) (length (swapId i c (s .book .rows))) d k (slotWord (load ws sh) d k slotTag) (slotWord (load ws sh) d k slotPlace) (slotWord (load ws sh) d k slotPosition)
-              (slotWord (load ws′ sh) d k slotTag) (slotWord (load ws′ sh) d k slotPlace) (slotWord (load ws′ sh) d k slotPosition) (slot-same d k 0) (slot-same d k 2) (slot-same d k 3)
+              (slotWord (load ws′ sh) d k slotTag) (slotWord (load ws′ sh) d k slotPlace) (slotWord (load ws′ sh) d k slotPosition) (slot-same d k slotTag) (slot-same d k slotPlace) (slot-same d k slotPosition)
               (rw (length-swap i c (s .book .rows)) (⊎-elim
               (λ (z : slotWord (load ws sh) d k slotPlace ≡ x). let g = marked d k l mk z in
               mark-words (load ws′ sh) (s .book .capacity) (length (s .book .rows)) d k (slotWord (load ws sh) d k slotTag) x (slotWord (load ws sh) d k slotPosition)

@@ -12,7 +12,7 @@ use Rattle.model.specs.Change.{withBook}
 use Rattle.layout.specs.declared.Shape.{Shape}
 use Rattle.layout.specs.ShapeOf.{roots-kept}
 use Rattle.layout.specs.Layout.{Addr, Addr.reg, Mem, total, root, head, entry, load, save, same, same-is, isIn, length-save, load-save-any, Write, Write.at, writes}
-use Rattle.layout.specs.Fields.{rootNextId, rootUsedRows, rootFreeFrames}
+use Rattle.layout.specs.Fields.{rootNextId, rootUsedRows, rootFreeFrames, headFirstEntry}
 use Rattle.layout.specs.RegionNames.{regionRoot, regionHead, regionEntry, regionOwner, regionGroup16, regionCell, regionObject, regionIndex, regionRow}
 use Rattle.representation.specs.Represents.{entryAt, slotWord, BookIs, Represents}
 use Rattle.storage.specs.Kept.{Stays, all-stay, SameIds, slot-kept as words-kept, table-kept, PoolSame, frames-kept, object-kept}
@@ -53,9 +53,9 @@ module _ (m n : Mem) (o : OnlyBook m n) where
     objectCount = r .objectCount;
     capacity = r .capacity ∙ sym c;
     pageCount = r .pageCount;
-    first = λ b l. off-head b 10 ∙ r .first b l;
+    first = λ b l. off-head b headFirstEntry ∙ r .first b l;
     tables = λ b l. table-kept m n b (book-stays b) (s .tables b) (r .tables b l) (ids b l) (λ p f h. off-entry (entryAt m b p) f) (λ p f h. off-entry (entryAt m b p) f);
-    frames = frames-kept m n s (withBook s k) book-pool (λ c. off-head c 10) refl refl (λ c p f l h e. (l, h, e)) (r .frames);
+    frames = frames-kept m n s (withBook s k) book-pool (λ c. off-head c headFirstEntry) refl refl (λ c p f l h e. (l, h, e)) (r .frames);
     objects = λ x l. object-kept m n x (s .objects x) (λ f. o .other regionObject x 0 f (λ e. omega arith) (λ e. omega arith) (λ e. omega arith)) (r .objects x l);
     book = book;
   }

@@ -83,12 +83,12 @@ module _ (ws : List ℕ) (sh : Shape) (s : State) (r : Rep ws sh s) where
     room₂ = omega (arith, room, mid .long)
 
     fills : Fills ws₁ (save ws₂ sh (row x rowKind) kindParcel) sh x
-    fills = fills-then ws₁ ws₂ (save ws₂ sh (row x rowKind) kindParcel) sh x mid (fills-row ws₂ sh room₂ x 1 3)
+    fills = fills-then ws₁ ws₂ (save ws₂ sh (row x rowKind) kindParcel) sh x mid (fills-row ws₂ sh room₂ x rowKind kindParcel)
 
     body : BodyIs (load (save ws₂ sh (row x rowKind) kindParcel) sh) x (parcel (map sentOf es))
     body = let a = load-save ws₂ sh room₂ (row x rowKind) kindParcel (in-row sh x rowKind low (omega arith)) in (
       a (row x rowKind) ∙ rw (eq-eqb x x refl),
-      a (row x rowLength) ∙ sent-row sh x (length es) ws₁ 0 3 room ∙ stands .body .2 ∙ sym (length-map es sentOf),
+      a (row x rowLength) ∙ sent-row sh x (length es) ws₁ 0 rowLength room ∙ stands .body .2 ∙ sym (length-map es sentOf),
       handles-kept (load ws₂ sh) (load (save ws₂ sh (row x rowKind) kindParcel) sh) x (λ j f. a (item x j f)) 0 (map sentOf es)
           (sent-items sh x low (load ws₁ sh) es ws₁ 0 room (omega (arith, few)) (λ i f l. refl) (stands .body .3)),
     )
@@ -99,7 +99,7 @@ module _ (ws : List ℕ) (sh : Shape) (s : State) (r : Rep ws sh s) where
     committed-held = let a = load-save ws₂ sh room₂ (row x rowKind) kindParcel (in-row sh x rowKind low (omega arith)) in
         rw (o .row .body .1, o .row .body .2)
         (swap-held ws₁ (save ws₂ sh (row x rowKind) kindParcel) sh (left s b es) (left-kept .held) x fills (left-kept .fits (fits-of s (r .wellFormed))) i (claim b es) (parcel (map sentOf es)) stands
-        (a (row x rowId) ∙ sent-row sh x (length es) ws₁ 0 0 room ∙ stands .id) body (λ d k l mk e. absurd (left-free d k l mk e)))
+        (a (row x rowId) ∙ sent-row sh x (length es) ws₁ 0 rowId room ∙ stands .id) body (λ d k l mk e. absurd (left-free d k l mk e)))
 
   -- COMMIT is the model's step
   pub commit-does : (os : List ℕ) (base i : ℕ) → Does ws os sh base s (commit i) (commitR ws os sh base i)

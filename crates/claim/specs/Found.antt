@@ -42,7 +42,7 @@ pub record Claimed (m : Mem) (s : State) (x i b : ℕ) (es : List Entry) : Type 
 module _ (ws : List ℕ) (sh : Shape) (s : State) (r : Rep ws sh s) (i : ℕ) where
   -- "unknown .. open row of the kind named": 18
   pub claim-none : claimLink (load ws sh) sh i ≡ 0 → (f : ℕ → List Entry → Decision) → (claimRow i of s refuse 18 then f) ≡ refusal 18
-  claim-none e f = kind-none sh (load ws sh) s (r .reps .memory) (fits-of s (r .wellFormed)) (r .reps .shaped .limits .few-rows) 2 i (λ o. asClaim o 18 f ≡ refusal 18)
+  claim-none e f = kind-none sh (load ws sh) s (r .reps .memory) (fits-of s (r .wellFormed)) (r .reps .shaped .limits .few-rows) kindClaim i (λ o. asClaim o 18 f ≡ refusal 18)
       refl (λ x y p n. no-claim (load ws sh) x y p n f) e
 
   claimed-of : (x : ℕ) (y : Body) (b : ℕ) (es : List Entry) → find i (s .book .rows) ≡ some y → RowAt (load ws sh) s x i y → y ≡ claim b es
@@ -51,7 +51,7 @@ module _ (ws : List ℕ) (sh : Shape) (s : State) (r : Rep ws sh s) (i : ℕ) wh
 
   pub claim-some : (x : ℕ) → claimLink (load ws sh) sh i ≡ suc x → (b : ℕ) × (es : List Entry) × Claimed (load ws sh) s x i b es
   claim-some x e =
-      let p = kind-some sh (load ws sh) s (r .reps .memory) (fits-of s (r .wellFormed)) (r .reps .shaped .limits .few-rows) 2 i x e in
+      let p = kind-some sh (load ws sh) s (r .reps .memory) (fits-of s (r .wellFormed)) (r .reps .shaped .limits .few-rows) kindClaim i x e in
       let g = a-claim (load ws sh) x (p .0) (p .2 .body) (p .3) in
       claimed-of x (p .0) (g .0) (g .1) (p .1) (p .2) (g .2)
 

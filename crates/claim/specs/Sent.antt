@@ -11,7 +11,7 @@ use Rattle.model.specs.State.{Entry}
 use Rattle.model.specs.Book.{sentOf}
 use Rattle.layout.specs.declared.Shape.{Shape}
 use Rattle.layout.specs.Layout.{Mem, total, row, item, in-item, isIn, load, length-save, load-save, load-save-any}
-use Rattle.layout.specs.Fields.{itemObject, itemRights, itemFlags}
+use Rattle.layout.specs.Fields.{itemOperation, itemObject, itemRights, itemFlags, itemGranted}
 use Rattle.layout.specs.Sizes.{batchMax}
 use Rattle.representation.specs.Represents.{HandleIs, EntryIs, Items}
 use Rattle.book.specs.Ops.{Fills, fills-none, fills-then, fills-item}
@@ -21,7 +21,7 @@ use Rattle.claim.specs.Entries.{sent-is}
 -- the rights sent are told by the words of the entry
 rights-same : (m n : Mem) (x j : ℕ) → ((f : ℕ) → n (item x j f) ≡ m (item x j f)) → sentRights n x j ≡ sentRights m x j
 unfolding sentRights
-rights-same m n x j e = rw (e 0, e 3, e 5)
+rights-same m n x j e = rw (e itemOperation, e itemRights, e itemGranted)
 
 module _ (sh : Shape) (x : ℕ) where
   abbrev send : List ℕ → ℕ → List ℕ
@@ -36,7 +36,7 @@ module _ (sh : Shape) (x : ℕ) where
   unfolding each sendW
   sent-fills zero ws j h = fills-none ws sh x
   sent-fills (suc n) ws j h =
-      fills-then ws (sendW ws sh x j) (each send (sendW ws sh x j) (suc j) n) sh x (fills-item ws sh h x j 3 (sentRights (load ws sh) x j))
+      fills-then ws (sendW ws sh x j) (each send (sendW ws sh x j) (suc j) n) sh x (fills-item ws sh h x j itemRights (sentRights (load ws sh) x j))
       (sent-fills n (sendW ws sh x j) (suc j) (send-long ws j h))
 
   -- not its first block
@@ -77,9 +77,9 @@ module _ (sh : Shape) (x : ℕ) where
       let back : (f : ℕ) → load (each send (sendW ws sh x j) (suc j) (length es)) sh (item x j f) ≡ load (sendW ws sh x j) sh (item x j f)
       = λ f. sent-before (length es) (sendW ws sh x j) (suc j) j f (send-long ws j h) (omega arith) in (
         (
-          back 2 ∙ a .0 ∙ e j 2 (omega arith) ∙ q .0,
-          back 3 ∙ a .1 ∙ rights-same m (load ws sh) x j (λ f. e j f (omega arith)) ∙ q .1,
-          back 4 ∙ a .2 ∙ e j 4 (omega arith) ∙ q .2,
+          back itemObject ∙ a .0 ∙ e j itemObject (omega arith) ∙ q .0,
+          back itemRights ∙ a .1 ∙ rights-same m (load ws sh) x j (λ f. e j f (omega arith)) ∙ q .1,
+          back itemFlags ∙ a .2 ∙ e j itemFlags (omega arith) ∙ q .2,
         ),
         sent-items low m es (sendW ws sh x j) (suc j) (send-long ws j h) (omega arith) (λ i f l. send-off ws j i f h (λ z. omega arith) ∙ e i f (omega arith)) (its .1),
       )

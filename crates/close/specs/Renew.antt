@@ -20,7 +20,7 @@ use Rattle.invariant.specs.Pages.{till-sane, busy-there, busy-vacant, busy-same
 use Rattle.invariant.specs.Orders.{Sound, attached-below, attached-of, place-good}
 use Rattle.layout.specs.declared.Shape.{Shape}
 use Rattle.layout.specs.Layout.{Mem, head, entry, load, save, writes}
-use Rattle.layout.specs.Fields.{headPages, headFirstFree, headFirstEntry, entryHigh, slotTag, slotGeneration, slotNextFree, slotPreviousFree, slotObject, slotRights, slotFlags}
+use Rattle.layout.specs.Fields.{headPages, headFirstFree, headFirstEntry, entryHigh, slotTag, slotGeneration, slotNextFree, slotPreviousFree, slotObject, slotRights, slotFlags, rowId}
 use Rattle.layout.specs.Sizes.{pageSize}
 use Rattle.representation.specs.Represents.{linkOf, frameOf, tagged, isMarked}
 use Rattle.storage.specs.Order.{chain-frame}
@@ -42,7 +42,7 @@ highW ws sh b p g = done ws sh b (toPage (suc p) entryHigh (max (seen ws sh b (p
 
 -- slot k gets the generation g and the rights r
 unfoldable pub renewW : List ℕ → Shape → ℕ → ℕ → ℕ → ℕ → List ℕ
-renewW ws sh b k g r = highW (slotW (slotW ws sh b k 1 g) sh b k 3 r) sh b (k / pageSize) g
+renewW ws sh b k g r = highW (slotW (slotW ws sh b k slotGeneration g) sh b k slotRights r) sh b (k / pageSize) g
 
 -- what the table shows after each part
 abbrev slotV₁ : (Spot → ℕ) → ℕ → ℕ → ℕ → Spot → ℕ
@@ -52,7 +52,7 @@ abbrev highV : (Spot → ℕ) → ℕ → ℕ → Spot → ℕ
 highV v p g = puts v (toPage (suc p) entryHigh (max (v (pg p entryHigh)) g) ∷ [])
 
 abbrev renewV : (Spot → ℕ) → ℕ → ℕ → ℕ → Spot → ℕ
-renewV v k g r = highV (slotV₁ (slotV₁ v k 1 g) k 3 r) (k / pageSize) g
+renewV v k g r = highV (slotV₁ (slotV₁ v k slotGeneration g) k slotRights r) (k / pageSize) g
 
 -- ---- the table
 
@@ -138,9 +138,9 @@ module _ (ws : List ℕ) (sh : Shape) (b : ℕ) (t : Table) (ready : Ready ws sh
   unfolding renewW
   renew-moves =
       let v : Spot → ℕ = look (load ws sh) b in
-      let p₁ = slot-moves ws v (record { long = refl; only = λ a h. refl; shows = refl }) 1 g (omega arith) in
-      let p₂ = slot-moves (slotW ws sh b k 1 g) (slotV₁ v k 1 g) p₁ 3 r (omega arith) in
-      high-moves (slotW (slotW ws sh b k 1 g) sh b k 3 r) (slotV₁ (slotV₁ v k 1 g) k 3 r) p₂
+      let p₁ = slot-moves ws v (record { long = refl; only = λ a h. refl; shows = refl }) slotGeneration g (omega arith) in
+      let p₂ = slot-moves (slotW ws sh b k slotGeneration g) (slotV₁ v k slotGeneration g) p₁ slotRights r (omega arith) in
+      high-moves (slotW (slotW ws sh b k slotGeneration g) sh b k slotRights r) (slotV₁ (slotV₁ v k slotGeneration g) k slotRights r) p₂
 
   -- RENEW: the table is the model's
   pub renew-turns : Turns ws (renewW ws sh b k g r) sh b t k (λ f. renewV (look (load ws sh) b) k g r (sl k f)) (place till t k (occupied g (withRights x r)))
@@ -153,7 +153,7 @@ module _ (ws : List ℕ) (sh : Shape) (b : ℕ) (t : Table) (ready : Ready ws sh
       record {
         long = p .long;
         only = p .only;
-        table = unsee (load ws sh) (load ws′ sh) b (place till t k (occupied g (withRights x r))) (λ i. rows-only b (load ws sh) (load ws′ sh) (p .only) i 0) (rw (p .shows) y);
+        table = unsee (load ws sh) (load ws′ sh) b (place till t k (occupied g (withRights x r))) (λ i. rows-only b (load ws sh) (load ws′ sh) (p .only) i rowId) (rw (p .shows) y);
         slot = λ f. ap (λ (w : Spot → ℕ). w (sl k f)) (p .shows);
         others = λ j f n h. ap (λ (w : Spot → ℕ). w (sl j f)) (p .shows) ∙ renew-others (load ws sh) v t seen₀ (ready .sound) k g₀ x was g r j f n;
       }

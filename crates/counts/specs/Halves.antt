@@ -276,16 +276,16 @@ module _ (ws : List ℕ) (sh : Shape) where
   -- `settle_one`
   module _ (first o : ℕ) (h : first ≡ objectsAt sh) (l : o < sh .objects) where
     count-at : getD ws (first + o * 8 + 6) 0 ≡ load ws sh (object o objectActive)
-    count-at = object-load ws sh first o h l (first + o * 8 + 6) 6 (omega arith) refl
+    count-at = object-load ws sh first o h l (first + o * 8 + 6) objectActive (omega arith) refl
 
     pub one-none : getD ws (first + o * 8 + 6) 0 ≡ 0 → (ws ≡ lowerW ws sh o) × (true ≡ halfB (load ws sh (object o objectActive)))
     unfolding lowerW
     one-none z = let c : load ws sh (object o objectActive) ≡ 0 = sym count-at ∙ z in
-        (sym (set-getD ws (first + o * 8 + 6) 0) ∙ object-save ws sh first o h l (first + o * 8 + 6) 6 (omega arith) refl (getD ws (first + o * 8 + 6) 0) ∙ rw (z, c), rw c)
+        (sym (set-getD ws (first + o * 8 + 6) 0) ∙ object-save ws sh first o h l (first + o * 8 + 6) objectActive (omega arith) refl (getD ws (first + o * 8 + 6) 0) ∙ rw (z, c), rw c)
 
     pub one-words : (vs : List ℕ) → vs ≡ set ws (first + o * 8 + 6) (getD ws (first + o * 8 + 6) 0 % 4294967296) → vs ≡ lowerW ws sh o
     unfolding lowerW
-    one-words vs e = e ∙ object-save ws sh first o h l (first + o * 8 + 6) 6 (omega arith) refl (getD ws (first + o * 8 + 6) 0 % 4294967296)
+    one-words vs e = e ∙ object-save ws sh first o h l (first + o * 8 + 6) objectActive (omega arith) refl (getD ws (first + o * 8 + 6) 0 % 4294967296)
         ∙ ap (λ (x : ℕ). save ws sh (object o objectActive) (x % 4294967296)) count-at
 
     pub one-answer : (r : Bool) → r ≡ eqb (getD ws (first + o * 8 + 6) 0 % 4294967296) (getD ws (first + o * 8 + 6) 0 / 4294967296) → r ≡ halfB (load ws sh (object o objectActive))

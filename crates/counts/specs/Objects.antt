@@ -225,8 +225,8 @@ module _ (ws : List ℕ) (sh : Shape) (first o : ℕ) (h : first ≡ objectsAt s
       (getD ws (first + o * 8 + 6) 0) (getD ws (first + o * 8 + 7) 0)) 0
       → r ≡ objectB (load ws sh) o
   fields-read r q = let i : ℕ = first + o * 8 in
-      fields-are (load ws sh) o _ _ _ _ _ _ _ r (field-at i 0 (omega arith) (omega arith)) (field-at (i + 1) 1 (omega arith) refl) (field-at (i + 2) 2 (omega arith) refl)
-      (field-at (i + 4) 4 (omega arith) refl) (field-at (i + 5) 5 (omega arith) refl) (field-at (i + 6) 6 (omega arith) refl) (field-at (i + 7) 7 (omega arith) refl) q
+      fields-are (load ws sh) o _ _ _ _ _ _ _ r (field-at i objectKoid (omega arith) (omega arith)) (field-at (i + 1) objectKind (omega arith) refl) (field-at (i + 2) objectClass (omega arith) refl)
+      (field-at (i + 4) objectExportable (omega arith) refl) (field-at (i + 5) objectStage (omega arith) refl) (field-at (i + 6) objectActive (omega arith) refl) (field-at (i + 7) objectLimit (omega arith) refl) q
 
 -- `fields_ok`: no upper part stands, and with every test before the last passed
 pub object-last : (m : Mem) (o a b c d e f g : ℕ) (r : Bool) → a ≡ m (object o objectKoid) → b ≡ m (object o objectKind) → c ≡ m (object o objectClass) → d ≡ m (object o objectExportable) → e ≡ m (object o objectLimit) → f ≡ m (object o objectActive)

@@ -90,4 +90,4 @@ module _ (ws : List ℕ) (sh : Shape) (first o : ℕ) (h : first ≡ objectsAt s
 pub shift-at : (ws vs : List ℕ) (sh : Shape) (first o : ℕ) → first ≡ objectsAt sh → o < sh .objects → vs ≡ set ws (first + o * 8 + 6) (plus (getD ws (first + o * 8 + 6) 0) unit) → vs ≡ shiftW ws sh unit o
 unfolding shiftW
 shift-at ws vs sh first o h l e = let i : ℕ = first + o * 8 + 6 in
-    e ∙ object-save ws sh first o h l i 6 (omega arith) refl (plus (getD ws i 0) unit) ∙ ap (λ (c : ℕ). save ws sh (object o objectActive) (plus c unit)) (object-load ws sh first o h l i 6 (omega arith) refl)
+    e ∙ object-save ws sh first o h l i objectActive (omega arith) refl (plus (getD ws i 0) unit) ∙ ap (λ (c : ℕ). save ws sh (object o objectActive) (plus c unit)) (object-load ws sh first o h l i objectActive (omega arith) refl)

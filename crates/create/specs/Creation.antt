@@ -15,6 +15,7 @@ use Rattle.layout.specs.ShapeOf.{onShape}
 use Rattle.codec.specs.Codec.{maskOf}
 use Rattle.layout.specs.Turns.{turns}
 use Rattle.layout.specs.Fields.{rootVersion, rootTables, rootFrames, rootObjects, rootRows, rootNextId, rootFreeFrames, rootPages, headPageLimit, headMask, headFirstEntry, objectKoid, objectKind, objectClass, objectSupported, objectExportable, objectLimit}
+use Rattle.layout.specs.RegionNames.{regionGroup16, regionGroup256, regionGroup4096}
 use Rattle.create.specs.Parameters.{tableFrom, objectPlace, objectOf, pageSum, planOf}
 
 -- words 0 to n - 1 are 0
@@ -64,7 +65,7 @@ placesW ws sh n = turns ws sh placeP n
 -- the three levels of groups
 unfoldable pub levelsW : List ℕ → Shape → List ℕ
 levelsW ws sh =
-    groupsW (groupsW (groupsW ws sh 4 16 ((sh .frames + 15) / 16)) sh 5 256 ((sh .frames + 255) / 256)) sh 6 4096 ((sh .frames + 4095) / 4096)
+    groupsW (groupsW (groupsW ws sh regionGroup16 16 ((sh .frames + 15) / 16)) sh regionGroup256 256 ((sh .frames + 255) / 256)) sh regionGroup4096 4096 ((sh .frames + 4095) / 4096)
 
 -- the whole: out of use is 0, words past the state keep their values
 unfoldable pub builtW : List ℕ → List ℕ → Shape → List ℕ
@@ -131,11 +132,11 @@ object-by ws sh ps t o i v1 v2 v3 v4 v5 v6 s1 s2 s3 s4 s5 s6 q a1 a2 a3 a4 a5 a6
 pub plan-length : (ws us : List ℕ) (sh : Shape) (xs : List Write) → us ≡ writes ws sh xs → length us ≡ length ws
 plan-length ws us sh xs e = ap length e ∙ length-writes ws sh xs
 
-pub levels-by : (ws : List ℕ) (sh : Shape) (s1 s2 s3 : List ℕ) → s1 ≡ groupsW ws sh 4 16 ((sh .frames + 15) / 16) → s2 ≡ groupsW s1 sh 5 256 ((sh .frames + 255) / 256)
-    → s3 ≡ groupsW s2 sh 6 4096 ((sh .frames + 4095) / 4096) → s3 ≡ levelsW ws sh
+pub levels-by : (ws : List ℕ) (sh : Shape) (s1 s2 s3 : List ℕ) → s1 ≡ groupsW ws sh regionGroup16 16 ((sh .frames + 15) / 16) → s2 ≡ groupsW s1 sh regionGroup256 256 ((sh .frames + 255) / 256)
+    → s3 ≡ groupsW s2 sh regionGroup4096 4096 ((sh .frames + 4095) / 4096) → s3 ≡ levelsW ws sh
 unfolding levelsW
 levels-by ws sh s1 s2 s3 e1 e2 e3 =
-    e3 ∙ ap (λ (w : List ℕ). groupsW w sh 6 4096 ((sh .frames + 4095) / 4096)) (e2 ∙ ap (λ (w : List ℕ). groupsW w sh 5 256 ((sh .frames + 255) / 256)) e1)
+    e3 ∙ ap (λ (w : List ℕ). groupsW w sh regionGroup4096 4096 ((sh .frames + 4095) / 4096)) (e2 ∙ ap (λ (w : List ℕ). groupsW w sh regionGroup256 256 ((sh .frames + 255) / 256)) e1)
 
 pub built-by : (ws ps : List ℕ) (sh : Shape) (n : ℕ) (s1 s2 s3 s4 s5 s6 : List ℕ) → n ≡ total sh → s1 ≡ clearedW ws n → s2 ≡ headerW s1 sh → s3 ≡ headsW s2 sh ps (sh .tables)
     → s4 ≡ objectsW s3 sh ps (sh .objects) → s5 ≡ levelsW s4 sh → s6 ≡ placesW s5 sh (sh .rows) → s6 ≡ builtW ws ps sh

@@ -12,7 +12,7 @@ use Rattle.words.specs.Pick.{bool, both, clash}
 use Rattle.codec.specs.Codec.{maskOf}
 use Rattle.layout.specs.Layout.{Mem, total, head, object}
 use Rattle.layout.specs.ShapeOf.{Permitted, Roots}
-use Rattle.layout.specs.Fields.{headPageLimit, headMask, headLifecycle, headEpoch, headPages, headFirstFree, headFreeSlots, headFirstEmpty, headFirstDetached, objectKoid, objectKind, objectClass, objectSupported, objectExportable, objectStage, objectActive, objectLimit}
+use Rattle.layout.specs.Fields.{rootVersion, rootTables, rootFrames, rootObjects, rootRows, rootNextId, rootUsedRows, rootFreeFrames, rootPages, headPageLimit, headMask, headLifecycle, headEpoch, headPages, headFirstFree, headFreeSlots, headFirstEmpty, headFirstDetached, objectKoid, objectKind, objectClass, objectSupported, objectExportable, objectStage, objectActive, objectLimit}
 use Rattle.layout.specs.Values.{lifeActive, stageNew}
 use Rattle.layout.specs.Sizes.{pageSize, pagesMax}
 use Rattle.model.specs.Base.{bit, nth, every, range, occurs, sum}
@@ -194,14 +194,14 @@ module _ (ps : List ℕ) (g : Good ps) where
           sixteens = λ k h. new-sixteen ps sh k (omega arith) ∙ sym (group-count (getD ps 1 0) (k * 16) 16);
           hundreds = λ k h. new-hundred ps sh k (omega arith) ∙ sym (group-count (getD ps 1 0) (k * 256) 256);
           thousands = λ k h. new-thousand ps sh k (omega arith) ∙ sym (group-count (getD ps 1 0) (k * 4096) 4096);
-          count = new-root ps sh 7 ∙ sym (length-range 0 (getD ps 1 0));
+          count = new-root ps sh rootFreeFrames ∙ sym (length-range 0 (getD ps 1 0));
         };
         objects = λ o h. let i : o < getD ps 2 0 = omega (arith, objects-length) in
             rw (object-at o i) (object-made m o (objectOf ps (getD ps 0 0) o) (object-good o i) (new-koid ps sh o i) (new-kind ps sh o i) (new-class ps sh o i) (new-supported ps sh o i)
             (new-exportable ps sh o i) (new-stage ps sh o i) (new-handles ps sh o i) (new-most ps sh o i));
         book = record {
-          next = new-root ps sh 5;
-          used = new-root ps sh 6;
+          next = new-root ps sh rootNextId;
+          used = new-root ps sh rootUsedRows;
           rows = tt;
           places = λ i h. let e = new-index ps sh i h in (rw e h, rw e (new-rank ps sh i h));
           marks = λ b k h q. let j : b < getD ps 0 0 = omega (arith, tables-length) in
@@ -212,7 +212,7 @@ module _ (ps : List ℕ) (g : Good ps) where
   made-roots : Roots (shapeIn ps) (mNew ps (shapeIn ps))
   made-roots =
       let sh = shapeIn ps in
-      record { version = new-root ps sh 0; tables = new-root ps sh 1; frames = new-root ps sh 2; objects = new-root ps sh 3; rows = new-root ps sh 4; pages = new-root ps sh 8 }
+      record { version = new-root ps sh rootVersion; tables = new-root ps sh rootTables; frames = new-root ps sh rootFrames; objects = new-root ps sh rootObjects; rows = new-root ps sh rootRows; pages = new-root ps sh rootPages }
 
   made-rep : (ws : List ℕ) → total (shapeIn ps) ≤ length ws → Rep (builtW ws ps (shapeIn ps)) (shapeIn ps) (created (parametersOf ps))
   made-rep ws h = record {

@@ -160,35 +160,35 @@ module _ (ps : List ℕ) (sh : Shape) where
       ∙ miss mHeads (objectP ps (sh .tables)) (head b f) (λ i k. refl) (sh .objects)
 
   pub new-limit : (b : ℕ) → b < sh .tables → mNew (head b headPageLimit) ≡ tableFrom ps b .pages
-  new-limit b h = new-head b 0 ∙ own mRoot (headP ps) (head b headPageLimit) (λ j. tableFrom ps j .pages) b (λ j k. refl) (sh .tables) h
+  new-limit b h = new-head b headPageLimit ∙ own mRoot (headP ps) (head b headPageLimit) (λ j. tableFrom ps j .pages) b (λ j k. refl) (sh .tables) h
 
   pub new-mask : (b : ℕ) → b < sh .tables → mNew (head b headMask) ≡ maskOf (tableFrom ps b .seed)
-  new-mask b h = new-head b 1 ∙ own mRoot (headP ps) (head b headMask) (λ j. maskOf (tableFrom ps j .seed)) b (λ j k. refl) (sh .tables) h
+  new-mask b h = new-head b headMask ∙ own mRoot (headP ps) (head b headMask) (λ j. maskOf (tableFrom ps j .seed)) b (λ j k. refl) (sh .tables) h
 
   pub new-first : (b : ℕ) → b < sh .tables → mNew (head b headFirstEntry) ≡ pageSum ps b
-  new-first b h = new-head b 10 ∙ own mRoot (headP ps) (head b headFirstEntry) (λ j. pageSum ps j) b (λ j k. refl) (sh .tables) h
+  new-first b h = new-head b headFirstEntry ∙ own mRoot (headP ps) (head b headFirstEntry) (λ j. pageSum ps j) b (λ j k. refl) (sh .tables) h
 
   -- the other fields of a head
   pub new-life : (b : ℕ) → mNew (head b headLifecycle) ≡ lifeActive
-  new-life b = new-head b 2 ∙ miss mRoot (headP ps) (head b headLifecycle) (λ i k. refl) (sh .tables)
+  new-life b = new-head b headLifecycle ∙ miss mRoot (headP ps) (head b headLifecycle) (λ i k. refl) (sh .tables)
 
   pub new-epoch : (b : ℕ) → mNew (head b headEpoch) ≡ 0
-  new-epoch b = new-head b 4 ∙ miss mRoot (headP ps) (head b headEpoch) (λ i k. refl) (sh .tables)
+  new-epoch b = new-head b headEpoch ∙ miss mRoot (headP ps) (head b headEpoch) (λ i k. refl) (sh .tables)
 
   pub new-size : (b : ℕ) → mNew (head b headPages) ≡ 0
-  new-size b = new-head b 5 ∙ miss mRoot (headP ps) (head b headPages) (λ i k. refl) (sh .tables)
+  new-size b = new-head b headPages ∙ miss mRoot (headP ps) (head b headPages) (λ i k. refl) (sh .tables)
 
   pub new-free : (b : ℕ) → mNew (head b headFirstFree) ≡ 0
-  new-free b = new-head b 6 ∙ miss mRoot (headP ps) (head b headFirstFree) (λ i k. refl) (sh .tables)
+  new-free b = new-head b headFirstFree ∙ miss mRoot (headP ps) (head b headFirstFree) (λ i k. refl) (sh .tables)
 
   pub new-count : (b : ℕ) → mNew (head b headFreeSlots) ≡ 0
-  new-count b = new-head b 7 ∙ miss mRoot (headP ps) (head b headFreeSlots) (λ i k. refl) (sh .tables)
+  new-count b = new-head b headFreeSlots ∙ miss mRoot (headP ps) (head b headFreeSlots) (λ i k. refl) (sh .tables)
 
   pub new-empty : (b : ℕ) → mNew (head b headFirstEmpty) ≡ 0
-  new-empty b = new-head b 8 ∙ miss mRoot (headP ps) (head b headFirstEmpty) (λ i k. refl) (sh .tables)
+  new-empty b = new-head b headFirstEmpty ∙ miss mRoot (headP ps) (head b headFirstEmpty) (λ i k. refl) (sh .tables)
 
   pub new-detached : (b : ℕ) → mNew (head b headFirstDetached) ≡ 0
-  new-detached b = new-head b 9 ∙ miss mRoot (headP ps) (head b headFirstDetached) (λ i k. refl) (sh .tables)
+  new-detached b = new-head b headFirstDetached ∙ miss mRoot (headP ps) (head b headFirstDetached) (λ i k. refl) (sh .tables)
 
   pub new-owner : (f : ℕ) → mNew (owner f) ≡ 0
   new-owner f =
@@ -216,28 +216,28 @@ module _ (ps : List ℕ) (sh : Shape) where
 
   module _ (o : ℕ) (h : o < sh .objects) where
     pub new-koid : mNew (object o objectKoid) ≡ objectOf ps (sh .tables) o .koid
-    new-koid = new-object o 0 ∙ own mHeads (objectP ps (sh .tables)) (object o objectKoid) (λ j. objectOf ps (sh .tables) j .koid) o (λ j k. refl) (sh .objects) h
+    new-koid = new-object o objectKoid ∙ own mHeads (objectP ps (sh .tables)) (object o objectKoid) (λ j. objectOf ps (sh .tables) j .koid) o (λ j k. refl) (sh .objects) h
 
     pub new-kind : mNew (object o objectKind) ≡ objectOf ps (sh .tables) o .kind
-    new-kind = new-object o 1 ∙ own mHeads (objectP ps (sh .tables)) (object o objectKind) (λ j. objectOf ps (sh .tables) j .kind) o (λ j k. refl) (sh .objects) h
+    new-kind = new-object o objectKind ∙ own mHeads (objectP ps (sh .tables)) (object o objectKind) (λ j. objectOf ps (sh .tables) j .kind) o (λ j k. refl) (sh .objects) h
 
     pub new-class : mNew (object o objectClass) ≡ objectOf ps (sh .tables) o .class
-    new-class = new-object o 2 ∙ own mHeads (objectP ps (sh .tables)) (object o objectClass) (λ j. objectOf ps (sh .tables) j .class) o (λ j k. refl) (sh .objects) h
+    new-class = new-object o objectClass ∙ own mHeads (objectP ps (sh .tables)) (object o objectClass) (λ j. objectOf ps (sh .tables) j .class) o (λ j k. refl) (sh .objects) h
 
     pub new-supported : mNew (object o objectSupported) ≡ objectOf ps (sh .tables) o .supported
-    new-supported = new-object o 3 ∙ own mHeads (objectP ps (sh .tables)) (object o objectSupported) (λ j. objectOf ps (sh .tables) j .supported) o (λ j k. refl) (sh .objects) h
+    new-supported = new-object o objectSupported ∙ own mHeads (objectP ps (sh .tables)) (object o objectSupported) (λ j. objectOf ps (sh .tables) j .supported) o (λ j k. refl) (sh .objects) h
 
     pub new-exportable : mNew (object o objectExportable) ≡ objectOf ps (sh .tables) o .exportable
-    new-exportable = new-object o 4 ∙ own mHeads (objectP ps (sh .tables)) (object o objectExportable) (λ j. objectOf ps (sh .tables) j .exportable) o (λ j k. refl) (sh .objects) h
+    new-exportable = new-object o objectExportable ∙ own mHeads (objectP ps (sh .tables)) (object o objectExportable) (λ j. objectOf ps (sh .tables) j .exportable) o (λ j k. refl) (sh .objects) h
 
     pub new-most : mNew (object o objectLimit) ≡ objectOf ps (sh .tables) o .limit
-    new-most = new-object o 7 ∙ own mHeads (objectP ps (sh .tables)) (object o objectLimit) (λ j. objectOf ps (sh .tables) j .limit) o (λ j k. refl) (sh .objects) h
+    new-most = new-object o objectLimit ∙ own mHeads (objectP ps (sh .tables)) (object o objectLimit) (λ j. objectOf ps (sh .tables) j .limit) o (λ j k. refl) (sh .objects) h
 
     pub new-stage : mNew (object o objectStage) ≡ stageNew
-    new-stage = new-object o 5 ∙ miss mHeads (objectP ps (sh .tables)) (object o objectStage) (λ i k. refl) (sh .objects) ∙ miss mRoot (headP ps) (object o objectStage) (λ i k. refl) (sh .tables)
+    new-stage = new-object o objectStage ∙ miss mHeads (objectP ps (sh .tables)) (object o objectStage) (λ i k. refl) (sh .objects) ∙ miss mRoot (headP ps) (object o objectStage) (λ i k. refl) (sh .tables)
 
     pub new-handles : mNew (object o objectActive) ≡ 0
-    new-handles = new-object o 6 ∙ miss mHeads (objectP ps (sh .tables)) (object o objectActive) (λ i k. refl) (sh .objects) ∙ miss mRoot (headP ps) (object o objectActive) (λ i k. refl) (sh .tables)
+    new-handles = new-object o objectActive ∙ miss mHeads (objectP ps (sh .tables)) (object o objectActive) (λ i k. refl) (sh .objects) ∙ miss mRoot (headP ps) (object o objectActive) (λ i k. refl) (sh .tables)
 
   -- the row index
   pub new-index : (i : ℕ) → i < sh .rows → mNew (index i) ≡ i

@@ -42,9 +42,9 @@ join-is ws sh b p h t u x y w₁ w₂ w₃ w₄ e₁ a₁ e₂ e₃ e₄ e₅ a�
     rw (a₄, a₃, a₂, e₅, e₄, e₃, e₂, a₁, e₁)
     (sym (ap (λ (w : List ℕ). joinDetachedW w sh b p) (leave-by ws sh b e p refl (m (head b headFirstEmpty)) refl)
     ∙ detached-last v sh b e p z (m (head b headFirstDetached)) (m (head b headEpoch))
-    (load-other v sh (head b headFirstEmpty) (head b headFirstEntry) refl z ∙ unlinked-keeps ws sh b 10 e p)
-    (load-other v sh (head b headFirstEmpty) (head b headFirstDetached) refl z ∙ unlinked-keeps ws sh b 9 e p)
-    (load-other v sh (head b headFirstEmpty) (head b headEpoch) refl z ∙ unlinked-keeps ws sh b 4 e p)))
+    (load-other v sh (head b headFirstEmpty) (head b headFirstEntry) refl z ∙ unlinked-keeps ws sh b headFirstEntry e p)
+    (load-other v sh (head b headFirstEmpty) (head b headFirstDetached) refl z ∙ unlinked-keeps ws sh b headFirstDetached e p)
+    (load-other v sh (head b headFirstEmpty) (head b headEpoch) refl z ∙ unlinked-keeps ws sh b headEpoch e p)))
 
 -- the steps of `detach_page`
 pub detach-is : (ws : List ℕ) (sh : Shape) (b p : ℕ) (e x f : ℕ) (w₁ w₂ w₃ : List ℕ)

@@ -164,7 +164,7 @@ module _ (m : Mem) (v : Spot → ℕ) (t : Table) (p : ℕ) (z : Seen m v (withE
         (λ e. clash {b = false} (rw e at a) refl)
         (λ e. z .busy q h (rw e at a) ∙ busy-other till till-sane (t .slots) (λ k. pick (onPage till p k) absent (t .slots k)) q (λ j i l. rw (i, e)));
     slots = join-slots;
-    free = chain-frame (λ k. v (sl k slotNextFree)) (λ k. v (sl k slotPreviousFree)) _ _ (v (hd headFirstFree)) 0 (dropIf (onPage till p) (t .free)) (z .free) (λ k h. (join-off k 2 (free-off k h), join-off k 3 (free-off k h)));
+    free = chain-frame (λ k. v (sl k slotNextFree)) (λ k. v (sl k slotPreviousFree)) _ _ (v (hd headFirstFree)) 0 (dropIf (onPage till p) (t .free)) (z .free) (λ k h. (join-off k slotNextFree (free-off k h), join-off k slotPreviousFree (free-off k h)));
     freeCount = z .freeCount;
     empty = chain-frame (λ q. v (pg q entryNext)) (λ q. v (pg q entryPrevious)) _ _ (v (hd headFirstEmpty)) 0 (without p (t .empty)) (z .empty) (λ q h. (rw (empty-off q h), refl));
     detached = (

@@ -19,7 +19,7 @@ use Rattle.invariant.specs.Pages.{till-sane}
 use Rattle.invariant.specs.Orders.{Sound, below-of, detach-sound}
 use Rattle.layout.specs.declared.Shape.{Shape}
 use Rattle.layout.specs.Layout.{Mem, head, entry, group, load, in-head, in-entry, InAll, length-writes, load-writes, upds, Write.at}
-use Rattle.layout.specs.Fields.{headPageLimit, headEpoch, headPages, headFirstDetached, headFirstEntry, entryFrame, entryNext}
+use Rattle.layout.specs.Fields.{headPageLimit, headEpoch, headPages, headFirstDetached, headFirstEntry, entryFrame, entryNext, slotTag, slotPlace, slotPosition, rowId}
 use Rattle.layout.specs.Sizes.{pageSize}
 use Rattle.representation.specs.Represents.{entryAt, linkOf, slotWord, TableIs, isMarked}
 use Rattle.representation.specs.Told.{marked-full}
@@ -155,7 +155,7 @@ module _ (ws : List ℕ) (sh : Shape) (s : State) (h : Held ws sh s) (w : Frames
   join-sees = ap (λ (x : Mem). look x b) join-is ∙ join-shows n b p
 
   join-table : TableIs (load ws₃ sh) b (detach till t p)
-  join-table = unsee m₀ (load ws₃ sh) b (detach till t p) (λ x. paged-rows b f m₀ (load ws₃ sh) join-only .rows x 0)
+  join-table = unsee m₀ (load ws₃ sh) b (detach till t p) (λ x. paged-rows b f m₀ (load ws₃ sh) join-only .rows x rowId)
       (rw join-sees (join-seen m₀ (look n b) t p (left .table) sound att))
 
   join-sound : Sound till (detach till t p) (detach till t p .free)
@@ -182,5 +182,5 @@ module _ (ws : List ℕ) (sh : Shape) (s : State) (h : Held ws sh s) (w : Frames
       let e : m₀ (entry (entryAt m₀ b p) entryFrame) - 1 ≡ f = omega (arith, r .table .frame p under, ap linkOf was) in
       rw e (held-given ws ws₃ sh s h w b lb f p join-long join-only join-pool (detach till t p) join-table join-sound refl
       (λ q d. rw (ne-eqb q p d))
-      (λ k i. let c = join-kept k i in paged-mark b f m₀ (load ws₃ sh) join-only s k (join-word k 0 i) (join-word k 2 i) (join-word k 3 i) (h .reps .memory .book .marks b k lb (c .0)))
+      (λ k i. let c = join-kept k i in paged-mark b f m₀ (load ws₃ sh) join-only s k (join-word k slotTag i) (join-word k slotPlace i) (join-word k slotPosition i) (h .reps .memory .book .marks b k lb (c .0)))
       under was (rw (eq-eqb p p refl)) refl)

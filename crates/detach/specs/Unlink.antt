@@ -13,7 +13,7 @@ use Rattle.model.specs.Base.{occurs, without}
 use Rattle.model.specs.State.{Table, isVacant}
 use Rattle.model.specs.Storage.{withFree}
 use Rattle.layout.specs.Layout.{Mem}
-use Rattle.layout.specs.Fields.{headPages, headFirstFree, headFreeSlots, slotTag, slotGeneration, slotNextFree, slotPreviousFree, slotFlags}
+use Rattle.layout.specs.Fields.{headPages, headFirstFree, headFreeSlots, entryFrame, slotTag, slotGeneration, slotNextFree, slotPreviousFree, slotObject, slotRights, slotFlags}
 use Rattle.layout.specs.Values.{tagVacant}
 use Rattle.layout.specs.Sizes.{pageSize}
 use Rattle.representation.specs.Represents.{tagged}
@@ -76,7 +76,7 @@ module _ (m : Mem) (v : Spot → ℕ) (t : Table) (l : List ℕ) (z : Seen m v (
   unlink-slots : (i : ℕ) → slotV m (unlinkV v k) i ≡ t .slots i
   unlink-slots i = bool (isVacant (t .slots i))
       (λ e. unlink-vacant i e)
-      (λ e. rw (unlink-size, unlink-pages (i / pageSize) 0, unlink-others i 0 e, unlink-others i 1 e, unlink-others i 2 e, unlink-others i 3 e, unlink-others i 4 e) (z .slots i))
+      (λ e. rw (unlink-size, unlink-pages (i / pageSize) entryFrame, unlink-others i slotTag e, unlink-others i slotGeneration e, unlink-others i slotObject e, unlink-others i slotRights e, unlink-others i slotFlags e) (z .slots i))
 
   pub unlink-seen : Seen m (unlinkV v k) (withFree t (without k l))
   unfolding unlinkV

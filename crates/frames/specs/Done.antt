@@ -14,7 +14,7 @@ use Rattle.model.specs.Tests.{apart}
 use Rattle.invariant.specs.Orders.{Sound}
 use Rattle.layout.specs.declared.Shape.{Shape}
 use Rattle.layout.specs.Layout.{Addr.reg, Mem, total, head, entry, load}
-use Rattle.layout.specs.Fields.{headFirstEntry}
+use Rattle.layout.specs.Fields.{headFirstEntry, slotTag, slotPlace, slotPosition, rowId}
 use Rattle.layout.specs.RegionNames.{regionRoot, regionHead, regionEntry, regionOwner, regionGroup16, regionGroup4096, regionCell}
 use Rattle.representation.specs.Represents.{slotWord, linkOf, TableIs, isMarked}
 use Rattle.storage.specs.Order.{same?}
@@ -54,14 +54,14 @@ module _ (f : ℕ) (m n : Mem) (o : OnlyPool f m n) where
     where
       shows : (c : Spot) → look n b c ≡ look m b c
       shows (hd g) = pool-head b g
-      shows (pg p g) = ap (λ (x : ℕ). n (entry (x + p) g)) (pool-head b 10) ∙ pool-entry (m (head b headFirstEntry) + p) g
+      shows (pg p g) = ap (λ (x : ℕ). n (entry (x + p) g)) (pool-head b headFirstEntry) ∙ pool-entry (m (head b headFirstEntry) + p) g
       shows (sl k g) = pool-slot b k g
 
   pub pool-table : (b : ℕ) (u : Table) → TableIs m b u → TableIs n b u
-  pool-table b u i = unsee m n b u (λ r. pool-rows .rows r 0) (rw (pool-look b) (see m b u i))
+  pool-table b u i = unsee m n b u (λ r. pool-rows .rows r rowId) (rw (pool-look b) (see m b u i))
 
   pub pool-mark : (s : State) (b k : ℕ) → MarkIs m s b k → MarkIs n s b k
-  pool-mark s b k = mark-kept m n pool-rows s b k (pool-slot b k 0) (pool-slot b k 2) (pool-slot b k 3)
+  pool-mark s b k = mark-kept m n pool-rows s b k (pool-slot b k slotTag) (pool-slot b k slotPlace) (pool-slot b k slotPosition)
 
 -- ---- the whole change
 

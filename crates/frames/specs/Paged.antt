@@ -9,7 +9,7 @@ use Rattle.model.specs.State.{till, State}
 use Rattle.model.specs.Counting.{sum-next, runs-apart}
 use Rattle.layout.specs.declared.Shape.{Shape}
 use Rattle.layout.specs.Layout.{Addr, Addr.reg, Mem, root, head, entry, owner, cell, same, same-is, Write.at, upd}
-use Rattle.layout.specs.Fields.{rootFreeFrames, headPageLimit, headCursor, headPages, headFirstDetached, headFirstEntry, entryFrame, slotPlace}
+use Rattle.layout.specs.Fields.{rootFreeFrames, headPageLimit, headCursor, headPages, headFirstDetached, headFirstEntry, entryFrame, slotPlace, rowId}
 use Rattle.layout.specs.RegionNames.{regionRoot, regionHead, regionEntry, regionOwner, regionGroup16, regionGroup4096, regionCell, regionObject}
 use Rattle.representation.specs.Represents.{entryAt, slotWord, TableIs, Represents}
 use Rattle.representation.specs.Told.{link-some}
@@ -143,4 +143,4 @@ module _ (sh : Shape) (m : Mem) (s : State) (r : Represents sh m s) (pl : Placed
 
     -- THE OTHER TABLES are as they were
     pub other-table : TableIs n c (s .tables c)
-    other-table = sound-kept m n c other-stays (s .tables c) (r .tables c lc) (pl .sound c lc) (λ k e. paged-rows b fr m n o .rows (slotWord m c k slotPlace) 0)
+    other-table = sound-kept m n c other-stays (s .tables c) (r .tables c lc) (pl .sound c lc) (λ k e. paged-rows b fr m n o .rows (slotWord m c k slotPlace) rowId)

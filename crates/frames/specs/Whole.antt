@@ -17,7 +17,8 @@ use Rattle.invariant.specs.Orders.{Sound}
 use Rattle.layout.specs.declared.Shape.{Shape}
 use Rattle.layout.specs.Layout.{Mem, load}
 use Rattle.layout.specs.ShapeOf.{roots-kept}
-use Rattle.layout.specs.Fields.{slotTag, slotPlace, slotPosition}
+use Rattle.layout.specs.Fields.{rootNextId, rootUsedRows, slotTag, slotPlace, slotPosition}
+use Rattle.layout.specs.RegionNames.{regionObject}
 use Rattle.representation.specs.Represents.{slotWord, TableIs, FramesAre, isMarked, Represents}
 use Rattle.storage.specs.Kept.{object-kept, MarkIs, mark-kept, book-kept}
 use Rattle.storage.specs.Whole.{Placed, put-like}
@@ -50,12 +51,12 @@ module _ (sh : Shape) (m : Mem) (s : State) (r : Represents sh m s) (pl : Placed
         (λ e. rw (e, eqb-true c b e) now)
         (λ e. rw e (other-table sh m s r pl b lb fr alone n o c l (eqb-false c b e)));
     frames = frames;
-    objects = λ x l. object-kept m n x (s .objects x) (λ f. paged-high b fr m n o 8 x 0 f (omega arith)) (r .objects x l);
-    book = book-kept m n (paged-rows b fr m n o) s (paged s b u fs) refl (paged-root b fr m n o 5 (λ e. omega arith)) (paged-root b fr m n o 6 (λ e. omega arith))
+    objects = λ x l. object-kept m n x (s .objects x) (λ f. paged-high b fr m n o regionObject x 0 f (omega arith)) (r .objects x l);
+    book = book-kept m n (paged-rows b fr m n o) s (paged s b u fs) refl (paged-root b fr m n o rootNextId (λ e. omega arith)) (paged-root b fr m n o rootUsedRows (λ e. omega arith))
         (λ c k l h. bool (eqb c b)
         (λ e. rw (eqb-true c b e) (marked k (rw e at h)))
         (λ e. let w : (f : ℕ) → slotWord n c k f ≡ slotWord m c k f = other-slot sh m s r pl b lb fr alone n o c l (eqb-false c b e) k in
-        mark-kept m n (paged-rows b fr m n o) s c k (w 0) (w 2) (w 3) (r .book .marks c k l (rw e at h)))) (r .book);
+        mark-kept m n (paged-rows b fr m n o) s c k (w slotTag) (w slotPlace) (w slotPosition) (r .book .marks c k l (rw e at h)))) (r .book);
   }
 
   -- marks that were there, on slots whose words stay

@@ -23,8 +23,9 @@ use Rattle.invariant.specs.Orders.{Room, order-is, absent-past, attach-sound}
 use Rattle.layout.specs.declared.Shape.{Shape}
 use Rattle.layout.specs.Layout.{Mem, head, load, Write, writes, length-writes}
 use Rattle.layout.specs.Turns.{turns, length-turns}
-use Rattle.layout.specs.Fields.{headFirstFree, headFreeSlots, headFirstEntry, slotTag, slotNextFree, slotPreviousFree, slotPlace, slotPosition}
+use Rattle.layout.specs.Fields.{rootFreeFrames, headFirstFree, headFreeSlots, headFirstEntry, slotTag, slotNextFree, slotPreviousFree, slotPlace, slotPosition, rowId}
 use Rattle.layout.specs.Sizes.{pageSize, number32Max}
+use Rattle.layout.specs.RegionNames.{regionRoot, regionOwner, regionGroup16}
 use Rattle.representation.specs.Represents.{entryAt, slotWord, TableIs, FramesAre, isMarked}
 use Rattle.representation.specs.Told.{marked-full}
 use Rattle.storage.specs.Order.{occurs-head, head-in}
@@ -110,15 +111,15 @@ module _ (ws : List ℕ) (sh : Shape) (s : State) (h : Held ws sh s) (b : ℕ) (
   seen = see (load ws sh) b (s .tables b) (h .reps .memory .tables b l)
 
   table-is : TableIs (load (attachW ws sh b p f) sh) b (attach till (s .tables b) p f)
-  table-is = unsee (load ws sh) (load (attachW ws sh b p f) sh) b (attach till (s .tables b) p f) (λ x. paged-rows b f (load ws sh) (load (attachW ws sh b p f) sh) only .rows x 0)
+  table-is = unsee (load ws sh) (load (attachW ws sh b p f) sh) b (attach till (s .tables b) p f) (λ x. paged-rows b f (load ws sh) (load (attachW ws sh b p f) sh) only .rows x rowId)
       (rw shows (joined-seen (load ws sh) (look (load ws sh) b) (look (mJoined (load ws sh) b p f) b) (s .tables b) seen (h .placed .sound b l) p f room ds turn
       (joined-is ws sh b (s .tables b) p f ripe)))
 
   pool-same : PoolSame (load ws sh) (load (joinedW ws sh b p f) sh)
   pool-same = rw (load-joined ws sh b (s .tables b) p f ripe) (record {
-    owners = λ g. joined-off (load ws sh) b p f 3 g 0 0 (λ e. omega arith) (λ e. omega arith) (λ e. omega arith);
-    groups = λ i c g. joined-off (load ws sh) b p f (4 + i) g 0 0 (λ e. omega arith) (λ e. omega arith) (λ e. omega arith);
-    count = joined-off (load ws sh) b p f 0 0 0 7 (λ e. omega arith) (λ e. omega arith) (λ e. omega arith);
+    owners = λ g. joined-off (load ws sh) b p f regionOwner g 0 0 (λ e. omega arith) (λ e. omega arith) (λ e. omega arith);
+    groups = λ i c g. joined-off (load ws sh) b p f (regionGroup16 + i) g 0 0 (λ e. omega arith) (λ e. omega arith) (λ e. omega arith);
+    count = joined-off (load ws sh) b p f regionRoot 0 0 rootFreeFrames (λ e. omega arith) (λ e. omega arith) (λ e. omega arith);
   })
 
   pooled : Pooled down (load ws sh) (load (attachW ws sh b p f) sh) f (suc (entryAt (load ws sh) b p))
@@ -167,7 +168,7 @@ module _ (ws : List ℕ) (sh : Shape) (s : State) (h : Held ws sh s) (b : ℕ) (
       (head-in (λ i. slotWord (load ws sh) b i slotNextFree) (λ i. slotWord (load ws sh) b i slotPreviousFree) (load ws sh (head b headFirstFree)) 0 (s .tables b .free) k (h .reps .memory .tables b l .free) z)) (marked-full (s .tables b .slots k) a) in
       let v : (i : ℕ) → slotWord (load (attachW ws sh b p f) sh) b k i ≡ pick (eqb i slotPreviousFree && eqb (load ws sh (head b headFirstFree)) (suc k)) (suc (p * pageSize)) (slotWord (load ws sh) b k i)
       = λ i. ap (λ (c : Spot → ℕ). c (sl k i)) shows ∙ other-slot ws sh b (s .tables b) p f ripe k i (eqb-false (k / pageSize) p y) in
-      (a, v 0, v 2, v 3 ∙ rw (ne-eqb (load ws sh (head b headFirstFree)) (suc k) off)))
+      (a, v slotTag, v slotPlace, v slotPosition ∙ rw (ne-eqb (load ws sh (head b headFirstFree)) (suc k) off)))
 
   -- ATTACH
   pub attach-held : Held (attachW ws sh b p f) sh (withFrames (withTable s b (attach till (s .tables b) p f)) fs)

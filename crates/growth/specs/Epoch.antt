@@ -15,7 +15,7 @@ use Rattle.model.specs.Change.{withTable}
 use Rattle.invariant.specs.Orders.{recast}
 use Rattle.layout.specs.declared.Shape.{Shape}
 use Rattle.layout.specs.Layout.{Mem, head, load, Write.at, upd, in-head, length-writes, load-writes}
-use Rattle.layout.specs.Fields.{headEpoch}
+use Rattle.layout.specs.Fields.{headEpoch, slotTag, slotPlace, slotPosition}
 use Rattle.layout.specs.Sizes.{pageSize}
 use Rattle.representation.specs.Represents.{wordIn, frameOf, slotWord, TableIs, FramesAre}
 use Rattle.storage.specs.Sight.{Spot, Spot.hd, Spot.pg, Spot.sl, look, Put.toHead, put₁}
@@ -102,4 +102,4 @@ module _ (ws : List ℕ) (sh : Shape) (s : State) (h : Held ws sh s) (b : ℕ) (
       (placed-paged s b (advance (s .tables b)) (s .frames) (h .placed)
       (let o = h .placed .sound b l in recast till (s .tables b) (s .tables b .free) o (s .tables b .mask) (s .tables b .life) ((s .tables b .epoch + 1) % 2 ^ 64) (s .tables b .free) (mod-lt (s .tables b .epoch + 1) (omega arith)))
       (λ p f i e. h .placed .frames b p f l i e))
-      (λ k e. (e, rw load-advance (same-slot k 0), rw load-advance (same-slot k 2), rw load-advance (same-slot k 3)))
+      (λ k e. (e, rw load-advance (same-slot k slotTag), rw load-advance (same-slot k slotPlace), rw load-advance (same-slot k slotPosition)))

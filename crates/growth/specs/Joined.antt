@@ -127,11 +127,11 @@ module _ (ws : List ℕ) (sh : Shape) (b : ℕ) (t : Table) (p f : ℕ) (r : Rip
       let e3 : load w3 sh ≡ upds (load w2 sh) x = load-writes w2 sh (omega (arith, r .ready .room)) x
       (in-head sh b headPages tb (omega arith), (in-head sh b headFirstDetached tb (omega arith), (in-entry sh (e + p) entryFrame pe (omega arith), (in-entry sh (e + p) entryHigh pe (omega arith), (in-entry sh (e + p) entryBusy pe (omega arith), tt))))) in
       let d3 : load w3 sh ≡ mEntry (load ws sh) b p f = e3 ∙ ap (λ (k : Mem). upds k x) (e2 ∙ ap (λ (k : Mem). updsAll k o) e1) in
-      let q8 : load w3 sh (head b headFirstEmpty) ≡ load ws sh (head b headFirstEmpty) = ap (λ (k : Mem). k (head b headFirstEmpty)) d3 ∙ entry-head (load ws sh) b p f b 8 (λ a c. omega arith) (λ y. omega arith) in
-      let q10 : load w3 sh (head b headFirstEntry) ≡ load ws sh (head b headFirstEntry) = ap (λ (k : Mem). k (head b headFirstEntry)) d3 ∙ entry-head (load ws sh) b p f b 10 (λ a c. omega arith) (λ y. omega arith) in
+      let q8 : load w3 sh (head b headFirstEmpty) ≡ load ws sh (head b headFirstEmpty) = ap (λ (k : Mem). k (head b headFirstEmpty)) d3 ∙ entry-head (load ws sh) b p f b headFirstEmpty (λ a c. omega arith) (λ y. omega arith) in
+      let q10 : load w3 sh (head b headFirstEntry) ≡ load ws sh (head b headFirstEntry) = ap (λ (k : Mem). k (head b headFirstEntry)) d3 ∙ entry-head (load ws sh) b p f b headFirstEntry (λ a c. omega arith) (λ y. omega arith) in
       let y : List (List Write) = pageP e (load ws sh (head b headFirstEmpty)) entryPrevious (up p) ∷ (at (entry (e + p) entryNext) (load ws sh (head b headFirstEmpty)) ∷ []) ∷ (at (entry (e + p) entryPrevious) 0 ∷ []) ∷ (at (head b headFirstEmpty) (up p) ∷ []) ∷ [] in
       let e4 : load (writesAll w3 sh y) sh ≡ updsAll (load w3 sh) y = load-all w3 sh (omega (arith, r .ready .room)) y (
-        in-pageP (load ws sh (head b headFirstEmpty)) 4 (up p) (omega arith) (λ q z. omega (arith, empty-low q z, under)),
+        in-pageP (load ws sh (head b headFirstEmpty)) entryPrevious (up p) (omega arith) (λ q z. omega (arith, empty-low q z, under)),
         ((in-entry sh (e + p) entryNext pe (omega arith), tt), ((in-entry sh (e + p) entryPrevious pe (omega arith), tt), ((in-head sh b headFirstEmpty tb (omega arith), tt), tt))),
       ) in
       rw (q8, q10) (e4 ∙ ap (λ (k : Mem). updsAll k y) d3)
@@ -162,22 +162,22 @@ module _ (ws : List ℕ) (sh : Shape) (b : ℕ) (t : Table) (p f : ℕ) (r : Rip
     where
       go : (l : ℕ) → ((q : ℕ) → l ≡ suc q → q < t .size) → Within (Pages (load ws sh) b f) (pageP (load ws sh (head b headFirstEntry)) l entryPrevious (up p))
       go zero c = tt
-      go (suc q) c = (low-entry q 4 (omega (arith, c q refl, under)), tt)
+      go (suc q) c = (low-entry q entryPrevious (omega (arith, c q refl, under)), tt)
 
   pub only-joined : OnlyPaged b f (load ws sh) (mJoined (load ws sh) b p f)
   only-joined =
       let g : ℕ = fresh (load ws sh) b p in
       let h : ℕ = load ws sh (head b headFirstFree) in
       let l : (i : ℕ) → Pages (load ws sh) b f (entry (load ws sh (head b headFirstEntry) + p) i) = λ i. low-entry p i (r .room .within) in
-      let o1 = paged-turns b f (load ws sh) (load ws sh) (λ a i. refl) (slotsP f p g h) (λ j. (in-frame j 0, (in-frame j 1, (in-frame j 2, (in-frame j 3, tt))))) (slotsOf till p) in
+      let o1 = paged-turns b f (load ws sh) (load ws sh) (λ a i. refl) (slotsP f p g h) (λ j. (in-frame j slotTag, (in-frame j slotGeneration, (in-frame j slotNextFree, (in-frame j slotPreviousFree, tt))))) (slotsOf till p) in
       let o2 = paged-writes b f (load ws sh) (mBuilt (load ws sh) f p g h) o1 (slotP (linkFrame (load ws sh) b h) h slotPreviousFree (p * pageSize + 1)) old-within in
       let o3 = paged-writes b f (load ws sh) (mOld (load ws sh) b p f) o2 (at (head b headFirstFree) (p * pageSize + slotsOf till p) ∷ at (head b headFreeSlots) (min (load ws sh (head b headFreeSlots)) slotsMax + slotsOf till p) ∷ [])
-      (head-entry 6 (omega arith) (omega arith), (head-entry 7 (omega arith) (omega arith), tt)) in
+      (head-entry headFirstFree (omega arith) (omega arith), (head-entry headFreeSlots (omega arith) (omega arith), tt)) in
       let o4 = paged-writes b f (load ws sh) _ o3 (entryP b (load ws sh (head b headFirstEntry)) p f g (sizeWith (load ws sh) b p) (detachedWith (load ws sh) b p))
-      (head-entry 5 (omega arith) (omega arith), (head-entry 9 (omega arith) (omega arith), (l 0, (l 1, (l 2, tt))))) in
+      (head-entry headPages (omega arith) (omega arith), (head-entry headFirstDetached (omega arith) (omega arith), (l entryFrame, (l entryHigh, (l entryBusy, tt))))) in
       let o5 = paged-writes b f (load ws sh) (mEntry (load ws sh) b p f) o4 (pageP (load ws sh (head b headFirstEntry)) (load ws sh (head b headFirstEmpty)) entryPrevious (up p)) next-within in
       paged-writes b f (load ws sh) (mNext (load ws sh) b p f) o5 (at (entry (load ws sh (head b headFirstEntry) + p) entryNext) (load ws sh (head b headFirstEmpty)) ∷ at (entry (load ws sh (head b headFirstEntry) + p) entryPrevious) 0 ∷ at (head b headFirstEmpty) (up p) ∷ [])
-      (l 3, (l 4, (head-entry 8 (omega arith) (omega arith), tt)))
+      (l entryNext, (l entryPrevious, (head-entry headFirstEmpty (omega arith) (omega arith), tt)))
 
   -- ---- what the table shows
 
@@ -185,7 +185,7 @@ module _ (ws : List ℕ) (sh : Shape) (b : ℕ) (t : Table) (p f : ℕ) (r : Rip
   up-page = up-small p (omega (arith, page-small))
 
   first-kept : mJoined (load ws sh) b p f (head b headFirstEntry) ≡ load ws sh (head b headFirstEntry)
-  first-kept = joined-head (load ws sh) b p f b 10 (λ a c. omega arith)
+  first-kept = joined-head (load ws sh) b p f b headFirstEntry (λ a c. omega arith)
 
   size-then : mJoined (load ws sh) b p f (head b headPages) ≡ pick (eqb p (load ws sh (head b headPages))) (suc (load ws sh (head b headPages))) (load ws sh (head b headPages))
   size-then = joined-size (load ws sh) b p f ∙ rw up-page (bool (eqb p (load ws sh (head b headPages))) (λ e. rw (e, eqb-true p (load ws sh (head b headPages)) e)) (λ e. rw e))
@@ -204,7 +204,7 @@ module _ (ws : List ℕ) (sh : Shape) (b : ℕ) (t : Table) (p f : ℕ) (r : Rip
       let u : p < mJoined (load ws sh) b p f (head b headPages) = rw size-then (bool (eqb p (load ws sh (head b headPages)))
       (λ y. rw y (omega (arith, eqb-true p (load ws sh (head b headPages)) y)))
       (λ y. rw y (omega (arith, eqb-false p (load ws sh (head b headPages)) y, r .room .next, r .ready .table .size)))) in
-      rw (lt-ltb k maxSlots l, e, lt-ltb p (mJoined (load ws sh) b p f (head b headPages)) u) (page-then p 0 ∙ joined-frame (load ws sh) b p f ∙ up-small f (omega (arith, r .frame, r .frames)))
+      rw (lt-ltb k maxSlots l, e, lt-ltb p (mJoined (load ws sh) b p f (head b headPages)) u) (page-then p entryFrame ∙ joined-frame (load ws sh) b p f ∙ up-small f (omega (arith, r .frame, r .frames)))
 
   frame-off : (k : ℕ) → (k / pageSize ≡ p → ⊥) → frameOf (mJoined (load ws sh) b p f) b k ≡ frameOf (load ws sh) b k
   frame-off k n =
@@ -214,7 +214,7 @@ module _ (ws : List ℕ) (sh : Shape) (b : ℕ) (t : Table) (p f : ℕ) (r : Rip
       (λ l. rw l (le-ltb (k / pageSize) (suc (load ws sh (head b headPages))) (let y = eqb-true p (load ws sh (head b headPages)) e in let x = ltb-false (k / pageSize) (load ws sh (head b headPages)) l in
       let n′ : k / pageSize ≡ p → ⊥ = n in omega arith)))))
       (λ e. rw e)) in
-      rw (s, page-other (k / pageSize) 0 n)
+      rw (s, page-other (k / pageSize) entryFrame n)
 
   -- slots of the page
   own-slot : (j i : ℕ) → j < slotsOf till p → slotWord (mJoined (load ws sh) b p f) b (p * pageSize + j) i ≡ mBuilt (load ws sh) f p (fresh (load ws sh) b p) (load ws sh (head b headFirstFree)) (cell f j i)
@@ -225,7 +225,7 @@ module _ (ws : List ℕ) (sh : Shape) (b : ℕ) (t : Table) (p f : ℕ) (r : Rip
       let out : linkFrame (load ws sh) b (load ws sh (head b headFirstFree)) ≡ suc f → ⊥ = not-own (load ws sh (head b headFirstFree)) in
       ap (λ (x : ℕ). wordIn (mJoined (load ws sh) b p f) x ((p * pageSize + j) % pageSize) i) (frame-on (p * pageSize + j) d l)
       ∙ ap (λ (x : ℕ). mJoined (load ws sh) b p f (cell f x i)) c ∙ joined-cell (load ws sh) b p f f j i
-      ∙ slot-cell (mBuilt (load ws sh) f p (fresh (load ws sh) b p) (load ws sh (head b headFirstFree))) (linkFrame (load ws sh) b (load ws sh (head b headFirstFree))) (load ws sh (head b headFirstFree)) 3 (p * pageSize + 1) f j i out
+      ∙ slot-cell (mBuilt (load ws sh) f p (fresh (load ws sh) b p) (load ws sh (head b headFirstFree))) (linkFrame (load ws sh) b (load ws sh (head b headFirstFree))) (load ws sh (head b headFirstFree)) slotPreviousFree (p * pageSize + 1) f j i out
     where
       not-own : (h : ℕ) → linkFrame (load ws sh) b h ≡ suc f → ⊥
       not-own zero e = omega arith
@@ -278,15 +278,15 @@ module _ (ws : List ℕ) (sh : Shape) (b : ℕ) (t : Table) (p f : ℕ) (r : Rip
         count = joined-count (load ws sh) b p f ∙ omega (arith, r .ready .table .freeCount, free-short t (r .ready .sound), slots-max);
         empty = joined-empty (load ws sh) b p f ∙ up-page;
         detached = joined-detached (load ws sh) b p f ∙ rw up-page;
-        frame = page-then p 0 ∙ joined-frame (load ws sh) b p f ∙ up-small f (omega (arith, r .frame, r .frames));
-        high = page-then p 1 ∙ joined-high (load ws sh) b p f ∙ fresh-is;
-        busy = page-then p 2 ∙ joined-busy (load ws sh) b p f;
-        next = page-then p 3 ∙ joined-next (load ws sh) b p f;
-        prev = page-then p 4 ∙ joined-prev (load ws sh) b p f;
+        frame = page-then p entryFrame ∙ joined-frame (load ws sh) b p f ∙ up-small f (omega (arith, r .frame, r .frames));
+        high = page-then p entryHigh ∙ joined-high (load ws sh) b p f ∙ fresh-is;
+        busy = page-then p entryBusy ∙ joined-busy (load ws sh) b p f;
+        next = page-then p entryNext ∙ joined-next (load ws sh) b p f;
+        prev = page-then p entryPrevious ∙ joined-prev (load ws sh) b p f;
         pages = page-other;
-        tags = λ j l. own-slot j 0 l ∙ built-tag (load ws sh) f p g h j l;
-        generations = λ j l. own-slot j 1 l ∙ built-generation (load ws sh) f p g h j l ∙ fresh-is;
-        nexts = λ j l. own-slot j 2 l ∙ built-next (load ws sh) f p g h j l;
-        prevs = λ j l. own-slot j 3 l ∙ built-prev (load ws sh) f p g h j l;
+        tags = λ j l. own-slot j slotTag l ∙ built-tag (load ws sh) f p g h j l;
+        generations = λ j l. own-slot j slotGeneration l ∙ built-generation (load ws sh) f p g h j l ∙ fresh-is;
+        nexts = λ j l. own-slot j slotNextFree l ∙ built-next (load ws sh) f p g h j l;
+        prevs = λ j l. own-slot j slotPreviousFree l ∙ built-prev (load ws sh) f p g h j l;
         others = other-slot;
       }

@@ -79,9 +79,9 @@ joined-last ws sh b p f g e x z c n d q i =
     let o : (u v : ℕ) → Off (entry u v) hs = λ (u v : ℕ). (refl, (refl, (refl, (refl, tt)))) in
     let own : List ℕ = writes ws sh (ownP e p f g) in
     let w : writes (writes ws sh hs) sh (ownP e p f g) ≡ writes own sh hs
-    = ap (λ (u : List ℕ). save (save u sh (entry (e + p) entryHigh) g) sh (entry (e + p) entryBusy) 0) (entry-last sh hs o ws (e + p) 0 (up f))
-    ∙ ap (λ (u : List ℕ). save u sh (entry (e + p) entryBusy) 0) (entry-last sh hs o (save ws sh (entry (e + p) entryFrame) (up f)) (e + p) 1 g)
-    ∙ entry-last sh hs o (save (save ws sh (entry (e + p) entryFrame) (up f)) sh (entry (e + p) entryHigh) g) (e + p) 2 0 in
+    = ap (λ (u : List ℕ). save (save u sh (entry (e + p) entryHigh) g) sh (entry (e + p) entryBusy) 0) (entry-last sh hs o ws (e + p) entryFrame (up f))
+    ∙ ap (λ (u : List ℕ). save u sh (entry (e + p) entryBusy) 0) (entry-last sh hs o (save ws sh (entry (e + p) entryFrame) (up f)) (e + p) entryHigh g)
+    ∙ entry-last sh hs o (save (save ws sh (entry (e + p) entryFrame) (up f)) sh (entry (e + p) entryHigh) g) (e + p) entryBusy 0 in
     ap (λ (u : List ℕ). joinW u sh b p) w
     ∙ join-by (writes own sh hs) sh b e p
     (q ∙ sym (load-off own sh (head b headFirstEntry) hs (refl, (refl, (refl, (refl, tt)))) ∙ load-off ws sh (head b headFirstEntry) (ownP e p f g) (refl, (refl, (refl, tt)))))
@@ -102,9 +102,9 @@ page-is ws sh b p f h t d g fr w₁ w₂ w₃ w₄ w₅ l e₁ e₂ e₃ e₄ e�
     let u : List ℕ = builtW ws sh f p (fresh m b p) (m (head b headFirstFree)) in
     let v : List ℕ = writes u sh (slotP (linkFrame m b (m (head b headFirstFree))) (m (head b headFirstFree)) slotPreviousFree (p * pageSize + 1)) in
     let keeps : (i : ℕ) → m (head b i) ≡ load v sh (head b i)
-    = λ (i : ℕ). sym (slot-keeps sh (head b i) u (linkFrame m b (m (head b headFirstFree))) (m (head b headFirstFree)) 3 (p * pageSize + 1) (λ y z w. (refl, tt)) ∙ built-keeps ws sh b i f p (fresh m b p) (m (head b headFirstFree))) in
+    = λ (i : ℕ). sym (slot-keeps sh (head b i) u (linkFrame m b (m (head b headFirstFree))) (m (head b headFirstFree)) slotPreviousFree (p * pageSize + 1) (λ y z w. (refl, tt)) ∙ built-keeps ws sh b i f p (fresh m b p) (m (head b headFirstFree))) in
     rw (a₅, a₄, a₃, a₂, a₁, e₅, e₄, e₃, e₂, e₁, k, fresh-of, detached-of, link-of)
-    (sym (joined-last v sh b p f (fresh m b p) (m (head b headFirstEntry)) (m (head b headFirstEmpty)) (p * pageSize + slotsOf till p) (min (m (head b headFreeSlots)) slotsMax + slotsOf till p) (sizeWith m b p) (detachedWith m b p) (keeps 10) (keeps 8)))
+    (sym (joined-last v sh b p f (fresh m b p) (m (head b headFirstEntry)) (m (head b headFirstEmpty)) (p * pageSize + slotsOf till p) (min (m (head b headFreeSlots)) slotsMax + slotsOf till p) (sizeWith m b p) (detachedWith m b p) (keeps headFirstEntry) (keeps headFirstEmpty)))
 
 -- `attached_head`
 pub head-attached : (h : TableHead) (p d y : ℕ) (t u v : TableHead) → t ≡ attachedBy h p → u ≡ drawnBy t d → y ≡ up p → v ≡ emptyBy u y → v ≡ emptyBy (drawnBy (attachedBy h p) d) (up p)

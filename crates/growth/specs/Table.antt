@@ -19,7 +19,7 @@ use Rattle.model.specs.Sums.{without-none, length-push, length-range}
 use Rattle.invariant.specs.Pages.{till-sane, page-in, page-slots, vacant-there, busy-other, busy-none}
 use Rattle.invariant.specs.Orders.{Sound, Room, absent-past, attached-of}
 use Rattle.layout.specs.Layout.{Mem}
-use Rattle.layout.specs.Fields.{headEpoch, headPages, headFirstFree, headFreeSlots, headFirstEmpty, headFirstDetached, entryFrame, entryHigh, entryBusy, entryNext, entryPrevious, slotTag, slotGeneration, slotNextFree, slotPreviousFree, slotFlags}
+use Rattle.layout.specs.Fields.{headPageLimit, headMask, headLifecycle, headCursor, headEpoch, headPages, headFirstFree, headFreeSlots, headFirstEmpty, headFirstDetached, entryFrame, entryHigh, entryBusy, entryNext, entryPrevious, slotTag, slotGeneration, slotNextFree, slotPreviousFree, slotObject, slotRights, slotFlags}
 use Rattle.layout.specs.Values.{tagVacant}
 use Rattle.layout.specs.Sizes.{pageSize}
 use Rattle.representation.specs.Represents.{linkOf, tagged, Chain, Linked}
@@ -78,19 +78,19 @@ module _ (m : Mem) (v w : Spot → ℕ) (t : Table) (z : Seen m v t) (o : Sound 
   unfolding attach
   frames q h = bool (eqb q p)
       (λ e. rw (e, eqb-true q p e) (j .frame))
-      (λ e. rw e (page-words q 0 (eqb-false q p e) (omega arith) ∙ z .frame q (below q (eqb-false q p e) h)))
+      (λ e. rw e (page-words q entryFrame (eqb-false q p e) (omega arith) ∙ z .frame q (below q (eqb-false q p e) h)))
 
   highs : (q : ℕ) → q < attach till t p f .size → w (pg q entryHigh) ≡ attach till t p f .pages q .high
   unfolding attach
   highs q h = bool (eqb q p)
       (λ e. rw (e, eqb-true q p e) (j .high))
-      (λ e. rw e (page-words q 1 (eqb-false q p e) (omega arith) ∙ z .high q (below q (eqb-false q p e) h)))
+      (λ e. rw e (page-words q entryHigh (eqb-false q p e) (omega arith) ∙ z .high q (below q (eqb-false q p e) h)))
 
   busies : (q : ℕ) → q < attach till t p f .size → isAttached (attach till t p f) q ≡ true → w (pg q entryBusy) ≡ busyOf till (attach till t p f .slots) q
   unfolding attach
   busies q h a = bool (eqb q p)
       (λ e. rw (eqb-true q p e) (j .busy ∙ sym (busy-none till till-sane (λ k. pick (onPage till p k) (vacant g) (t .slots k)) p (λ i y. rw y))))
-      (λ e. page-words q 2 (eqb-false q p e) (omega arith) ∙ z .busy q (below q (eqb-false q p e) h) (rw e at a)
+      (λ e. page-words q entryBusy (eqb-false q p e) (omega arith) ∙ z .busy q (below q (eqb-false q p e) h) (rw e at a)
       ∙ sym (busy-other till till-sane (λ k. pick (onPage till p k) (vacant g) (t .slots k)) (t .slots) q (λ i d l. rw (d, e))))
 
   -- slots of the page
@@ -115,10 +115,10 @@ module _ (m : Mem) (v w : Spot → ℕ) (t : Table) (z : Seen m v t) (o : Sound 
       (λ l. rw l (le-ltb (k / pageSize) (suc (v (hd headPages))) (let y = eqb-true p (v (hd headPages)) e in let x = ltb-false (k / pageSize) (v (hd headPages)) l in
       let n′ : k / pageSize ≡ p → ⊥ = n in omega arith)))))
       (λ e. rw e)) in
-      rw (s, page-words (k / pageSize) 0 n (omega arith))
+      rw (s, page-words (k / pageSize) entryFrame n (omega arith))
 
   off-slot : (k : ℕ) → (k / pageSize ≡ p → ⊥) → slotV m w k ≡ t .slots k
-  off-slot k n = rw (off-frame k n, j .others k 0 n, j .others k 1 n, j .others k 2 n, j .others k 3 n, j .others k 4 n) (bool (eqb (v (hd headFirstFree)) (suc k))
+  off-slot k n = rw (off-frame k n, j .others k slotTag n, j .others k slotGeneration n, j .others k slotObject n, j .others k slotRights n, j .others k slotFlags n) (bool (eqb (v (hd headFirstFree)) (suc k))
       (λ d. let i = free-vacant t o k (head-in (λ i. v (sl i slotNextFree)) (λ i. v (sl i slotPreviousFree)) (v (hd headFirstFree)) 0 (t .free) k (z .free) (eqb-true (v (hd headFirstFree)) (suc k) d)) in
       let q : v (sl k slotTag) ≡ tagVacant = vacant-tag m v t z k i in
       let y : framed (frameV v k) (tagged m 0 (v (sl k slotGeneration)) (v (sl k slotNextFree)) (v (sl k slotPreviousFree)) (v (sl k slotFlags))) ≡ t .slots k = rw q at (z .slots k) in
@@ -163,9 +163,9 @@ module _ (m : Mem) (v w : Spot → ℕ) (t : Table) (z : Seen m v t) (o : Sound 
   free-is =
       let old : Chain (λ k. w (sl k slotNextFree)) (λ k. w (sl k slotPreviousFree)) (v (hd headFirstFree)) (suc (p * pageSize)) (t .free)
       = chain-behind (λ k. v (sl k slotNextFree)) (λ k. v (sl k slotPreviousFree)) (λ k. w (sl k slotNextFree)) (λ k. w (sl k slotPreviousFree)) (v (hd headFirstFree)) (suc (p * pageSize)) (t .free) (z .free)
-      (λ k h. j .others k 2 (free-off k h))
-      (λ k h e. j .others k 3 (free-off k h) ∙ rw (eq-eqb (v (hd headFirstFree)) (suc k) e))
-      (λ k h e. j .others k 3 (free-off k h) ∙ rw (ne-eqb (v (hd headFirstFree)) (suc k) e)) in
+      (λ k h. j .others k slotNextFree (free-off k h))
+      (λ k h e. j .others k slotPreviousFree (free-off k h) ∙ rw (eq-eqb (v (hd headFirstFree)) (suc k) e))
+      (λ k h e. j .others k slotPreviousFree (free-off k h) ∙ rw (ne-eqb (v (hd headFirstFree)) (suc k) e)) in
       let c = chain-run (λ k. w (sl k slotNextFree)) (λ k. w (sl k slotPreviousFree)) (slotsOf till p) (p * pageSize) (v (hd headFirstFree)) (t .free) links (rw (before-some (slotsOf till p) (p * pageSize) some-slot) old) in
       rw (j .first, ← top-some (slotsOf till p) (p * pageSize) (v (hd headFirstFree)) some-slot) c
 
@@ -175,10 +175,10 @@ module _ (m : Mem) (v w : Spot → ℕ) (t : Table) (z : Seen m v t) (o : Sound 
   empty-is : Chain (λ q. w (pg q entryNext)) (λ q. w (pg q entryPrevious)) (w (hd headFirstEmpty)) 0 (p ∷ t .empty)
   empty-is = rw (j .empty) (chain-push (λ q. v (pg q entryNext)) (λ q. v (pg q entryPrevious)) (λ q. w (pg q entryNext)) (λ q. w (pg q entryPrevious)) (v (hd headFirstEmpty)) p (t .empty) (record {
     next-at = j .next;
-    next-off = λ q n. page-words q 3 n (omega arith);
+    next-off = λ q n. page-words q entryNext n (omega arith);
     prev-at = j .prev;
-    prev-head = λ q n e. j .pages q 4 n ∙ rw (eq-eqb (v (hd headFirstEmpty)) (suc q) e);
-    prev-off = λ q n e. j .pages q 4 n ∙ rw (ne-eqb (v (hd headFirstEmpty)) (suc q) e);
+    prev-head = λ q n e. j .pages q entryPrevious n ∙ rw (eq-eqb (v (hd headFirstEmpty)) (suc q) e);
+    prev-off = λ q n e. j .pages q entryPrevious n ∙ rw (ne-eqb (v (hd headFirstEmpty)) (suc q) e);
   }) (z .empty) (o .empty p ∙ rw (r .out)))
 
   -- the detached order loses p, if p was its head
@@ -193,7 +193,7 @@ module _ (m : Mem) (v w : Spot → ℕ) (t : Table) (z : Seen m v t) (o : Sound 
           go : (l : List ℕ) → Linked (λ q. v (pg q entryNext)) (v (hd headFirstDetached)) l → ((q : ℕ) → 0 < occurs q l → q ≡ p → ⊥) → Linked (λ q. w (pg q entryNext)) (pick (eqb (v (hd headFirstDetached)) (suc p)) (v (pg p entryNext)) (v (hd headFirstDetached))) l
           go [] c far = rw (c, ne-eqb 0 (suc p) (λ y. omega arith))
           go (x ∷ l) c far = let y : v (hd headFirstDetached) ≡ suc p → ⊥ = λ y. far x (rw (same x) (omega arith)) (omega (arith, c .0)) in
-              rw (ne-eqb (v (hd headFirstDetached)) (suc p) y) (linked-frame (λ q. v (pg q entryNext)) (λ q. w (pg q entryNext)) (v (hd headFirstDetached)) (x ∷ l) c (λ q h. page-words q 3 (far q h) (omega arith)))
+              rw (ne-eqb (v (hd headFirstDetached)) (suc p) y) (linked-frame (λ q. v (pg q entryNext)) (λ q. w (pg q entryNext)) (v (hd headFirstDetached)) (x ∷ l) c (λ q h. page-words q entryNext (far q h) (omega arith)))
 
       old : t .detached ≡ p ∷ ds → Linked (λ q. w (pg q entryNext)) (w (hd headFirstDetached)) (without p (t .detached))
       old e = let c : Linked (λ q. v (pg q entryNext)) (v (hd headFirstDetached)) (p ∷ ds) = rw e at (z .detached) in
@@ -202,16 +202,16 @@ module _ (m : Mem) (v w : Spot → ℕ) (t : Table) (z : Seen m v t) (o : Sound 
           let out : occurs p ds ≡ 0 = omega arith in
           rw (e, same p, without-none p ds out, j .detached, eq-eqb (v (hd headFirstDetached)) (suc p) (c .0))
           (linked-frame (λ q. v (pg q entryNext)) (λ q. w (pg q entryNext)) (v (pg p entryNext)) ds (c .1)
-          (λ q h. page-words q 3 (λ d. omega (arith, ap (λ (x : ℕ). occurs x ds) d)) (omega arith)))
+          (λ q h. page-words q entryNext (λ d. omega (arith, ap (λ (x : ℕ). occurs x ds) d)) (omega arith)))
 
   -- THE TABLE WITH THE PAGE
   pub joined-seen : Seen m w (attach till t p f)
   unfolding attach
   joined-seen = record {
-    limit = j .heads 0 (omega arith) ∙ z .limit;
-    mask = j .heads 1 (omega arith) ∙ z .mask;
-    life = rw (j .heads 2 (omega arith), j .heads 3 (omega arith)) (z .life);
-    epoch = j .heads 4 (omega arith) ∙ z .epoch;
+    limit = j .heads headPageLimit (omega arith) ∙ z .limit;
+    mask = j .heads headMask (omega arith) ∙ z .mask;
+    life = rw (j .heads headLifecycle (omega arith), j .heads headCursor (omega arith)) (z .life);
+    epoch = j .heads headEpoch (omega arith) ∙ z .epoch;
     size = size-is;
     frame = frames;
     high = highs;

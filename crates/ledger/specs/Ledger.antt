@@ -254,7 +254,7 @@ marks-yes m sh f = all-yes (sh .tables) (tableB m sh) (λ b lb. all-yes (min (m 
         let z : frameOf m b (p * pageSize + j) ≡ suc fr = framed m b (p * pageSize + j) fr (record { slot = omega arith; page = rw a (omega arith); link = rw a l }) in
         let w : (g : ℕ) → slotWord m b (p * pageSize + j) g ≡ m (cell fr j g) = λ g. rw (z, d) in
         let y = f b (p * pageSize + j) lb in
-        rw (w 0, w 2, w 3) at (y (omega (arith, w 0)) (omega (arith, w 0)))
+        rw (w slotTag, w slotPlace, w slotPosition) at (y (omega (arith, w slotTag)) (omega (arith, w slotTag)))
 
 -- ---- the whole
 

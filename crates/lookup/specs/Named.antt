@@ -48,7 +48,7 @@ tag-tells m (suc (suc zero)) g x y w = refl
 tag-tells m (suc (suc (suc zero))) g x y w = refl
 tag-tells m (suc (suc (suc (suc t)))) g x y w = ne-eqb (suc (suc (suc (suc t)))) 3 (λ e. omega arith)
 
-from-tells : (m : Mem) (fr j : ℕ) → eqb (wordIn m fr j slotTag) 3 ≡ isOccupied (slotFrom m fr j)
+from-tells : (m : Mem) (fr j : ℕ) → eqb (wordIn m fr j slotTag) tagOccupied ≡ isOccupied (slotFrom m fr j)
 from-tells m zero j = refl
 from-tells m (suc fr) j = tag-tells m (m (cell fr j slotTag)) (m (cell fr j slotGeneration)) (m (cell fr j slotObject)) (m (cell fr j slotRights)) (m (cell fr j slotFlags))
 
@@ -66,8 +66,8 @@ tagged-named m k g (suc zero) n x y w = bool (eqb g n) (λ e. rw e) (λ e. rw e)
 tagged-named m k g (suc (suc zero)) n x y w = bool (eqb g n) (λ e. rw e) (λ e. rw e)
 tagged-named m k g (suc (suc (suc zero))) n x y w = bool (eqb g n) (λ e. rw e) (λ e. rw e)
 tagged-named m k g (suc (suc (suc (suc t)))) n x y w =
-    let p : eqb (suc (suc (suc (suc t)))) 3 ≡ false = ne-eqb (suc (suc (suc (suc t)))) 3 (λ e. omega arith) in
-    let q : eqb (suc (suc (suc (suc t)))) 2 ≡ false = ne-eqb (suc (suc (suc (suc t)))) 2 (λ e. omega arith) in
+    let p : eqb (suc (suc (suc (suc t)))) tagOccupied ≡ false = ne-eqb (suc (suc (suc (suc t)))) tagOccupied (λ e. omega arith) in
+    let q : eqb (suc (suc (suc (suc t)))) tagTransferReserved ≡ false = ne-eqb (suc (suc (suc (suc t)))) tagTransferReserved (λ e. omega arith) in
     bool (eqb g n) (λ e. rw (e, p, q)) (λ e. rw e)
 
 from-named : (m : Mem) (fr j k g : ℕ) → named (shown g (wordIn m fr j slotTag) (recordOf k (wordIn m fr j slotGeneration) (wordIn m fr j slotObject) (wordIn m fr j slotRights) (wordIn m fr j slotFlags))) ≡ viewSlot k g (slotFrom m fr j)

@@ -13,6 +13,7 @@ use Rattle.layout.specs.declared.CellWords.{CellWords}
 use Rattle.layout.specs.Layout.{Mem, head}
 use Rattle.layout.specs.Fields.{headMask, slotTag}
 use Rattle.layout.specs.Sizes.{pageSize}
+use Rattle.layout.specs.Values.{tagOccupied}
 use Rattle.representation.specs.Represents.{wordIn, frameOf, slotIn}
 use Rattle.storage.specs.Cells.{cellIn}
 use Rattle.lookup.specs.declared.SnapshotEntry.{SnapshotEntry}
@@ -142,7 +143,7 @@ module _ (m : Mem) (b start n : ℕ) (es : List SnapshotEntry) (len at left : �
   -- a turn of the loop: t tells whether the slot is occupied
   module _ (h : 0 < left) (l : len < 8) (fr tag : ℕ) (t : Bool) (ef : fr ≡ frameOf m b at) (eg : tag ≡ wordIn m fr (at % pageSize) slotTag) (et : t ≡ eqb tag 3) where
     tells : isOccupied (slotIn m b at) ≡ t
-    tells = sym (slot-tells m b at) ∙ sym (et ∙ ap (λ (x : ℕ). eqb x 3) (eg ∙ ap (λ (x : ℕ). wordIn m x (at % pageSize) slotTag) ef))
+    tells = sym (slot-tells m b at) ∙ sym (et ∙ ap (λ (x : ℕ). eqb x tagOccupied) (eg ∙ ap (λ (x : ℕ). wordIn m x (at % pageSize) slotTag) ef))
 
     pub scan-past : t ≡ false → Scanning m b start n es len (at + 1) (left - 1)
     scan-past q = scan-miss h l (tells ∙ q)

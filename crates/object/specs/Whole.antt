@@ -13,7 +13,7 @@ use Rattle.model.specs.Change.{withObjects}
 use Rattle.layout.specs.declared.Shape.{Shape}
 use Rattle.layout.specs.Layout.{Addr.reg, Mem, head, load}
 use Rattle.layout.specs.ShapeOf.{roots-kept}
-use Rattle.layout.specs.Fields.{rootNextId, rootUsedRows, rootFreeFrames, slotPlace}
+use Rattle.layout.specs.Fields.{rootNextId, rootUsedRows, rootFreeFrames, headFirstEntry, slotTag, slotPlace, slotPosition, rowId}
 use Rattle.layout.specs.RegionNames.{regionRoot, regionHead, regionEntry, regionOwner, regionGroup16, regionCell, regionObject}
 use Rattle.representation.specs.Represents.{entryAt, slotWord, ObjectIs, Represents}
 use Rattle.storage.specs.Kept.{Stays, all-stay, slot-kept, table-kept, PoolSame, frames-kept, object-kept, RowsStay, rows-stay, mark-kept, book-kept}
@@ -46,16 +46,16 @@ module _ (o : ℕ) (m n : Mem) (only : OnlyObject o m n) where
     objectCount = r .objectCount;
     capacity = r .capacity;
     pageCount = r .pageCount;
-    first = λ b l. off-head b 10 ∙ r .first b l;
-    tables = λ b l. table-kept m n b (object-stays b) (s .tables b) (r .tables b l) (λ k e. object-rows .rows (slotWord m b k slotPlace) 0)
+    first = λ b l. off-head b headFirstEntry ∙ r .first b l;
+    tables = λ b l. table-kept m n b (object-stays b) (s .tables b) (r .tables b l) (λ k e. object-rows .rows (slotWord m b k slotPlace) rowId)
         (λ p f h. only regionEntry (entryAt m b p) 0 f (λ q. omega arith)) (λ p f h. only regionEntry (entryAt m b p) 0 f (λ q. omega arith));
-    frames = frames-kept m n s (withObjects s (put (s .objects) o x)) object-pool (λ c. off-head c 10) refl refl (λ c p f l h e. (l, h, e)) (r .frames);
+    frames = frames-kept m n s (withObjects s (put (s .objects) o x)) object-pool (λ c. off-head c headFirstEntry) refl refl (λ c p f l h e. (l, h, e)) (r .frames);
     objects = λ i l. bool (eqb i o)
         (λ e. rw (e, eqb-true i o e) is)
         (λ e. rw e (object-kept m n i (s .objects i) (λ f. only regionObject i 0 f (λ z. eqb-false i o e)) (r .objects i l)));
     book = book-kept m n object-rows s (withObjects s (put (s .objects) o x)) refl (only regionRoot 0 0 rootNextId (λ e. omega arith)) (only regionRoot 0 0 rootUsedRows (λ e. omega arith))
         (λ b k l h. let w : (f : ℕ) → slotWord n b k f ≡ slotWord m b k f = slot-kept m n b (object-stays b) k in
-        mark-kept m n object-rows s b k (w 0) (w 2) (w 3) (r .book .marks b k l h)) (r .book);
+        mark-kept m n object-rows s b k (w slotTag) (w slotPlace) (w slotPosition) (r .book .marks b k l h)) (r .book);
   }
 
 -- words that show so

@@ -15,6 +15,7 @@ use Rattle.layout.specs.declared.Shape.{Shape}
 use Rattle.layout.specs.Layout.{Mem, head, entry, cell}
 use Rattle.layout.specs.Fields.{headPages, headFirstFree, headFreeSlots, headFirstEntry, entryFrame, entryBusy, entryPrevious, slotTag, slotPreviousFree}
 use Rattle.layout.specs.Sizes.{pageSize, pagesMax}
+use Rattle.layout.specs.Values.{tagVacant}
 use Rattle.representation.specs.Represents.{wordIn, frameOf}
 use Rattle.orders.specs.Walk.{walk}
 use Rattle.orders.specs.Check.{vacantAt, emptyAt, detachedAt, vacantsOn, vacants, tally, freeLink, emptyLink, detachedLink}
@@ -100,7 +101,7 @@ free-none m b h p z = rw (eq-eqb h 0 z)
 
 -- the link of a slot, by its frame
 free-by : (m : Mem) (b h p fr : ℕ) → (h ≡ 0 → ⊥) → fr ≡ frameOf m b (h - 1)
-    → ((not (eqb fr 0) && eqb (wordIn m fr ((h - 1) % pageSize) slotTag) 0) && eqb (wordIn m fr ((h - 1) % pageSize) slotPreviousFree) p) ≡ freeLink m b h p
+    → ((not (eqb fr 0) && eqb (wordIn m fr ((h - 1) % pageSize) slotTag) tagVacant) && eqb (wordIn m fr ((h - 1) % pageSize) slotPreviousFree) p) ≡ freeLink m b h p
 unfolding freeLink vacantAt
 free-by m b h p fr z q = rw (ne-eqb h 0 z, q)
 
@@ -114,13 +115,13 @@ word-at m (suc fr) j f z = let y : suc fr - 1 ≡ fr = omega arith in rw y
 pub free-busy : (m : Mem) (b h p fr tag : ℕ) → (h ≡ 0 → ⊥) → fr ≡ frameOf m b (h - 1) → (fr ≡ 0 → ⊥) → tag ≡ m (cell (fr - 1) ((h - 1) % pageSize) slotTag) → (tag ≡ 0 → ⊥)
     → false ≡ freeLink m b h p
 free-busy m b h p fr tag z q y a n =
-    rw (ne-eqb fr 0 y, ne-eqb (wordIn m fr ((h - 1) % pageSize) slotTag) 0 (λ x. n (a ∙ word-at m fr ((h - 1) % pageSize) 0 y ∙ x))) at (free-by m b h p fr z q)
+    rw (ne-eqb fr 0 y, ne-eqb (wordIn m fr ((h - 1) % pageSize) slotTag) tagVacant (λ x. n (a ∙ word-at m fr ((h - 1) % pageSize) slotTag y ∙ x))) at (free-by m b h p fr z q)
 
 pub free-read : (m : Mem) (b h p fr tag back : ℕ) → (h ≡ 0 → ⊥) → fr ≡ frameOf m b (h - 1) → (fr ≡ 0 → ⊥) → tag ≡ m (cell (fr - 1) ((h - 1) % pageSize) slotTag) → tag ≡ 0
     → back ≡ m (cell (fr - 1) ((h - 1) % pageSize) slotPreviousFree) → eqb back p ≡ freeLink m b h p
 free-read m b h p fr tag back z q y a n c =
-    ap (λ (x : ℕ). eqb x p) (c ∙ word-at m fr ((h - 1) % pageSize) 3 y)
-    ∙ (rw (ne-eqb fr 0 y, eq-eqb (wordIn m fr ((h - 1) % pageSize) slotTag) 0 (sym (word-at m fr ((h - 1) % pageSize) 0 y) ∙ sym a ∙ n)) at (free-by m b h p fr z q))
+    ap (λ (x : ℕ). eqb x p) (c ∙ word-at m fr ((h - 1) % pageSize) slotPreviousFree y)
+    ∙ (rw (ne-eqb fr 0 y, eq-eqb (wordIn m fr ((h - 1) % pageSize) slotTag) tagVacant (sym (word-at m fr ((h - 1) % pageSize) slotTag y) ∙ sym a ∙ n)) at (free-by m b h p fr z q))
 
 pub empty-none : (m : Mem) (n e h p : ℕ) → h ≡ 0 → false ≡ emptyLink m n e h p
 unfolding emptyLink

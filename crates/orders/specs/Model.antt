@@ -62,7 +62,7 @@ tag-busy m (suc (suc zero)) g x y w e = refl
 tag-busy m (suc (suc (suc zero))) g x y w e = refl
 tag-busy m (suc (suc (suc (suc t)))) g x y w e = clash refl e
 
-frame-vacant : (m : Mem) (fr j : ℕ) → (not (eqb fr 0) && eqb (wordIn m fr j slotTag) 0) ≡ isVacant (slotFrom m fr j)
+frame-vacant : (m : Mem) (fr j : ℕ) → (not (eqb fr 0) && eqb (wordIn m fr j slotTag) tagVacant) ≡ isVacant (slotFrom m fr j)
 frame-vacant m zero j = refl
 frame-vacant m (suc fr) j = rw (ne-eqb (suc fr) 0 (λ e. omega arith)) (sym (tag-vacant m (m (cell fr j slotTag)) (m (cell fr j slotGeneration)) (m (cell fr j slotObject)) (m (cell fr j slotRights)) (m (cell fr j slotFlags))))
 

@@ -46,7 +46,7 @@ no-frame m b k e = rw (eq-eqb (frameOf m b k) 0 e)
 -- one that has a frame goes by its tag
 in-frame : (m : Mem) (b k f : ℕ) → frameOf m b k ≡ suc f → vacantAt m b k ≡ eqb (m (cell f (k % pageSize) slotTag)) tagVacant
 unfolding vacantAt
-in-frame m b k f e = ap (λ (x : ℕ). not (eqb x 0) && eqb (wordIn m x (k % pageSize) slotTag) 0) e ∙ rw (ne-eqb (suc f) 0 (λ z. omega arith))
+in-frame m b k f e = ap (λ (x : ℕ). not (eqb x 0) && eqb (wordIn m x (k % pageSize) slotTag) tagVacant) e ∙ rw (ne-eqb (suc f) 0 (λ z. omega arith))
 
 -- a vacant slot has a frame
 framed : (m : Mem) (b k : ℕ) → vacantAt m b k ≡ true → frameOf m b k ≡ 0 → ⊥

@@ -37,14 +37,14 @@ pub record Loose (m : Mem) (s : State) (x i : ℕ) (hs : List Handle) : Type 0 w
 module _ (ws : List ℕ) (sh : Shape) (s : State) (h : Held ws sh s) (f : Fits s) (i : ℕ) where
   -- "unknown .. open row of the kind named"
   pub parcel-none : parcelLink (load ws sh) sh i ≡ 0 → asParcel (find i (s .book .rows)) ≡ none
-  parcel-none e = kind-none sh (load ws sh) s (h .reps .memory) f (h .reps .shaped .limits .few-rows) 3 i (λ o. asParcel o ≡ none) refl (no-parcel (load ws sh)) e
+  parcel-none e = kind-none sh (load ws sh) s (h .reps .memory) f (h .reps .shaped .limits .few-rows) kindParcel i (λ o. asParcel o ≡ none) refl (no-parcel (load ws sh)) e
 
   loose-of : (x : ℕ) (y : Body) (hs : List Handle) → find i (s .book .rows) ≡ some y → RowAt (load ws sh) s x i y → y ≡ parcel hs → (hs : List Handle) × Loose (load ws sh) s x i hs
   loose-of x y hs d a e = (hs, record { found = d ∙ ap some e; row = rw e at a })
 
   pub parcel-some : (x : ℕ) → parcelLink (load ws sh) sh i ≡ suc x → (hs : List Handle) × Loose (load ws sh) s x i hs
   parcel-some x e =
-      let p = kind-some sh (load ws sh) s (h .reps .memory) f (h .reps .shaped .limits .few-rows) 3 i x e in
+      let p = kind-some sh (load ws sh) s (h .reps .memory) f (h .reps .shaped .limits .few-rows) kindParcel i x e in
       let g = a-parcel (load ws sh) x (p .0) (p .2 .body) (p .3) in
       loose-of x (p .0) (g .0) (p .1) (p .2) (g .1)
 

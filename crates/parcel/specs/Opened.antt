@@ -22,8 +22,9 @@ use Rattle.model.specs.Step.{newObjectOf, duplicateOf, retireObjectOf, decide}
 use Rattle.model.specs.Words.{usedWords}
 use Rattle.layout.specs.declared.Shape.{Shape}
 use Rattle.layout.specs.Layout.{Mem, root, index, object, item, load, Write.at, load-writes, in-item}
-use Rattle.layout.specs.Fields.{rootUsedRows, itemObject, itemRights, itemFlags}
-use Rattle.layout.specs.Values.{stageActive}
+use Rattle.layout.specs.Fields.{rootUsedRows, indexPlace, itemObject, itemRights, itemFlags}
+use Rattle.layout.specs.Values.{kindParcel, stageActive}
+use Rattle.layout.specs.RegionNames.{regionRoot, regionIndex}
 use Rattle.representation.specs.Represents.{stageWord, HandleIs, ObjectIs, Represents, Rep}
 use Rattle.representation.specs.Told.{retired-tells}
 use Rattle.storage.specs.Reps.{Held, held-of}
@@ -61,15 +62,15 @@ module _ (ws : List ℕ) (sh : Shape) (s : State) (h : Held ws sh s) (free : len
 
     same-place : spare (load (handleW ws sh (spare (load ws sh)) 0 o r f) sh) ≡ spare (load ws sh)
     same-place = let p = fills in
-        p .rest 9 (load (handleW ws sh (spare (load ws sh)) 0 o r f) sh (root rootUsedRows)) 0 0 (λ q z. omega arith)
-        ∙ ap (λ (i : ℕ). load ws sh (index i)) (p .rest 0 0 0 6 (λ q z. omega arith))
+        p .rest regionIndex (load (handleW ws sh (spare (load ws sh)) 0 o r f) sh (root rootUsedRows)) 0 indexPlace (λ q z. omega arith)
+        ∙ ap (λ (i : ℕ). load ws sh (index i)) (p .rest regionRoot 0 0 rootUsedRows (λ q z. omega arith))
 
     -- A PARCEL OF ONE HANDLE opens
     pub parcel-held : s .book .next + 1 < 2 ^ 64 → Held (parcelW ws sh o r f) sh (addRow (parcel (record { object = o; rights = r; flags = f } ∷ [])) s)
     unfolding parcelW
     parcel-held left =
         let ws′ : List ℕ = handleW ws sh (spare (load ws sh)) 0 o r f in
-        open-held (handleW ws sh (spare (load ws sh)) 0 o r f) sh s (spare-held ws (handleW ws sh (spare (load ws sh)) 0 o r f) sh s h (spare (load ws sh)) fills free refl) free 3 0 1
+        open-held (handleW ws sh (spare (load ws sh)) 0 o r f) sh s (spare-held ws (handleW ws sh (spare (load ws sh)) 0 o r f) sh s h (spare (load ws sh)) fills free refl) free kindParcel 0 1
         (parcel (record { object = o; rights = r; flags = f } ∷ []))
         (rw same-place (refl, refl, (handle-in, tt))) left
 

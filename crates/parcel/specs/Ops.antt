@@ -25,7 +25,7 @@ retireR ws os sh base o = pick (ltb o (sh .objects)) (both (retireW ws sh o) (an
 
 -- the handle into item 0 of the place that is free, then the row
 unfoldable pub parcelW : List ℕ → Shape → ℕ → ℕ → ℕ → List ℕ
-parcelW ws sh o r f = openW (handleW ws sh (spare (load ws sh)) 0 o r f) sh 3 0 1
+parcelW ws sh o r f = openW (handleW ws sh (spare (load ws sh)) 0 o r f) sh kindParcel 0 1
 
 -- "Activation refuses 6 not exportable, 9 retired, 10 active, 11 limit reached, in that order, else count 1"; 0 for none
 unfoldable pub activationRefusal : ObjectRecord → ℕ

@@ -25,7 +25,7 @@ use Rattle.model.specs.Words.{readList, usedWords, padded, wordsOf, allWords}
 use Rattle.model.specs.Cases.{sameList-equal}
 use Rattle.layout.specs.declared.Shape.{Shape}
 use Rattle.layout.specs.Layout.{head, load, load-root}
-use Rattle.layout.specs.Fields.{headFirstFree}
+use Rattle.layout.specs.Fields.{rootNextId, headFirstFree}
 use Rattle.representation.specs.Represents.{slotIn, TableIs, Rep}
 use Rattle.representation.specs.Unique.{shapeFor, shape-unique, rep-unique}
 use Rattle.answer.specs.Does.{idSpent}
@@ -46,7 +46,7 @@ use Rattle.promises.specs.Shop.{ran, readBy, parameters, sh, new, shape-
 
 -- word 5 of a state's words is the next id
 next-word : (ws : List ℕ) (s : State) → Rep ws sh s → getD ws 5 0 ≡ s .book .next
-next-word ws s r = sym (load-root ws sh 5 (omega arith)) ∙ r .reps .memory .book .next
+next-word ws s r = sym (load-root ws sh rootNextId (omega arith)) ∙ r .reps .memory .book .next
 
 -- the last of a list of numbers
 only : (n k : ℕ) → pick (eqb n k) true false ≡ true → n ≡ k

@@ -18,9 +18,10 @@ use Rattle.model.specs.Words.{usedWords}
 use Rattle.invariant.specs.Pages.{vacant-there}
 use Rattle.layout.specs.declared.Shape.{Shape}
 use Rattle.layout.specs.Layout.{root, head, index, item, load}
-use Rattle.layout.specs.Fields.{rootUsedRows, headFirstFree, slotNextFree, slotPreviousFree, itemSlot}
+use Rattle.layout.specs.Fields.{rootUsedRows, headFirstFree, slotNextFree, slotPreviousFree, indexPlace, itemSlot}
 use Rattle.layout.specs.Values.{kindReservation}
 use Rattle.layout.specs.Sizes.{batchMax}
+use Rattle.layout.specs.RegionNames.{regionRoot, regionIndex}
 use Rattle.representation.specs.Represents.{slotWord, Items}
 use Rattle.storage.specs.Slots.{free-vacant}
 use Rattle.storage.specs.Reps.{Held}
@@ -60,7 +61,7 @@ module _ (ws : List ℕ) (sh : Shape) (s : State) (h : Held ws sh s) (b : ℕ) (
       omega (arith, r .book .places (length (s .book .rows)) room .0, r .capacity)
 
   same-place : spare (load ws′ sh) ≡ x
-  same-place = ap (λ (i : ℕ). load ws′ sh (index i)) (fills .rest 0 0 0 6 (λ q z. omega arith)) ∙ fills .rest 9 (load ws sh (root rootUsedRows)) 0 0 (λ q z. omega arith)
+  same-place = ap (λ (i : ℕ). load ws′ sh (index i)) (fills .rest regionRoot 0 0 rootUsedRows (λ q z. omega arith)) ∙ fills .rest regionIndex (load ws sh (root rootUsedRows)) 0 indexPlace (λ q z. omega arith)
 
   items : Items (λ i k. load ws′ sh (item x i itemSlot) ≡ k) 0 ks
   unfolding listW
@@ -83,12 +84,12 @@ module _ (ws : List ℕ) (sh : Shape) (s : State) (h : Held ws sh s) (b : ℕ) (
 
   -- THE STATE
   module _ (left : s .book .next + 1 < 2 ^ 64) where
-    opens : Opens (load ws′ sh) (spare (load ws′ sh)) 1 b n (reservation b ks)
+    opens : Opens (load ws′ sh) (spare (load ws′ sh)) kindReservation b n (reservation b ks)
     opens = rw same-place (refl, refl, sym long, items)
 
     pub batch-held : Held (batchW ws′ sh b n) sh (withTable (addRow (reservation b ks) s) b (takeFree till n (λ g. reserved g (s .book .next)) (s .tables b)))
     unfolding batchW
     batch-held = taken-all sh (spare (load ws′ sh)) b (s .book .next) ks n (openW ws′ sh kindReservation b n) (addRow (reservation b ks) s) 0
-        (open-held ws′ sh s listed-held room 1 b n (reservation b ks) opens left) l
-        (open-row ws′ sh s listed-held room 1 b n (reservation b ks) opens left) enough
+        (open-held ws′ sh s listed-held room kindReservation b n (reservation b ks) opens left) l
+        (open-row ws′ sh s listed-held room kindReservation b n (reservation b ks) opens left) enough
         (λ q k c e. let z : 0 + q ≡ q = omega arith in rw z (nth-take n (s .tables b .free) q c ∙ e))

@@ -23,7 +23,7 @@ module _ (sh : Shape) (b x : ℕ) where
   listed-fills zero ws j l h = fills-none ws sh x
   listed-fills (suc n) ws j l h =
       let ws₁ : List ℕ = save ws sh (item x j itemSlot) (l - 1) in let l₁ : ℕ = slotWord (load ws sh) b (l - 1) slotNextFree in
-      fills-then ws ws₁ (listedW ws₁ sh b x (suc j) l₁ n) sh x (fills-item ws sh h x j 0 (l - 1))
+      fills-then ws ws₁ (listedW ws₁ sh b x (suc j) l₁ n) sh x (fills-item ws sh h x j itemSlot (l - 1))
       (listed-fills n ws₁ (suc j) l₁ (omega (arith, length-save ws sh (item x j itemSlot) (l - 1))))
 
   -- and of these not the earlier ones
@@ -46,10 +46,10 @@ module _ (sh : Shape) (b x : ℕ) where
       let h₁ : total sh ≤ length (save ws sh (item x j itemSlot) (l - 1)) = omega (arith, length-save ws sh (item x j itemSlot) (l - 1)) in
       let k₁ : l - 1 ≡ k = omega (arith, c .0) in
       let l₁ : slotWord (load ws sh) b (l - 1) slotNextFree ≡ next k = ap (λ (i : ℕ). slotWord (load ws sh) b i slotNextFree) k₁ ∙ e k in
-      let kept = slot-kept (load ws sh) (load (save ws sh (item x j itemSlot) (l - 1)) sh) (fills-books ws (save ws sh (item x j itemSlot) (l - 1)) sh x (fills-item ws sh h x j 0 (l - 1)) .only) in
+      let kept = slot-kept (load ws sh) (load (save ws sh (item x j itemSlot) (l - 1)) sh) (fills-books ws (save ws sh (item x j itemSlot) (l - 1)) sh x (fills-item ws sh h x j itemSlot (l - 1)) .only) in
       rw l₁ (
         listed-before n (save ws sh (item x j itemSlot) (l - 1)) (suc j) (next k) j h₁ (omega arith)
             ∙ load-save ws sh h (item x j itemSlot) (l - 1) (in-item sh x j itemSlot low (omega arith) (omega arith)) (item x j itemSlot)
             ∙ rw (eq-eqb j j refl, eq-eqb x x refl) k₁,
-        listed-items low n (save ws sh (item x j itemSlot) (l - 1)) (suc j) (next k) (suc k) next prev ks h₁ (omega arith) (omega arith) (λ i. kept b i 2 ∙ e i) (c .2),
+        listed-items low n (save ws sh (item x j itemSlot) (l - 1)) (suc j) (next k) (suc k) next prev ks h₁ (omega arith) (omega arith) (λ i. kept b i slotNextFree ∙ e i) (c .2),
       )

@@ -14,7 +14,7 @@ use Rattle.invariant.specs.Pointwise.{place-alike}
 use Rattle.invariant.specs.Pages.{till-sane, busy-there, busy-vacant, busy-same}
 use Rattle.invariant.specs.Orders.{Sound}
 use Rattle.layout.specs.Layout.{Mem, row}
-use Rattle.layout.specs.Fields.{headFirstFree, headFirstEmpty, headFirstDetached, entryNext, entryPrevious, slotTag, slotGeneration, slotNextFree, slotPreviousFree, slotPlace, slotPosition, rowId}
+use Rattle.layout.specs.Fields.{headPageLimit, headMask, headLifecycle, headCursor, headEpoch, headPages, headFirstFree, headFreeSlots, headFirstEmpty, headFirstDetached, entryFrame, entryHigh, entryBusy, entryNext, entryPrevious, slotTag, slotGeneration, slotNextFree, slotPreviousFree, slotPlace, slotPosition, slotObject, slotRights, slotFlags, rowId}
 use Rattle.layout.specs.Values.{tagTransferReserved}
 use Rattle.layout.specs.Sizes.{pageSize}
 use Rattle.representation.specs.Represents.{linkOf}
@@ -43,7 +43,7 @@ pub record Within (v w : Spot → ℕ) (k : ℕ) : Type 0 where
 module _ (m : Mem) (v w : Spot → ℕ) (t : Table) (z : Seen m v t) (o : Sound till t (t .free)) (k : ℕ) (x : Slot) (h : Within v w k)
     (was : isBusy (t .slots k) ≡ true) (now : isBusy x ≡ true) (gen : generation x ≡ generation (t .slots k)) (is : slotV m w k ≡ x) where
   other-slots : (i : ℕ) → (i ≡ k → ⊥) → slotV m w i ≡ slotV m v i
-  other-slots i n = rw (h .heads 5, h .pages (i / pageSize) 0, h .slots i 0 n, h .slots i 1 n, h .slots i 2 n, h .slots i 3 n, h .slots i 4 n)
+  other-slots i n = rw (h .heads headPages, h .pages (i / pageSize) entryFrame, h .slots i slotTag n, h .slots i slotGeneration n, h .slots i slotObject n, h .slots i slotRights n, h .slots i slotFlags n)
 
   -- a slot of the free order is another
   free-other : (i : ℕ) → 0 < occurs i (t .free) → i ≡ k → ⊥
@@ -52,24 +52,24 @@ module _ (m : Mem) (v w : Spot → ℕ) (t : Table) (z : Seen m v t) (o : Sound 
   pub keep-seen : Seen m w (place till t k x)
   unfolding place
   keep-seen = record {
-    limit = h .heads 0 ∙ z .limit;
-    mask = h .heads 1 ∙ z .mask;
-    life = rw (h .heads 2, h .heads 3) (z .life);
-    epoch = h .heads 4 ∙ z .epoch;
-    size = h .heads 5 ∙ z .size;
-    frame = λ p l. h .pages p 0 ∙ z .frame p l ∙ ap linkOf (sym (place-alike till t k x .frame p));
-    high = λ p l. h .pages p 1 ∙ z .high p l ∙ bool (eqb p (k / pageSize))
+    limit = h .heads headPageLimit ∙ z .limit;
+    mask = h .heads headMask ∙ z .mask;
+    life = rw (h .heads headLifecycle, h .heads headCursor) (z .life);
+    epoch = h .heads headEpoch ∙ z .epoch;
+    size = h .heads headPages ∙ z .size;
+    frame = λ p l. h .pages p entryFrame ∙ z .frame p l ∙ ap linkOf (sym (place-alike till t k x .frame p));
+    high = λ p l. h .pages p entryHigh ∙ z .high p l ∙ bool (eqb p (k / pageSize))
         (λ e. rw (e, eqb-true p (k / pageSize) e) (omega (arith, gen, o .generations k (busy-there (t .slots k) was) .2)))
         (λ e. rw e);
-    busy = λ p l a. h .pages p 2 ∙ z .busy p l (sym (ap isSome (place-alike till t k x .frame p)) ∙ a) ∙ sym (busy-same till till-sane (t .slots) k x was now p);
+    busy = λ p l a. h .pages p entryBusy ∙ z .busy p l (sym (ap isSome (place-alike till t k x .frame p)) ∙ a) ∙ sym (busy-same till till-sane (t .slots) k x was now p);
     slots = λ i. bool (eqb i k)
         (λ e. rw (e, eqb-true i k e) is)
         (λ e. rw e (other-slots i (eqb-false i k e) ∙ z .slots i));
-    free = rw (h .heads 6) (chain-frame (λ i. v (sl i slotNextFree)) (λ i. v (sl i slotPreviousFree)) _ _ (v (hd headFirstFree)) 0 (t .free) (z .free)
-        (λ i q. (h .slots i 2 (free-other i q), h .slots i 3 (free-other i q))));
-    freeCount = h .heads 7 ∙ z .freeCount;
-    empty = rw (was, now, h .heads 8) (chain-frame (λ p. v (pg p entryNext)) (λ p. v (pg p entryPrevious)) _ _ (v (hd headFirstEmpty)) 0 (t .empty) (z .empty) (λ p q. (h .pages p 3, h .pages p 4)));
-    detached = rw (h .heads 9) (linked-frame (λ p. v (pg p entryNext)) _ (v (hd headFirstDetached)) (t .detached) (z .detached) (λ p q. h .pages p 3));
+    free = rw (h .heads headFirstFree) (chain-frame (λ i. v (sl i slotNextFree)) (λ i. v (sl i slotPreviousFree)) _ _ (v (hd headFirstFree)) 0 (t .free) (z .free)
+        (λ i q. (h .slots i slotNextFree (free-other i q), h .slots i slotPreviousFree (free-other i q))));
+    freeCount = h .heads headFreeSlots ∙ z .freeCount;
+    empty = rw (was, now, h .heads headFirstEmpty) (chain-frame (λ p. v (pg p entryNext)) (λ p. v (pg p entryPrevious)) _ _ (v (hd headFirstEmpty)) 0 (t .empty) (z .empty) (λ p q. (h .pages p entryNext, h .pages p entryPrevious)));
+    detached = rw (h .heads headFirstDetached) (linked-frame (λ p. v (pg p entryNext)) _ (v (hd headFirstDetached)) (t .detached) (z .detached) (λ p q. h .pages p entryNext));
   }
 
 module _ (m : Mem) (v : Spot → ℕ) (t : Table) (z : Seen m v t) (o : Sound till t (t .free)) (k : ℕ) (was : isBusy (t .slots k) ≡ true) where

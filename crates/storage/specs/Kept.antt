@@ -13,7 +13,7 @@ use Rattle.model.specs.Base.{occurs}
 use Rattle.model.specs.State.{till, Handle, Slot.reserved, Slot.transferReserved, Table, Object, Entry, Entry.moved, Entry.copied, Body, Body.reservation, Body.claim, Body.parcel, Row, State}
 use Rattle.invariant.specs.Orders.{Sound}
 use Rattle.layout.specs.Layout.{Addr.reg, Mem, root, head, entry, owner, group, cell, object, index, rank, row, item}
-use Rattle.layout.specs.Fields.{rootNextId, rootUsedRows, rootFreeFrames, headPages, headFirstFree, headFirstEmpty, headFirstDetached, headFirstEntry, entryFrame, entryNext, entryPrevious, slotTag, slotGeneration, slotNextFree, slotPreviousFree, slotPlace, slotPosition, slotObject, slotRights, slotFlags, indexPlace, indexRank, rowId, rowTable, rowLength, itemSlot, itemOperation}
+use Rattle.layout.specs.Fields.{rootNextId, rootUsedRows, rootFreeFrames, headPageLimit, headMask, headLifecycle, headCursor, headEpoch, headPages, headFirstFree, headFreeSlots, headFirstEmpty, headFirstDetached, headFirstEntry, entryFrame, entryHigh, entryBusy, entryNext, entryPrevious, slotTag, slotGeneration, slotNextFree, slotPreviousFree, slotPlace, slotPosition, slotObject, slotRights, slotFlags, objectKoid, objectKind, objectClass, objectSupported, objectExportable, objectStage, objectActive, objectLimit, indexPlace, indexRank, rowId, rowKind, rowTable, rowLength, itemSlot, itemOperation, itemMoved, itemObject, itemRights, itemFlags, itemGranted}
 use Rattle.layout.specs.Values.{tagTransferReserved, operationMove}
 use Rattle.layout.specs.Sizes.{pageSize}
 use Rattle.layout.specs.RegionNames.{regionIndex, regionRow}
@@ -47,15 +47,15 @@ tagged-kept m n (suc (suc (suc (suc t)))) g x y w e = refl
 
 module _ (m n : Mem) (c : ℕ) (o : Stays m n c) where
   entry-kept : (p f : ℕ) → n (entry (entryAt m c p) f) ≡ m (entry (entryAt m c p) f) → n (entry (entryAt n c p) f) ≡ m (entry (entryAt m c p) f)
-  entry-kept p f e = ap (λ (x : ℕ). n (entry (x + p) f)) (o .heads 10) ∙ e
+  entry-kept p f e = ap (λ (x : ℕ). n (entry (x + p) f)) (o .heads headFirstEntry) ∙ e
 
   page-kept : (p f : ℕ) → p < m (head c headPages) → n (entry (entryAt n c p) f) ≡ m (entry (entryAt m c p) f)
   page-kept p f h = entry-kept p f (o .pages p f h)
 
   frame-kept : (k : ℕ) → frameOf n c k ≡ frameOf m c k
   frame-kept k = bool (ltb (k / pageSize) (m (head c headPages)))
-      (λ l. rw (o .heads 5, l, page-kept (k / pageSize) 0 (ltb-true (k / pageSize) (m (head c headPages)) l)))
-      (λ l. rw (o .heads 5, l))
+      (λ l. rw (o .heads headPages, l, page-kept (k / pageSize) entryFrame (ltb-true (k / pageSize) (m (head c headPages)) l)))
+      (λ l. rw (o .heads headPages, l))
 
   -- the words of its slots
   pub slot-kept : (k f : ℕ) → slotWord n c k f ≡ slotWord m c k f
@@ -74,7 +74,7 @@ module _ (m n : Mem) (c : ℕ) (o : Stays m n c) where
       go zero d e = refl
       go (suc fr) d e = let i = frame-is m c k fr d in let j : ℕ = k % pageSize in
           let w : (f : ℕ) → n (cell fr (k % pageSize) f) ≡ m (cell fr (k % pageSize) f) = λ f. o .cells (k / pageSize) fr (k % pageSize) f (i .1) (i .2) in
-          rw (w 0, w 1, w 2, w 3, w 4) (tagged-kept m n (m (cell fr j slotTag)) (m (cell fr j slotGeneration)) (m (cell fr j slotObject)) (m (cell fr j slotRights)) (m (cell fr j slotFlags)) e)
+          rw (w slotTag, w slotGeneration, w slotObject, w slotRights, w slotFlags) (tagged-kept m n (m (cell fr j slotTag)) (m (cell fr j slotGeneration)) (m (cell fr j slotObject)) (m (cell fr j slotRights)) (m (cell fr j slotFlags)) e)
 
   -- THE TABLE, if the entries of the pages in its orders stay too
   pub table-kept : (t : Table) → TableIs m c t → SameIds m n c t → ((p f : ℕ) → 0 < occurs p (t .empty) → n (entry (entryAt m c p) f) ≡ m (entry (entryAt m c p) f))
@@ -82,20 +82,20 @@ module _ (m n : Mem) (c : ℕ) (o : Stays m n c) where
   table-kept t i ids es ds =
       let inside : (p : ℕ) → p < t .size → p < m (head c headPages) = λ p h. omega (arith, i .size) in
       record {
-        limit = o .heads 0 ∙ i .limit;
-        mask = o .heads 1 ∙ i .mask;
-        life = rw (o .heads 2, o .heads 3) (i .life);
-        epoch = o .heads 4 ∙ i .epoch;
-        size = o .heads 5 ∙ i .size;
-        frame = λ p h. page-kept p 0 (inside p h) ∙ i .frame p h;
-        high = λ p h. page-kept p 1 (inside p h) ∙ i .high p h;
-        busy = λ p h a. page-kept p 2 (inside p h) ∙ i .busy p h a;
+        limit = o .heads headPageLimit ∙ i .limit;
+        mask = o .heads headMask ∙ i .mask;
+        life = rw (o .heads headLifecycle, o .heads headCursor) (i .life);
+        epoch = o .heads headEpoch ∙ i .epoch;
+        size = o .heads headPages ∙ i .size;
+        frame = λ p h. page-kept p entryFrame (inside p h) ∙ i .frame p h;
+        high = λ p h. page-kept p entryHigh (inside p h) ∙ i .high p h;
+        busy = λ p h a. page-kept p entryBusy (inside p h) ∙ i .busy p h a;
         slots = λ k. slotIn-kept k (λ e. ids k (sym (ap isMarked (i .slots k)) ∙ e)) ∙ i .slots k;
-        free = rw (o .heads 6) (chain-frame (λ k. slotWord m c k slotNextFree) (λ k. slotWord m c k slotPreviousFree) _ _ (m (head c headFirstFree)) 0 (t .free) (i .free) (λ k h. (slot-kept k 2, slot-kept k 3)));
-        freeCount = o .heads 7 ∙ i .freeCount;
-        empty = rw (o .heads 8) (chain-frame (λ p. m (entry (entryAt m c p) entryNext)) (λ p. m (entry (entryAt m c p) entryPrevious)) _ _ (m (head c headFirstEmpty)) 0 (t .empty) (i .empty)
-            (λ p h. (entry-kept p 3 (es p 3 h), entry-kept p 4 (es p 4 h))));
-        detached = rw (o .heads 9) (linked-frame (λ p. m (entry (entryAt m c p) entryNext)) _ (m (head c headFirstDetached)) (t .detached) (i .detached) (λ p h. entry-kept p 3 (ds p 3 h)));
+        free = rw (o .heads headFirstFree) (chain-frame (λ k. slotWord m c k slotNextFree) (λ k. slotWord m c k slotPreviousFree) _ _ (m (head c headFirstFree)) 0 (t .free) (i .free) (λ k h. (slot-kept k slotNextFree, slot-kept k slotPreviousFree)));
+        freeCount = o .heads headFreeSlots ∙ i .freeCount;
+        empty = rw (o .heads headFirstEmpty) (chain-frame (λ p. m (entry (entryAt m c p) entryNext)) (λ p. m (entry (entryAt m c p) entryPrevious)) _ _ (m (head c headFirstEmpty)) 0 (t .empty) (i .empty)
+            (λ p h. (entry-kept p entryNext (es p entryNext h), entry-kept p entryPrevious (es p entryPrevious h))));
+        detached = rw (o .heads headFirstDetached) (linked-frame (λ p. m (entry (entryAt m c p) entryNext)) _ (m (head c headFirstDetached)) (t .detached) (i .detached) (λ p h. entry-kept p entryNext (ds p entryNext h)));
       }
 
   -- one whose storage is sound: its orders are of pages that it has had
@@ -129,14 +129,14 @@ frames-kept m n s u o firsts fs count had q = record {
 
 pub object-kept : (m n : Mem) (o : ℕ) (x : Object) → ((f : ℕ) → n (object o f) ≡ m (object o f)) → ObjectIs m o x → ObjectIs n o x
 object-kept m n o x e q = record {
-  koid = e 0 ∙ q .koid;
-  kind = e 1 ∙ q .kind;
-  class = e 2 ∙ q .class;
-  supported = e 3 ∙ q .supported;
-  exportable = e 4 ∙ q .exportable;
-  stage = e 5 ∙ q .stage;
-  count = e 6 ∙ q .count;
-  limit = e 7 ∙ q .limit;
+  koid = e objectKoid ∙ q .koid;
+  kind = e objectKind ∙ q .kind;
+  class = e objectClass ∙ q .class;
+  supported = e objectSupported ∙ q .supported;
+  exportable = e objectExportable ∙ q .exportable;
+  stage = e objectStage ∙ q .stage;
+  count = e objectActive ∙ q .count;
+  limit = e objectLimit ∙ q .limit;
 }
 
 -- ---- one place keeps its row
@@ -147,15 +147,15 @@ items-kept P Q f j (y ∷ ys) p = (f j y (p .0), items-kept P Q f (suc j) ys (p 
 
 module _ (m n : Mem) (x : ℕ) (its : (j f : ℕ) → n (item x j f) ≡ m (item x j f)) where
   handle-kept : (j : ℕ) (h : Handle) → HandleIs m x j h → HandleIs n x j h
-  handle-kept j h p = (its j 2 ∙ p .0, its j 3 ∙ p .1, its j 4 ∙ p .2)
+  handle-kept j h p = (its j itemObject ∙ p .0, its j itemRights ∙ p .1, its j itemFlags ∙ p .2)
 
   entry-stays : (j : ℕ) (e : Entry) → EntryIs m x j e → EntryIs n x j e
-  entry-stays j (moved k h r) p = (its j 0 ∙ p .0, its j 1 ∙ p .1, handle-kept j h (p .2), its j 5 ∙ p .3)
-  entry-stays j (copied h) p = (its j 0 ∙ p .0, handle-kept j h (p .1))
+  entry-stays j (moved k h r) p = (its j itemOperation ∙ p .0, its j itemMoved ∙ p .1, handle-kept j h (p .2), its j itemGranted ∙ p .3)
+  entry-stays j (copied h) p = (its j itemOperation ∙ p .0, handle-kept j h (p .1))
 
   -- the slots of a reservation, the entries of a claim, the handles of a parcel
   pub slots-kept : (j : ℕ) (ks : List ℕ) → Items (λ j k. m (item x j itemSlot) ≡ k) j ks → Items (λ j k. n (item x j itemSlot) ≡ k) j ks
-  slots-kept = items-kept (λ j k. m (item x j itemSlot) ≡ k) (λ j k. n (item x j itemSlot) ≡ k) (λ j k q. its j 0 ∙ q)
+  slots-kept = items-kept (λ j k. m (item x j itemSlot) ≡ k) (λ j k. n (item x j itemSlot) ≡ k) (λ j k q. its j itemSlot ∙ q)
 
   pub entries-kept : (j : ℕ) (es : List Entry) → Items (EntryIs m x) j es → Items (EntryIs n x) j es
   entries-kept = items-kept (EntryIs m x) (EntryIs n x) entry-stays
@@ -164,9 +164,9 @@ module _ (m n : Mem) (x : ℕ) (its : (j f : ℕ) → n (item x j f) ≡ m (item
   handles-kept = items-kept (HandleIs m x) (HandleIs n x) handle-kept
 
   pub body-kept : ((f : ℕ) → n (row x f) ≡ m (row x f)) → (b : Body) → BodyIs m x b → BodyIs n x b
-  body-kept rws (reservation b ks) p = (rws 1 ∙ p .0, rws 2 ∙ p .1, rws 3 ∙ p .2, slots-kept 0 ks (p .3))
-  body-kept rws (claim b es) p = (rws 1 ∙ p .0, rws 2 ∙ p .1, rws 3 ∙ p .2, entries-kept 0 es (p .3))
-  body-kept rws (parcel hs) p = (rws 1 ∙ p .0, rws 3 ∙ p .1, handles-kept 0 hs (p .2))
+  body-kept rws (reservation b ks) p = (rws rowKind ∙ p .0, rws rowTable ∙ p .1, rws rowLength ∙ p .2, slots-kept 0 ks (p .3))
+  body-kept rws (claim b es) p = (rws rowKind ∙ p .0, rws rowTable ∙ p .1, rws rowLength ∙ p .2, entries-kept 0 es (p .3))
+  body-kept rws (parcel hs) p = (rws rowKind ∙ p .0, rws rowLength ∙ p .1, handles-kept 0 hs (p .2))
 
 -- ---- the book
 
@@ -205,12 +205,12 @@ module _ (m n : Mem) (o : RowsStay m n) where
           → (c₂ < s .book .capacity) × (n (rank c₂) < length (s .book .rows)) × (c₃ < n (row c₂ rowLength)) × (n (row c₂ rowTable) ≡ b) × (n (item c₂ c₃ (c₀ - 1)) ≡ k)
           × (c₀ ≡ tagTransferReserved → n (item c₂ c₃ itemOperation) ≡ operationMove)
       go a₀ a₂ a₃ c₀ c₂ c₃ q₀ q₂ q₃ p =
-          rw (q₀, q₂, q₃) (p .0, rw (o .ranks a₂) (p .1), rw (o .rows a₂ 3) (p .2), o .rows a₂ 2 ∙ p .3, o .items a₂ a₃ (a₀ - 1) ∙ p .4, λ e. o .items a₂ a₃ 0 ∙ p .5 e)
+          rw (q₀, q₂, q₃) (p .0, rw (o .ranks a₂) (p .1), rw (o .rows a₂ rowLength) (p .2), o .rows a₂ rowTable ∙ p .3, o .items a₂ a₃ (a₀ - 1) ∙ p .4, λ e. o .items a₂ a₃ itemOperation ∙ p .5 e)
 
   rows-kept : (i : ℕ) (rs : List Row) → RowsAre m i rs → RowsAre n i rs
   rows-kept i [] p = tt
   rows-kept i (r ∷ rs) p = let x : ℕ = m (index i) in
-      rw (o .places i) (o .rows (m (index i)) 0 ∙ p .0, body-kept m n (m (index i)) (o .items x) (o .rows x) (r .body) (p .1), rows-kept (suc i) rs (p .2))
+      rw (o .places i) (o .rows (m (index i)) rowId ∙ p .0, body-kept m n (m (index i)) (o .items x) (o .rows x) (r .body) (p .1), rows-kept (suc i) rs (p .2))
 
   -- THE BOOK of a state with the same rows: the marks are the operation's to show
   pub book-kept : (s u : State) → u .book ≡ s .book → n (root rootNextId) ≡ m (root rootNextId) → n (root rootUsedRows) ≡ m (root rootUsedRows)

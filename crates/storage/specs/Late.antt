@@ -112,25 +112,25 @@ module _ (ws : List ℕ) (sh : Shape) (b i : ℕ) where
   pub vacant-keeps : (fr k g xf x : ℕ) → load (vacantW ws sh fr k g xf x) sh (head b i) ≡ load ws sh (head b i)
   unfolding vacantW
   vacant-keeps fr k g xf x =
-      cell-keeps sh (head b i) _ fr (k % pageSize) 3 0 (λ y z w. (refl, tt))
-      ∙ cell-keeps sh (head b i) _ fr (k % pageSize) 2 x (λ y z w. (refl, tt))
-      ∙ cell-keeps sh (head b i) _ fr (k % pageSize) 1 g (λ y z w. (refl, tt))
-      ∙ cell-keeps sh (head b i) _ fr (k % pageSize) 0 0 (λ y z w. (refl, tt))
-      ∙ slot-keeps sh (head b i) ws xf x 3 (up k) (λ y z w. (refl, tt))
+      cell-keeps sh (head b i) _ fr (k % pageSize) slotPreviousFree 0 (λ y z w. (refl, tt))
+      ∙ cell-keeps sh (head b i) _ fr (k % pageSize) slotNextFree x (λ y z w. (refl, tt))
+      ∙ cell-keeps sh (head b i) _ fr (k % pageSize) slotGeneration g (λ y z w. (refl, tt))
+      ∙ cell-keeps sh (head b i) _ fr (k % pageSize) slotTag tagVacant (λ y z w. (refl, tt))
+      ∙ slot-keeps sh (head b i) ws xf x slotPreviousFree (up k) (λ y z w. (refl, tt))
 
   pub held-keeps : (fr k nf n r j : ℕ) → load (heldW ws sh fr k nf n r j) sh (head b i) ≡ load ws sh (head b i)
   unfolding heldW
   held-keeps fr k nf n r j =
-      cell-keeps sh (head b i) _ fr (k % pageSize) 3 j (λ y z w. (refl, tt))
-      ∙ cell-keeps sh (head b i) _ fr (k % pageSize) 2 r (λ y z w. (refl, tt))
-      ∙ cell-keeps sh (head b i) _ fr (k % pageSize) 0 1 (λ y z w. (refl, tt))
-      ∙ slot-keeps sh (head b i) ws nf n 3 0 (λ y z w. (refl, tt))
+      cell-keeps sh (head b i) _ fr (k % pageSize) slotPosition j (λ y z w. (refl, tt))
+      ∙ cell-keeps sh (head b i) _ fr (k % pageSize) slotPlace r (λ y z w. (refl, tt))
+      ∙ cell-keeps sh (head b i) _ fr (k % pageSize) slotTag tagReserved (λ y z w. (refl, tt))
+      ∙ slot-keeps sh (head b i) ws nf n slotPreviousFree 0 (λ y z w. (refl, tt))
 
   pub unlinked-keeps : (e p : ℕ) → load (unlinkedW ws sh e p) sh (head b i) ≡ load ws sh (head b i)
   unfolding unlinkedW
   unlinked-keeps e p =
-      page-keeps sh (head b i) _ e (load ws sh (entry (e + p) entryNext)) 4 (load ws sh (entry (e + p) entryPrevious)) (λ x y. (refl, tt))
-      ∙ page-keeps sh (head b i) ws e (load ws sh (entry (e + p) entryPrevious)) 3 (load ws sh (entry (e + p) entryNext)) (λ x y. (refl, tt))
+      page-keeps sh (head b i) _ e (load ws sh (entry (e + p) entryNext)) entryPrevious (load ws sh (entry (e + p) entryPrevious)) (λ x y. (refl, tt))
+      ∙ page-keeps sh (head b i) ws e (load ws sh (entry (e + p) entryPrevious)) entryNext (load ws sh (entry (e + p) entryNext)) (λ x y. (refl, tt))
 
   pub marked-keeps : (e p g n : ℕ) → load (markedW ws sh e p g n) sh (head b i) ≡ load ws sh (head b i)
   unfolding markedW
@@ -166,26 +166,26 @@ module _ (sh : Shape) (hs : List Write) (o : (e f : ℕ) → Off (entry e f) hs)
 
   pub marked-last : (ws : List ℕ) (e p g n : ℕ) → markedW (writes ws sh hs) sh e p g n ≡ writes (markedW ws sh e p g n) sh hs
   unfolding markedW
-  marked-last ws e p g n = rw (entry-seen ws (e + p) 1)
-      (ap (λ (u : List ℕ). save u sh (entry (e + p) entryBusy) n) (entry-last ws (e + p) 1 (max (load ws sh (entry (e + p) entryHigh)) g))
-      ∙ entry-last (save ws sh (entry (e + p) entryHigh) (max (load ws sh (entry (e + p) entryHigh)) g)) (e + p) 2 n)
+  marked-last ws e p g n = rw (entry-seen ws (e + p) entryHigh)
+      (ap (λ (u : List ℕ). save u sh (entry (e + p) entryBusy) n) (entry-last ws (e + p) entryHigh (max (load ws sh (entry (e + p) entryHigh)) g))
+      ∙ entry-last (save ws sh (entry (e + p) entryHigh) (max (load ws sh (entry (e + p) entryHigh)) g)) (e + p) entryBusy n)
 
   pub linked-last : (ws : List ℕ) (e p x : ℕ) → linkedW (writes ws sh hs) sh e p x ≡ writes (linkedW ws sh e p x) sh hs
   unfolding linkedW
   linked-last ws e p x =
-      ap (λ (u : List ℕ). save (save u sh (entry (e + p) entryNext) x) sh (entry (e + p) entryPrevious) 0) (page-last ws e x 4 (up p))
-      ∙ ap (λ (u : List ℕ). save u sh (entry (e + p) entryPrevious) 0) (entry-last (writes ws sh (pageP e x entryPrevious (up p))) (e + p) 3 x)
-      ∙ entry-last (save (writes ws sh (pageP e x entryPrevious (up p))) sh (entry (e + p) entryNext) x) (e + p) 4 0
+      ap (λ (u : List ℕ). save (save u sh (entry (e + p) entryNext) x) sh (entry (e + p) entryPrevious) 0) (page-last ws e x entryPrevious (up p))
+      ∙ ap (λ (u : List ℕ). save u sh (entry (e + p) entryPrevious) 0) (entry-last (writes ws sh (pageP e x entryPrevious (up p))) (e + p) entryNext x)
+      ∙ entry-last (save (writes ws sh (pageP e x entryPrevious (up p))) sh (entry (e + p) entryNext) x) (e + p) entryPrevious 0
 
   pub unlinked-last : (ws : List ℕ) (e p : ℕ) → unlinkedW (writes ws sh hs) sh e p ≡ writes (unlinkedW ws sh e p) sh hs
   unfolding unlinkedW
-  unlinked-last ws e p = rw (entry-seen ws (e + p) 3, entry-seen ws (e + p) 4)
-      (ap (λ (u : List ℕ). writes u sh (pageP e (load ws sh (entry (e + p) entryNext)) entryPrevious (load ws sh (entry (e + p) entryPrevious)))) (page-last ws e (load ws sh (entry (e + p) entryPrevious)) 3 (load ws sh (entry (e + p) entryNext)))
-      ∙ page-last (writes ws sh (pageP e (load ws sh (entry (e + p) entryPrevious)) entryNext (load ws sh (entry (e + p) entryNext)))) e (load ws sh (entry (e + p) entryNext)) 4 (load ws sh (entry (e + p) entryPrevious)))
+  unlinked-last ws e p = rw (entry-seen ws (e + p) entryNext, entry-seen ws (e + p) entryPrevious)
+      (ap (λ (u : List ℕ). writes u sh (pageP e (load ws sh (entry (e + p) entryNext)) entryPrevious (load ws sh (entry (e + p) entryPrevious)))) (page-last ws e (load ws sh (entry (e + p) entryPrevious)) entryNext (load ws sh (entry (e + p) entryNext)))
+      ∙ page-last (writes ws sh (pageP e (load ws sh (entry (e + p) entryPrevious)) entryNext (load ws sh (entry (e + p) entryNext)))) e (load ws sh (entry (e + p) entryNext)) entryPrevious (load ws sh (entry (e + p) entryPrevious)))
 
   pub without-last : (ws : List ℕ) (e p x : ℕ) → firstWithout (load (writes ws sh hs) sh) e p x ≡ firstWithout (load ws sh) e p x
   unfolding firstWithout
-  without-last ws e p x = rw (entry-seen ws (e + p) 3, entry-seen ws (e + p) 4)
+  without-last ws e p x = rw (entry-seen ws (e + p) entryNext, entry-seen ws (e + p) entryPrevious)
 
 -- two arms that each store the orders last
 arms : (sh : Shape) (b : ℕ) (y : Bool) (v₁ v₂ w₁ w₂ : List ℕ) (h₁ h₂ : TableHead) → v₁ ≡ writes w₁ sh (ordersP b h₁) → v₂ ≡ writes w₂ sh (ordersP b h₂)
@@ -208,10 +208,10 @@ module _ (ws : List ℕ) (sh : Shape) (b p g : ℕ) (h : TableHead) (q : h .entr
         ∙ marked-last sh (freeP b h) (λ e f. (refl, (refl, tt))) ws (h .entry) p g n
 
     entry-here : h .entry ≡ load (writes marked sh (freeP b h)) sh (head b headFirstEntry)
-    entry-here = sym (load-off marked sh (head b headFirstEntry) (freeP b h) (refl, (refl, tt)) ∙ marked-keeps ws sh b 10 (h .entry) p g n ∙ sym q)
+    entry-here = sym (load-off marked sh (head b headFirstEntry) (freeP b h) (refl, (refl, tt)) ∙ marked-keeps ws sh b headFirstEntry (h .entry) p g n ∙ sym q)
 
     empty-here : h .«first_empty» ≡ load (writes marked sh (freeP b h)) sh (head b headFirstEmpty)
-    empty-here = sym (load-off marked sh (head b headFirstEmpty) (freeP b h) (refl, (refl, tt)) ∙ marked-keeps ws sh b 8 (h .entry) p g n ∙ sym i)
+    empty-here = sym (load-off marked sh (head b headFirstEmpty) (freeP b h) (refl, (refl, tt)) ∙ marked-keeps ws sh b headFirstEmpty (h .entry) p g n ∙ sym i)
 
     -- the page stays in or out of the order
     arm-still : markW (writes ws sh (freeP b h)) sh b p g n ≡ writes marked sh (ordersP b h)
@@ -263,7 +263,7 @@ vacate-is ws sh b k h t u fr xf o g y w₁ w₂ w₃ e₁ e₂ e₃ e₄ e₅ a�
     rw (a₁, e₇, e₆, e₅, e₄, f, l, e₁)
     (ap (λ (z : List ℕ). lowerW z sh b (k / pageSize) g′) (publish-last ws sh b k g′)
     ∙ lower-last v sh b (k / pageSize) g′ (freedBy (headAt m b) (up k))
-    (sym (vacant-keeps ws sh b 10 (frameOf m b k) k g′ (linkFrame m b x) x)) (sym (vacant-keeps ws sh b 8 (frameOf m b k) k g′ (linkFrame m b x) x))) in
+    (sym (vacant-keeps ws sh b headFirstEntry (frameOf m b k) k g′ (linkFrame m b x) x)) (sym (vacant-keeps ws sh b headFirstEmpty (frameOf m b k) k g′ (linkFrame m b x) x))) in
     a₃ ∙ rw (a₂, e₈) (sym z)
 
 -- ---- `take_free`
@@ -282,9 +282,9 @@ reserve-last ws sh b k r j =
     let t : TableHead = takenBy (headAt (load ws sh) b) (slotWord (load ws sh) b k slotNextFree) in
     let fr : ℕ = frameOf (load ws sh) b k in
     let w : List ℕ = writes ws sh (slotP (linkFrame (load ws sh) b (slotWord (load ws sh) b k slotNextFree)) (slotWord (load ws sh) b k slotNextFree) slotPreviousFree 0) in
-    ap (λ (u : List ℕ). writes (writes u sh (cellP fr (k % pageSize) slotPlace r)) sh (cellP fr (k % pageSize) slotPosition j)) (slot-last sh b t w fr (k % pageSize) 0 1)
-    ∙ ap (λ (u : List ℕ). writes u sh (cellP fr (k % pageSize) slotPosition j)) (slot-last sh b t (writes w sh (cellP fr (k % pageSize) slotTag tagReserved)) fr (k % pageSize) 2 r)
-    ∙ slot-last sh b t (writes (writes w sh (cellP fr (k % pageSize) slotTag tagReserved)) sh (cellP fr (k % pageSize) slotPlace r)) fr (k % pageSize) 3 j
+    ap (λ (u : List ℕ). writes (writes u sh (cellP fr (k % pageSize) slotPlace r)) sh (cellP fr (k % pageSize) slotPosition j)) (slot-last sh b t w fr (k % pageSize) slotTag tagReserved)
+    ∙ ap (λ (u : List ℕ). writes u sh (cellP fr (k % pageSize) slotPosition j)) (slot-last sh b t (writes w sh (cellP fr (k % pageSize) slotTag tagReserved)) fr (k % pageSize) slotPlace r)
+    ∙ slot-last sh b t (writes (writes w sh (cellP fr (k % pageSize) slotTag tagReserved)) sh (cellP fr (k % pageSize) slotPlace r)) fr (k % pageSize) slotPosition j
 
 pub take-is : (ws : List ℕ) (sh : Shape) (b k r j : ℕ) (h t u : TableHead) (fr g n nf : ℕ) (w₁ w₂ w₃ : List ℕ)
     → h ≡ headAt (load ws sh) b → fr ≡ frameFrom (load ws sh) h k → g ≡ wordIn (load ws sh) fr (k % pageSize) slotGeneration → n ≡ wordIn (load ws sh) fr (k % pageSize) slotNextFree → nf ≡ linkFrom (load ws sh) h n
@@ -302,7 +302,7 @@ take-is ws sh b k r j h t u fr g n nf w₁ w₂ w₃ e₁ e₂ e₃ e₄ e₅ a�
     rw (a₁, e₆, e₃, l, i, f, e₁)
     (ap (λ (z : List ℕ). raiseW z sh b (k / pageSize) (slotWord m b k slotGeneration)) (reserve-last ws sh b k r j)
     ∙ raise-last v sh b (k / pageSize) (slotWord m b k slotGeneration) (takenBy (headAt m b) x)
-    (sym (held-keeps ws sh b 10 (frameOf m b k) k (linkFrame m b x) x r j)) (sym (held-keeps ws sh b 8 (frameOf m b k) k (linkFrame m b x) x r j))) in
+    (sym (held-keeps ws sh b headFirstEntry (frameOf m b k) k (linkFrame m b x) x r j)) (sym (held-keeps ws sh b headFirstEmpty (frameOf m b k) k (linkFrame m b x) x r j))) in
     a₃ ∙ rw (a₂, e₇) (sym z)
 
 pub free-first : (ws : List ℕ) (sh : Shape) (b : ℕ) (h : TableHead) (k : ℕ) → h ≡ headAt (load ws sh) b → k ≡ h .«first_free» - 1 → k ≡ look (load ws sh) b (hd headFirstFree) - 1

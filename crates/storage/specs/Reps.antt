@@ -18,8 +18,8 @@ use Rattle.invariant.specs.Orders.{Sound, good-of, take-good, keep-good, vacate
 use Rattle.layout.specs.declared.Shape.{Shape}
 use Rattle.layout.specs.Layout.{Mem, rank, row, item, load}
 use Rattle.layout.specs.ShapeOf.{roots-kept}
-use Rattle.layout.specs.Fields.{slotTag, slotPlace, slotPosition, rowId, rowTable, rowLength, itemOperation, itemMoved}
-use Rattle.layout.specs.Values.{tagTransferReserved, operationMove}
+use Rattle.layout.specs.Fields.{slotTag, slotPlace, slotPosition, rowId, rowTable, rowLength, itemSlot, itemOperation, itemMoved}
+use Rattle.layout.specs.Values.{tagReserved, tagTransferReserved, operationMove}
 use Rattle.layout.specs.RegionNames.{regionRoot}
 use Rattle.representation.specs.Represents.{slotWord, isMarked, Reps, Rep}
 use Rattle.representation.specs.Told.{marked-full}
@@ -66,7 +66,7 @@ module _ (ws ws′ : List ℕ) (sh : Shape) (s : State) (h : Held ws sh s) (b : 
   -- a mark that the slot's words name
   pub mark-is : (x j f tag : ℕ) → c slotTag ≡ tag → c slotPlace ≡ x → c slotPosition ≡ j → f ≡ tag - 1 → Names (load ws sh) s b k x j f → MarkIs (load ws′ sh) s b k
   mark-is x j f tag e₀ e₂ e₃ d p =
-      go (slotWord (load ws′ sh) b k slotTag) (slotWord (load ws′ sh) b k slotPlace) (slotWord (load ws′ sh) b k slotPosition) (turn .slot 0 ∙ e₀) (turn .slot 2 ∙ e₂) (turn .slot 3 ∙ e₃)
+      go (slotWord (load ws′ sh) b k slotTag) (slotWord (load ws′ sh) b k slotPlace) (slotWord (load ws′ sh) b k slotPosition) (turn .slot slotTag ∙ e₀) (turn .slot slotPlace ∙ e₂) (turn .slot slotPosition ∙ e₃)
     where
       go : (a₀ a₂ a₃ : ℕ) → a₀ ≡ tag → a₂ ≡ x → a₃ ≡ j
           → (a₂ < s .book .capacity) × (load ws′ sh (rank a₂) < length (s .book .rows)) × (a₃ < load ws′ sh (row a₂ rowLength)) × (load ws′ sh (row a₂ rowTable) ≡ b) × (load ws′ sh (item a₂ a₃ (a₀ - 1)) ≡ k)
@@ -74,10 +74,10 @@ module _ (ws ws′ : List ℕ) (sh : Shape) (s : State) (h : Held ws sh s) (b : 
       go a₀ a₂ a₃ q₀ q₂ q₃ = rw (q₀, q₂, q₃) (
         p .place,
         rw (stay .ranks x) (p .used),
-        rw (stay .rows x 3) (p .within),
-        stay .rows x 2 ∙ p .table,
+        rw (stay .rows x rowLength) (p .within),
+        stay .rows x rowTable ∙ p .table,
         rw (stay .items x j (tag - 1), ← d) (p .slot),
-        λ e. stay .items x j 0 ∙ p .moved (omega arith),
+        λ e. stay .items x j itemOperation ∙ p .moved (omega arith),
       )
 
   -- a turn of one table, in the state
@@ -95,7 +95,7 @@ module _ (ws ws′ : List ℕ) (sh : Shape) (s : State) (h : Held ws sh s) (b : 
           (λ (d : j ≡ k). let e′ : isMarked (u .slots k) ≡ true = rw d at e in rw d (mark e′))
           (λ (d : j ≡ k → ⊥). let i : isMarked (s .tables b .slots j) ≡ true = rw (others j d) at e in
           let w : (f : ℕ) → slotWord (load ws′ sh) b j f ≡ slotWord (load ws sh) b j f = λ f. turn .others j f d (marked-full (s .tables b .slots j) i) in
-          mark-kept (load ws sh) (load ws′ sh) stay s b j (w 0) (w 2) (w 3) (h .reps .memory .book .marks b j l i))
+          mark-kept (load ws sh) (load ws′ sh) stay s b j (w slotTag) (w slotPlace) (w slotPosition) (h .reps .memory .book .marks b j l i))
           (same? j k));
     };
     placed = placed-with s b u (h .placed) sound al;
@@ -113,7 +113,7 @@ module _ (ws : List ℕ) (sh : Shape) (s : State) (h : Held ws sh s) (b : ℕ) (
       clash (sym (ap isMarked q) ∙ e) refl)
 
   -- TAKE: the row in place x names the slot
-  pub take-held : (k : ℕ) (ks : List ℕ) (x j : ℕ) → s .tables b .free ≡ k ∷ ks → Names (load ws sh) s b k x j 0
+  pub take-held : (k : ℕ) (ks : List ℕ) (x j : ℕ) → s .tables b .free ≡ k ∷ ks → Names (load ws sh) s b k x j itemSlot
       → Held (takeW ws sh b k x j) sh (withTable s b (taken (s .tables b) k ks (load ws sh (row x rowId))))
   take-held k ks x j first p = let t : Table = s .tables b in
       let o : Sound till t (t .free) = h .placed .sound b l in
@@ -127,10 +127,10 @@ module _ (ws : List ℕ) (sh : Shape) (s : State) (h : Held ws sh s) (b : ℕ) (
       (record { limit = a .limit; mask = a .mask; life = a .life; epoch = a .epoch; size = a .size; detached = a .detached; frame = a .frame })
       (take-good till till-sane t k ks first o y refl (good-of till till-sane t (t .free) o k here))
       (λ i n. ap (λ (f : ℕ → Slot). f i) (place-slots till (withFree t ks) k y) ∙ put-other (t .slots) k y i n)
-      (λ e. mark-is ws (takeW ws sh b k x j) sh s h b l k _ u turn x j 0 1 (mk .0) (mk .1) (mk .2) (omega arith) p)
+      (λ e. mark-is ws (takeW ws sh b k x j) sh s h b l k _ u turn x j itemSlot tagReserved (mk .0) (mk .1) (mk .2) (omega arith) p)
 
   -- MOVE: the row in place x names the slot
-  pub move-held : (k x j : ℕ) → isBusy (s .tables b .slots k) ≡ true → Names (load ws sh) s b k x j 1
+  pub move-held : (k x j : ℕ) → isBusy (s .tables b .slots k) ≡ true → Names (load ws sh) s b k x j itemMoved
       → Held (moveW ws sh b k x j) sh (withTable s b (keep till (λ g. transferReserved g (load ws sh (row x rowId))) (s .tables b) k))
   move-held k x j was p = let t : Table = s .tables b in
       let y : Slot = transferReserved (generation (t .slots k)) (load ws sh (row x rowId)) in
@@ -139,7 +139,7 @@ module _ (ws : List ℕ) (sh : Shape) (s : State) (h : Held ws sh s) (b : ℕ) (
       turned ws (moveW ws sh b k x j) sh s h b l k _ (place till t k y) turn (place-alike till t k y)
       (keep-good till till-sane (λ g. transferReserved g (load ws sh (row x rowId))) (λ g. refl) (λ g. refl) t k (h .placed .sound b l) was)
       (λ i n. ap (λ (f : ℕ → Slot). f i) (place-slots till t k y) ∙ put-other (t .slots) k y i n)
-      (λ e. mark-is ws (moveW ws sh b k x j) sh s h b l k _ (place till t k y) turn x j 1 2 (mk .0) (mk .1) (mk .2) (omega arith) p)
+      (λ e. mark-is ws (moveW ws sh b k x j) sh s h b l k _ (place till t k y) turn x j itemMoved tagTransferReserved (mk .0) (mk .1) (mk .2) (omega arith) p)
 
   -- OCCUPY
   pub occupy-held : (k : ℕ) (x : Handle) → isBusy (s .tables b .slots k) ≡ true

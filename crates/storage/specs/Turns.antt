@@ -45,7 +45,7 @@ unfolding look
 turns ws ws′ sh b v t k c u p z own others = record {
   long = p .long;
   only = p .only;
-  table = unsee (load ws sh) (load ws′ sh) b u (λ r. rows-only b (load ws sh) (load ws′ sh) (p .only) r 0) (rw (p .shows) z);
+  table = unsee (load ws sh) (load ws′ sh) b u (λ r. rows-only b (load ws sh) (load ws′ sh) (p .only) r rowId) (rw (p .shows) z);
   slot = λ f. ap (λ (w : Spot → ℕ). w (sl k f)) (p .shows) ∙ own f;
   others = λ j f n h. ap (λ (w : Spot → ℕ). w (sl j f)) (p .shows) ∙ others j f n h;
 }
@@ -178,8 +178,8 @@ module _ (ws : List ℕ) (sh : Shape) (b : ℕ) (t : Table) (r : Ready ws sh b t
       (λ e. let n : eqb (v₁ (pg p entryBusy)) 0 ≡ true = rw (a .shows) at e in
       let inside : (q : ℕ) → 0 < occurs q (t .empty) → q < load ws₂ sh (head b headPages) = λ q h. rw (size₂, size₀ ws sh b t r) (empty-below t o q h) in
       let d : Moves ws₂ (leaveW ws₂ sh b p) sh b (leaveV v₂ p) = leave-moves ws₂ sh b v₂ p room₂ (moves-fit ws ws₂ sh b v₂ ac (r .fit)) (ac .shows)
-      (λ q i. inside q (before-in (load ws sh) v t z o k l first x j n q (sym (page-links v k x j p p g (up (v₁ (pg p entryBusy))) 4 (omega arith)) ∙ i)))
-      (λ q i. inside q (after-in (load ws sh) v t z o k l first x j n q (sym (page-links v k x j p p g (up (v₁ (pg p entryBusy))) 3 (omega arith)) ∙ i))) in
+      (λ q i. inside q (before-in (load ws sh) v t z o k l first x j n q (sym (page-links v k x j p p g (up (v₁ (pg p entryBusy))) entryPrevious (omega arith)) ∙ i)))
+      (λ q i. inside q (after-in (load ws sh) v t z o k l first x j n q (sym (page-links v k x j p p g (up (v₁ (pg p entryBusy))) entryNext (omega arith)) ∙ i))) in
       turns ws (leaveW ws₂ sh b p) sh b (leaveV v₂ p) t k (reservedWords v k x j) u (moves-then ws ws₂ (leaveW ws₂ sh b p) sh b v₂ (leaveV v₂ p) ac d)
       (take-none (load ws sh) v t z o k l first x j n)
       (λ f. take-own v k x j f .1)

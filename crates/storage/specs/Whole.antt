@@ -20,7 +20,7 @@ use Rattle.invariant.specs.Orders.{Sound}
 use Rattle.invariant.specs.StorageState.{storage-of, sound-of}
 use Rattle.layout.specs.declared.Shape.{Shape}
 use Rattle.layout.specs.Layout.{Addr.reg, Mem, root, head, entry, owner, cell}
-use Rattle.layout.specs.Fields.{rootFreeFrames, headPages, headFirstEntry, entryFrame, slotPlace}
+use Rattle.layout.specs.Fields.{rootNextId, rootUsedRows, rootFreeFrames, headPages, headFirstEntry, entryFrame, slotTag, slotPlace, slotPosition, rowId}
 use Rattle.layout.specs.RegionNames.{regionRoot, regionHead, regionEntry, regionOwner, regionGroup16, regionCell, regionObject}
 use Rattle.representation.specs.Represents.{entryAt, slotWord, TableIs, isMarked, Represents}
 use Rattle.representation.specs.Told.{link-some}
@@ -114,7 +114,7 @@ module _ (sh : Shape) (m : Mem) (s : State) (r : Represents sh m s) (pl : Placed
 
     -- THE OTHER TABLES are as they were
     pub other-table : TableIs n c (s .tables c)
-    other-table = sound-kept m n c other-stays (s .tables c) (r .tables c lc) (pl .sound c lc) (λ k e. table-rows b m n o .rows (slotWord m c k slotPlace) 0)
+    other-table = sound-kept m n c other-stays (s .tables c) (r .tables c lc) (pl .sound c lc) (λ k e. table-rows b m n o .rows (slotWord m c k slotPlace) rowId)
 
 -- ---- the state
 
@@ -147,9 +147,9 @@ module _ (sh : Shape) (m : Mem) (s : State) (r : Represents sh m s) (pl : Placed
     frames = frames-kept m n s (withTable s b u) (table-pool b m n o) off-first refl refl
         (λ c p f l h e. (l, rw (put-like (λ t. t .size) (s .tables) b u (al .size) c) at h, sym (put-like (λ t. t .pages p .frame) (s .tables) b u (al .frame p) c) ∙ e)) (r .frames);
     objects = λ x l. object-kept m n x (s .objects x) (λ f. off-table b m n o regionObject x 0 f (λ e. omega arith) (λ e. omega arith) (λ e. omega arith)) (r .objects x l);
-    book = book-kept m n (table-rows b m n o) s (withTable s b u) refl (off-root 5) (off-root 6)
+    book = book-kept m n (table-rows b m n o) s (withTable s b u) refl (off-root rootNextId) (off-root rootUsedRows)
         (λ c k l h. bool (eqb c b)
         (λ e. rw (eqb-true c b e) (marked k (rw e at h)))
         (λ e. let w : (f : ℕ) → slotWord n c k f ≡ slotWord m c k f = other-slot sh m s r pl b lb n o c l (eqb-false c b e) k in
-        mark-kept m n (table-rows b m n o) s c k (w 0) (w 2) (w 3) (r .book .marks c k l (rw e at h)))) (r .book);
+        mark-kept m n (table-rows b m n o) s c k (w slotTag) (w slotPlace) (w slotPosition) (r .book .marks c k l (rw e at h)))) (r .book);
   }

@@ -14,7 +14,7 @@ use Rattle.invariant.specs.Orders.{recast}
 use Rattle.layout.specs.declared.Shape.{Shape}
 use Rattle.layout.specs.Layout.{Mem, cell, head, load, Write, Write.at, upds, in-head, length-writes, load-writes}
 use Rattle.layout.specs.ShapeOf.{roots-kept}
-use Rattle.layout.specs.Fields.{headLifecycle, headCursor, headFirstFree, slotTag, slotGeneration, slotNextFree, slotPreviousFree, slotObject, slotRights, slotFlags}
+use Rattle.layout.specs.Fields.{headLifecycle, headCursor, headFirstFree, slotTag, slotGeneration, slotNextFree, slotPreviousFree, slotPlace, slotPosition, slotObject, slotRights, slotFlags}
 use Rattle.layout.specs.Sizes.{pageSize}
 use Rattle.layout.specs.RegionNames.{regionHead, regionGroup16}
 use Rattle.representation.specs.Represents.{wordIn, frameOf, slotWord, slotFrom, slotIn, LifeIs, TableIs, Represents}
@@ -59,7 +59,7 @@ module _ (m : Mem) (b w c : ℕ) where
     high = i .high;
     busy = i .busy;
     slots = λ k. slot-kept a k ∙ i .slots k;
-    free = chain-frame (λ k. slotWord m a k slotNextFree) (λ k. slotWord m a k slotPreviousFree) _ _ (m (head a headFirstFree)) 0 (t .free) (i .free) (λ k h. (word-kept a k 2, word-kept a k 3));
+    free = chain-frame (λ k. slotWord m a k slotNextFree) (λ k. slotWord m a k slotPreviousFree) _ _ (m (head a headFirstFree)) 0 (t .free) (i .free) (λ k h. (word-kept a k slotNextFree, word-kept a k slotPreviousFree));
     freeCount = i .freeCount;
     empty = i .empty;
     detached = i .detached;
@@ -85,7 +85,7 @@ module _ (sh : Shape) (m : Mem) (s : State) (r : Represents sh m s) (b w c : ℕ
         (λ a p f l h e. (l, rw (put-like (λ t. t .size) (s .tables) b u refl a) at h, sym (put-like (λ t. t .pages p .frame) (s .tables) b u refl a) ∙ e)) (r .frames);
     objects = λ o l. object-kept m (lived m b w c) o (s .objects o) (λ f. refl) (r .objects o l);
     book = book-kept m (lived m b w c) (stay m b w c) s (withTable s b u) refl refl refl
-        (λ a k l h. mark-kept m (lived m b w c) (stay m b w c) s a k (word-kept m b w c a k 0) (word-kept m b w c a k 2) (word-kept m b w c a k 3)
+        (λ a k l h. mark-kept m (lived m b w c) (stay m b w c) s a k (word-kept m b w c a k slotTag) (word-kept m b w c a k slotPlace) (word-kept m b w c a k slotPosition)
         (r .book .marks a k l (rw (put-like (λ t. t .slots k) (s .tables) b u refl a) at h))) (r .book);
   }
 

@@ -86,10 +86,10 @@ module _ (ws : List ℕ) (sh : Shape) (s : State) (i : Rep ws sh s) where
       info-tells = rw slot-is (info-is sh (load ws sh) s (i .reps .memory) (handleAt (load ws sh) b k) known)
 
       -- with the cursor behind it
-      torn-held : Held (lifeW (removeW ws sh b k) sh b 1 (k + 1)) sh
+      torn-held : Held (lifeW (removeW ws sh b k) sh b lifeTearingDown (k + 1)) sh
           (release (withTable s b (withLife (vacate till (s .tables b) k) (tearingDown (k + 1)))) (handleOr (s .tables b .slots k) ∷ []))
       torn-held = rw (← life-after s b (vacate till (s .tables b) k) (tearingDown (k + 1)) (handleOr (s .tables b .slots k) ∷ []))
-          (life-held (removeW ws sh b k) sh (release (withTable s b (vacate till (s .tables b) k)) (handleOr (s .tables b .slots k) ∷ [])) remove-held b l 1 (k + 1) (tearingDown (k + 1)) (refl, refl))
+          (life-held (removeW ws sh b k) sh (release (withTable s b (vacate till (s .tables b) k)) (handleOr (s .tables b .slots k) ∷ [])) remove-held b l lifeTearingDown (k + 1) (tearingDown (k + 1)) (refl, refl))
 
     -- the walk's end, and the slot that it finds
     next-none : (c : ℕ) → nextOccupied till (s .tables b) c ≡ none → nextLink (load ws sh) b c ≡ 0
@@ -166,8 +166,8 @@ module _ (ws : List ℕ) (sh : Shape) (s : State) (i : Rep ws sh s) (os : List �
       (λ e. let a = table-open sh m s (i .reps .memory) b (eqb-true (tableRefusal m sh b) 0 e) in
       bool (anyOpen b (s .book .rows))
       (λ q. rw (e, o, q) (does-refused os sh base s (teardownStart b) ws 14 (i .reps) (active-on s b a f ∙ rw q)))
-      (λ q. rw (e, o, q) (does-accepted os sh base s (teardownStart b) (lifeW ws sh b 1 0) (withTable s b (withLife t (tearingDown 0))) done
-      (life-held ws sh s (held-of ws sh s i) b (a .known) 1 0 (tearingDown 0) (refl, refl) .reps) (active-on s b a f ∙ rw q))))
+      (λ q. rw (e, o, q) (does-accepted os sh base s (teardownStart b) (lifeW ws sh b lifeTearingDown 0) (withTable s b (withLife t (tearingDown 0))) done
+      (life-held ws sh s (held-of ws sh s i) b (a .known) lifeTearingDown 0 (tearingDown 0) (refl, refl) .reps) (active-on s b a f ∙ rw q))))
       (λ e. rw e (does-refused os sh base s (teardownStart b) ws (tableRefusal m sh b) (i .reps)
       (table-refused sh m s (i .reps .memory) b (tableRefusal m sh b) refl (eqb-false (tableRefusal m sh b) 0 e) f)))
 
@@ -189,7 +189,7 @@ module _ (ws : List ℕ) (sh : Shape) (s : State) (i : Rep ws sh s) (os : List �
           let q = next-some ws sh s i b l (m (head b headCursor)) k e in
           let z : k + 1 - 1 ≡ k = omega arith in
           rw (q .0, z, ne-eqb (k + 1) 0 (λ d. omega arith), info-tells ws sh s i b l k (q .1))
-          (does-accepted os sh base s (teardownStep b) (lifeW (removeW ws sh b k) sh b 1 (k + 1)) _ (closed (some (infoFor s (handleOr (t .slots k)))))
+          (does-accepted os sh base s (teardownStep b) (lifeW (removeW ws sh b k) sh b lifeTearingDown (k + 1)) _ (closed (some (infoFor s (handleOr (t .slots k)))))
           (torn-held ws sh s i b l k (q .1) .reps) (decided (some k) e))
 
   -- TEARDOWN STEP is the model's step
@@ -214,7 +214,7 @@ module _ (ws : List ℕ) (sh : Shape) (s : State) (i : Rep ws sh s) (os : List �
       go y none e = let l = tears ws sh s i b y .0 in
           rw (next-none ws sh s i b l 0 e)
           (does-accepted os sh base s (teardownFinish b) (lifeW ws sh b lifeRetired 0) (withTable s b (withLife t retired)) done
-          (life-held ws sh s (held-of ws sh s i) b l 2 0 retired refl .reps) (tears-on ws sh s i b y rest ∙ rw e))
+          (life-held ws sh s (held-of ws sh s i) b l lifeRetired 0 retired refl .reps) (tears-on ws sh s i b y rest ∙ rw e))
       go y (some k) e = let q = next-some ws sh s i b (tears ws sh s i b y .0) 0 k e in
           rw (q .0, ne-eqb (k + 1) 0 (λ d. omega arith))
           (does-refused os sh base s (teardownFinish b) ws 18 (i .reps) (tears-on ws sh s i b y rest ∙ rw e))

@@ -152,7 +152,7 @@ module _ (ws ws₁ : List ℕ) (sh : Shape) (s : State) (h : Held ws sh s) (free
   unfolding claimW
   claim-held b es l left its busy =
       let h₁ : Held ws₁ sh s = spare-held ws ws₁ sh s h (spare (load ws sh)) fills free refl in
-      let p : Opens (load ws₁ sh) (spare (load ws₁ sh)) 2 b (length es) (claim b es) = rw same-place (refl, refl, refl, its) in
+      let p : Opens (load ws₁ sh) (spare (load ws₁ sh)) kindClaim b (length es) (claim b es) = rw same-place (refl, refl, refl, its) in
       marked-all sh (spare (load ws₁ sh)) b (s .book .next) es es (openW ws₁ sh kindClaim b (length es)) (addRow (claim b es) s) 0
-      (open-held ws₁ sh s h₁ free 2 b (length es) (claim b es) p left) l (open-row ws₁ sh s h₁ free 2 b (length es) (claim b es) p left)
+      (open-held ws₁ sh s h₁ free kindClaim b (length es) (claim b es) p left) l (open-row ws₁ sh s h₁ free kindClaim b (length es) (claim b es) p left)
       (λ q e d. let z : 0 + q ≡ q = omega arith in rw z d) busy

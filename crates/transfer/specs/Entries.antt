@@ -13,7 +13,7 @@ use Rattle.model.specs.Transfer.{entryFor}
 use Rattle.model.specs.WellFormed.{WellFormed, All}
 use Rattle.layout.specs.declared.Shape.{Shape}
 use Rattle.layout.specs.Layout.{Mem, total, item, load, in-item, load-writes}
-use Rattle.layout.specs.Fields.{itemOperation, itemObject, itemRights, itemFlags}
+use Rattle.layout.specs.Fields.{itemOperation, itemMoved, itemObject, itemRights, itemFlags, itemGranted}
 use Rattle.layout.specs.Sizes.{batchMax}
 use Rattle.layout.specs.RegionNames.{regionRow}
 use Rattle.representation.specs.Represents.{EntryIs, Items}
@@ -44,8 +44,8 @@ module _ (ws : List ℕ) (sh : Shape) (room : total sh ≤ length ws) (x j : ℕ
 
 -- an item of a row keeps its entry while it keeps its words
 entry-same : (m n : Mem) (x j : ℕ) (e : Entry) → ((f : ℕ) → n (item x j f) ≡ m (item x j f)) → EntryIs m x j e → EntryIs n x j e
-entry-same m n x j (moved k h r) its p = (its 0 ∙ p .0, its 1 ∙ p .1, (its 2 ∙ p .2 .0, its 3 ∙ p .2 .1, its 4 ∙ p .2 .2), its 5 ∙ p .3)
-entry-same m n x j (copied h) its p = (its 0 ∙ p .0, (its 2 ∙ p .1 .0, its 3 ∙ p .1 .1, its 4 ∙ p .1 .2))
+entry-same m n x j (moved k h r) its p = (its itemOperation ∙ p .0, its itemMoved ∙ p .1, (its itemObject ∙ p .2 .0, its itemRights ∙ p .2 .1, its itemFlags ∙ p .2 .2), its itemGranted ∙ p .3)
+entry-same m n x j (copied h) its p = (its itemOperation ∙ p .0, (its itemObject ∙ p .1 .0, its itemRights ∙ p .1 .1, its itemFlags ∙ p .1 .2))
 
 module _ (sh : Shape) (s : State) (w : WellFormed till s) (b : ℕ) (l : b < s .tableCount) (ws : List ℕ) (os : ℕ → Object) (h : Held ws sh (withObjects s os))
     (free : length (s .book .rows) < s .book .capacity) where

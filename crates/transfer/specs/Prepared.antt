@@ -59,7 +59,7 @@ save-root ws sh f v h = ap (λ (i : ℕ). set ws i v) (in-place (region (layout 
 -- the id's word, one more, and no other
 spent-is : (ws : List ℕ) (sh : Shape) → load ws sh (root rootNextId) + 1 < 2 ^ 64 → spendW ws sh ≡ idSpent ws
 unfolding spendW idSpent
-spent-is ws sh l = save-root ws sh 5 _ (omega arith) ∙ ap (set ws 5) (let e = load-root ws sh 5 (omega arith) in omega (arith, e))
+spent-is ws sh l = save-root ws sh rootNextId _ (omega arith) ∙ ap (set ws rootNextId) (let e = load-root ws sh rootNextId (omega arith) in omega (arith, e))
 
 -- ---- the checks before the id step
 

@@ -47,7 +47,7 @@ module _ (ws : List ℕ) (sh : Shape) (x j p : ℕ) (e : p ≡ place (length ws)
       (d ∙ stored vs sh x j p f v (e ∙ ap (λ (n : ℕ). place n sh (item x j itemOperation)) (sym l)) a, ap length d ∙ length-set vs (p + f) v ∙ l)
 
   first : (us : List ℕ) (v : ℕ) → us ≡ set ws p v → (us ≡ save ws sh (item x j itemOperation) v) × (length us ≡ length ws)
-  first us v d = let z : p ≡ p + 0 = omega arith in next ws us 0 v refl (omega arith) (d ∙ ap (λ (k : ℕ). set ws k v) z)
+  first us v d = let z : p ≡ p + 0 = omega arith in next ws us itemOperation v refl (omega arith) (d ∙ ap (λ (k : ℕ). set ws k v) z)
 
   -- `put_moved`
   pub moved-by : (w₀ w₁ w₂ w₃ w₄ w₅ : List ℕ) (h : PreparedHandle) (r : ℕ) → w₀ ≡ set ws p operationMove → w₁ ≡ set w₀ (p + itemMoved) (h .slot) → w₂ ≡ set w₁ (p + itemObject) (h .object)
@@ -55,11 +55,11 @@ module _ (ws : List ℕ) (sh : Shape) (x j p : ℕ) (e : p ≡ place (length ws)
   unfolding movedW
   moved-by w₀ w₁ w₂ w₃ w₄ w₅ h r d₀ d₁ d₂ d₃ d₄ d₅ =
       let a₀ = first w₀ 0 d₀ in
-      let a₁ = next w₀ w₁ 1 (h .slot) (a₀ .1) (omega arith) d₁ in
-      let a₂ = next w₁ w₂ 2 (h .object) (a₁ .1) (omega arith) d₂ in
-      let a₃ = next w₂ w₃ 3 (h .rights) (a₂ .1) (omega arith) d₃ in
-      let a₄ = next w₃ w₄ 4 (h .flags) (a₃ .1) (omega arith) d₄ in
-      let a₅ = next w₄ w₅ 5 r (a₄ .1) (omega arith) d₅ in
+      let a₁ = next w₀ w₁ itemMoved (h .slot) (a₀ .1) (omega arith) d₁ in
+      let a₂ = next w₁ w₂ itemObject (h .object) (a₁ .1) (omega arith) d₂ in
+      let a₃ = next w₂ w₃ itemRights (h .rights) (a₂ .1) (omega arith) d₃ in
+      let a₄ = next w₃ w₄ itemFlags (h .flags) (a₃ .1) (omega arith) d₄ in
+      let a₅ = next w₄ w₅ itemGranted r (a₄ .1) (omega arith) d₅ in
       rw (a₅ .0, a₄ .0, a₃ .0, a₂ .0, a₁ .0, a₀ .0)
 
   -- `put_copied`
@@ -68,9 +68,9 @@ module _ (ws : List ℕ) (sh : Shape) (x j p : ℕ) (e : p ≡ place (length ws)
   unfolding copiedW
   copied-by w₀ w₂ w₃ w₄ h r d₀ d₂ d₃ d₄ =
       let a₀ = first w₀ 1 d₀ in
-      let a₂ = next w₀ w₂ 2 (h .object) (a₀ .1) (omega arith) d₂ in
-      let a₃ = next w₂ w₃ 3 r (a₂ .1) (omega arith) d₃ in
-      let a₄ = next w₃ w₄ 4 (h .flags) (a₃ .1) (omega arith) d₄ in
+      let a₂ = next w₀ w₂ itemObject (h .object) (a₀ .1) (omega arith) d₂ in
+      let a₃ = next w₂ w₃ itemRights r (a₂ .1) (omega arith) d₃ in
+      let a₄ = next w₃ w₄ itemFlags (h .flags) (a₃ .1) (omega arith) d₄ in
       rw (a₄ .0, a₃ .0, a₂ .0, a₀ .0)
 
 -- no place overflows

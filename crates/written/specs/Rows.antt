@@ -2,7 +2,7 @@
 use mathlib.Core.Path.{_≡_, refl, sym, ap, _∙_}
 use mathlib.Core.List.{List, [], _∷_}
 use mathlib.Core.Option.{Option, none, some}
-use Prim.Native.Nat.{ℕ, zero, suc, _+_, _≤_, _<_}
+use Prim.Native.Nat.{ℕ, zero, suc, _+_, _-_, _≤_, _<_}
 use native.Mathlib.Omega.{arith}
 use lib.ListN.{length, getD}
 use lib.Dec.{eqb}
@@ -14,7 +14,7 @@ use Rattle.model.specs.Book.{find, movedOf}
 use Rattle.model.specs.Bounds.{batch-max}
 use Rattle.model.specs.WellFormed.{isReservedBy, isMovingBy, inReservation, inClaim, All, BodyRange, RowRange, Marks, WellFormed}
 use Rattle.layout.specs.Layout.{Mem, row, item}
-use Rattle.layout.specs.Fields.{itemSlot}
+use Rattle.layout.specs.Fields.{rowId, rowKind, rowTable, rowLength, itemSlot, itemOperation, itemMoved, itemObject, itemRights, itemFlags, itemGranted}
 use Rattle.layout.specs.Sizes.{batchMax}
 use Rattle.representation.specs.Represents.{HandleIs, EntryIs, Items, BodyIs, RowsAre}
 use Rattle.written.specs.Searches.{rankOf, rank-found}
@@ -86,29 +86,29 @@ module _ (s : State) (m : Mem) (shows : Shows s m) where
   body-is : (r : ℕ) (d : Body) → BodyRange s d → ((f : ℕ) → f < 5 → m (row r (suc f)) ≡ getD (bodyWords d) f 0)
       → ((j f : ℕ) → j < batchMax → f < 6 → m (item r j f) ≡ getD (itemWords d j) f 0) → BodyIs m r d
   body-is r (reservation b ks) g a c = (
-    a 0 (omega arith),
-    a 1 (omega arith),
-    a 2 (omega arith),
+    a (rowKind - 1) (omega arith),
+    a (rowTable - 1) (omega arith),
+    a (rowLength - 1) (omega arith),
     items-are (λ j k. m (item r j itemSlot) ≡ k) ks (λ j k e.
-        c j 0 (omega (arith, nth-low ks j k e, g .1 .1, batch-max)) (omega arith) ∙ rw e),
+        c j itemSlot (omega (arith, nth-low ks j k e, g .1 .1, batch-max)) (omega arith) ∙ rw e),
   )
   body-is r (claim b es) g a c =
-      (a 0 (omega arith), a 1 (omega arith), a 2 (omega arith), items-are (EntryIs m r) es (λ j x e. each j x (omega (arith, nth-low es j x e, g .1 .1, batch-max)) e))
+      (a (rowKind - 1) (omega arith), a (rowTable - 1) (omega arith), a (rowLength - 1) (omega arith), items-are (EntryIs m r) es (λ j x e. each j x (omega (arith, nth-low es j x e, g .1 .1, batch-max)) e))
     where
       each : (j : ℕ) (x : Entry) → j < batchMax → nth es j ≡ some x → EntryIs m r j x
       each j (moved k h y) l e =
           let at : (f : ℕ) → f < 6 → m (item r j f) ≡ getD (entryItem (moved k h y)) f 0 = λ f i. c j f l i ∙ rw e in
-          (at 0 (omega arith), at 1 (omega arith), (at 2 (omega arith), at 3 (omega arith), at 4 (omega arith)), at 5 (omega arith))
+          (at itemOperation (omega arith), at itemMoved (omega arith), (at itemObject (omega arith), at itemRights (omega arith), at itemFlags (omega arith)), at itemGranted (omega arith))
       each j (copied h) l e =
           let at : (f : ℕ) → f < 6 → m (item r j f) ≡ getD (entryItem (copied h)) f 0 = λ f i. c j f l i ∙ rw e in
-          (at 0 (omega arith), (at 2 (omega arith), at 3 (omega arith), at 4 (omega arith)))
+          (at itemOperation (omega arith), (at itemObject (omega arith), at itemRights (omega arith), at itemFlags (omega arith)))
   body-is r (parcel hs) g a c = (
-    a 0 (omega arith),
-    a 2 (omega arith),
+    a (rowKind - 1) (omega arith),
+    a (rowLength - 1) (omega arith),
     items-are (HandleIs m r) hs (λ j h e.
         let l : j < batchMax = omega (arith, nth-low hs j h e, g .0 .1, batch-max) in
         let at : (f : ℕ) → f < 6 → m (item r j f) ≡ getD (handleItem h) f 0 = λ f i. c j f l i ∙ rw e in
-        (at 2 (omega arith), at 3 (omega arith), at 4 (omega arith))),
+        (at itemObject (omega arith), at itemRights (omega arith), at itemFlags (omega arith))),
   )
 
   rows-from : (i : ℕ) (rs : List Row) → ((j k : ℕ) → k ≡ i + j → nth rs j ≡ nth (s .book .rows) k) → i + length rs ≤ s .book .capacity → All (RowRange s) rs → RowsAre m i rs
@@ -117,7 +117,7 @@ module _ (s : State) (m : Mem) (shows : Shows s m) where
       let h : i < s .book .capacity = omega arith in
       let e : nth (s .book .rows) i ≡ some x = sym (n 0 i (omega arith)) in
       rw (at-index s m shows i h) (
-        row-is s m shows i x h e 0 (omega arith),
+        row-is s m shows i x h e rowId (omega arith),
         body-is i (x .body) (a .0) (λ f g. row-is s m shows i x h e (suc f) (omega arith)) (item-is s m shows i x h e),
         rows-from (suc i) rs (λ j k q. n (suc j) k (omega arith)) (omega arith) (a .1),
       )

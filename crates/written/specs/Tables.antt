@@ -16,8 +16,8 @@ use Rattle.model.specs.Bounds.{batch-max}
 use Rattle.model.specs.Tests.{bit-true, bit-small}
 use Rattle.model.specs.WellFormed.{isAttached, WellFormed}
 use Rattle.layout.specs.Layout.{Mem, head, entry, cell, rank, row, item}
-use Rattle.layout.specs.Fields.{headPageLimit, headMask, headLifecycle, headCursor, headEpoch, headPages, headFirstFree, headFreeSlots, headFirstEmpty, headFirstDetached, headFirstEntry, entryNext, entryPrevious, slotTag, slotNextFree, slotPreviousFree, slotPlace, slotPosition, rowId, rowTable, rowLength, itemOperation}
-use Rattle.layout.specs.Values.{operationMove}
+use Rattle.layout.specs.Fields.{headPageLimit, headMask, headLifecycle, headCursor, headEpoch, headPages, headFirstFree, headFreeSlots, headFirstEmpty, headFirstDetached, headFirstEntry, entryFrame, entryHigh, entryBusy, entryNext, entryPrevious, slotTag, slotGeneration, slotNextFree, slotPreviousFree, slotPlace, slotPosition, slotObject, slotRights, slotFlags, rowId, rowTable, rowLength, itemOperation}
+use Rattle.layout.specs.Values.{tagReserved, tagTransferReserved, operationMove}
 use Rattle.layout.specs.Sizes.{pageSize, batchMax}
 use Rattle.representation.specs.Represents.{entryAt, linkOf, frameOf, wordIn, slotWord, tagged, slotFrom, slotIn, Chain, Linked, LifeIs, TableIs, isMarked}
 use Rattle.written.specs.Searches.{after, before, chained, linked, placeOf, place-found, movedAt, moved-found, rankOf, rank-found}
@@ -94,7 +94,7 @@ module _ (s : State) (w : WellFormed till s) (m : Mem) (shows : Shows s m) (b : 
 
   frame-is : (k : ℕ) → frameOf m b k ≡ pick (ltb k maxSlots) (linkOf (s .tables b .pages (k / pageSize) .frame)) 0
   frame-is k = ap (λ (z : ℕ). pick (ltb k maxSlots) z 0) (rw (at-head s m shows b headPages h (omega arith)) (bool (ltb (k / pageSize) (s .tables b .size))
-      (λ e. rw e (entry-is (k / pageSize) 0 (ltb-true (k / pageSize) (s .tables b .size) e) (omega arith)))
+      (λ e. rw e (entry-is (k / pageSize) entryFrame (ltb-true (k / pageSize) (s .tables b .size) e) (omega arith)))
       (λ e. rw (e, w .atRest .pages b (k / pageSize) (ltb-false (k / pageSize) (s .tables b .size) e)))))
 
   -- the words of a slot's cell
@@ -121,20 +121,20 @@ module _ (s : State) (w : WellFormed till s) (m : Mem) (shows : Shows s m) (b : 
       ∙ ap (λ (y : Slot). getD (slotWords (s .tables b .free) (s .book .rows) k y) f 0) e
 
   slot-tagged : (k : ℕ) (x : Slot) → s .tables b .slots k ≡ x → isAbsent x ≡ false → slotIn m b k
-      ≡ tagged m (getD (slotWords (s .tables b .free) (s .book .rows) k x) 0 0) (getD (slotWords (s .tables b .free) (s .book .rows) k x) 1 0)
-      (getD (slotWords (s .tables b .free) (s .book .rows) k x) 2 0) (getD (slotWords (s .tables b .free) (s .book .rows) k x) 3 0) (getD (slotWords (s .tables b .free) (s .book .rows) k x) 4 0)
+      ≡ tagged m (getD (slotWords (s .tables b .free) (s .book .rows) k x) slotTag 0) (getD (slotWords (s .tables b .free) (s .book .rows) k x) slotGeneration 0)
+      (getD (slotWords (s .tables b .free) (s .book .rows) k x) slotObject 0) (getD (slotWords (s .tables b .free) (s .book .rows) k x) slotRights 0) (getD (slotWords (s .tables b .free) (s .book .rows) k x) slotFlags 0)
   slot-tagged k x e a =
       let t = slot-there s w b k (ap isAbsent e ∙ a) in
       let c : (f : ℕ) → f < 6 → m (cell (t .frame) (k % pageSize) f) ≡ getD (slotWords (s .tables b .free) (s .book .rows) k x) f 0
       = λ f i. cell-is k f t i (t .frame) (t .has) ∙ ap (λ (y : Slot). getD (slotWords (s .tables b .free) (s .book .rows) k y) f 0) e in
       ap (λ (z : ℕ). slotFrom m z (k % pageSize)) (frame-there k t)
-      ∙ rw (c 0 (omega arith), c 1 (omega arith), c 2 (omega arith), c 3 (omega arith), c 4 (omega arith))
+      ∙ rw (c slotTag (omega arith), c slotGeneration (omega arith), c slotObject (omega arith), c slotRights (omega arith), c slotFlags (omega arith))
 
   -- the row of a mark has its id
   row-id : (i : ℕ) (d : Body) → find i (s .book .rows) ≡ some d → m (row (rankOf i (s .book .rows)) rowId) ≡ i
   row-id i d e =
       let r = rank-found i (s .book .rows) d e in
-      row-is s m shows (rankOf i (s .book .rows)) (record { id = i; body = d }) (omega (arith, r .0, w .ranges .rowCount)) (r .1) 0 (omega arith)
+      row-is s m shows (rankOf i (s .book .rows)) (record { id = i; body = d }) (omega (arith, r .0, w .ranges .rowCount)) (r .1) rowId (omega arith)
 
   slots-are : (k : ℕ) → slotIn m b k ≡ s .tables b .slots k
   slots-are k = go (s .tables b .slots k) refl
@@ -159,8 +159,8 @@ module _ (s : State) (w : WellFormed till s) (m : Mem) (shows : Shows s m) (b : 
 
   free-is : Chain (λ k. slotWord m b k slotNextFree) (λ k. slotWord m b k slotPreviousFree) (m (head b headFirstFree)) 0 (s .tables b .free)
   free-is = rw (at-head s m shows b headFirstFree h (omega arith)) (chained (λ k. slotWord m b k slotNextFree) (λ k. slotWord m b k slotPreviousFree) 0 (s .tables b .free)
-      (λ k o. let v = free-there k o in slot-word k 2 (vacant (v .0)) (v .1) refl (omega arith))
-      (λ k o. let v = free-there k o in slot-word k 3 (vacant (v .0)) (v .1) refl (omega arith))
+      (λ k o. let v = free-there k o in slot-word k slotNextFree (vacant (v .0)) (v .1) refl (omega arith))
+      (λ k o. let v = free-there k o in slot-word k slotPreviousFree (vacant (v .0)) (v .1) refl (omega arith))
       (λ k. omega (arith, w .orders b .free k, bit-small (isVacant (s .tables b .slots k)))))
 
   empty-there : (p : ℕ) → 0 < occurs p (s .tables b .empty) → (isAttached (s .tables b) p ≡ true) × (p < s .tables b .size)
@@ -170,8 +170,8 @@ module _ (s : State) (w : WellFormed till s) (m : Mem) (shows : Shows s m) (b : 
 
   empty-is : Chain (λ p. m (entry (entryAt m b p) entryNext)) (λ p. m (entry (entryAt m b p) entryPrevious)) (m (head b headFirstEmpty)) 0 (s .tables b .empty)
   empty-is = rw (at-head s m shows b headFirstEmpty h (omega arith)) (chained (λ p. m (entry (entryAt m b p) entryNext)) (λ p. m (entry (entryAt m b p) entryPrevious)) 0 (s .tables b .empty)
-      (λ p o. let a = empty-there p o in entry-is p 3 (a .1) (omega arith) ∙ ap (after p) (order-empty (s .tables b) p (a .0)))
-      (λ p o. let a = empty-there p o in entry-is p 4 (a .1) (omega arith))
+      (λ p o. let a = empty-there p o in entry-is p entryNext (a .1) (omega arith) ∙ ap (after p) (order-empty (s .tables b) p (a .0)))
+      (λ p o. let a = empty-there p o in entry-is p entryPrevious (a .1) (omega arith))
       (λ p. omega (arith, w .orders b .empty p, bit-small (isAttached (s .tables b) p && eqb (busyOf till (s .tables b .slots) p) 0))))
 
   detached-there : (p : ℕ) → 0 < occurs p (s .tables b .detached) → (isAttached (s .tables b) p ≡ false) × (p < s .tables b .size)
@@ -182,7 +182,7 @@ module _ (s : State) (w : WellFormed till s) (m : Mem) (shows : Shows s m) (b : 
   detached-is : Linked (λ p. m (entry (entryAt m b p) entryNext)) (m (head b headFirstDetached)) (s .tables b .detached)
   detached-is = rw (at-head s m shows b headFirstDetached h (omega arith)) (linked (λ p. m (entry (entryAt m b p) entryNext)) (λ p. before p 0 (s .tables b .detached)) _ 0 (s .tables b .detached)
       (chained (λ p. m (entry (entryAt m b p) entryNext)) (λ p. before p 0 (s .tables b .detached)) 0 (s .tables b .detached)
-      (λ p o. let a = detached-there p o in entry-is p 3 (a .1) (omega arith) ∙ ap (after p) (order-detached (s .tables b) p (a .0)))
+      (λ p o. let a = detached-there p o in entry-is p entryNext (a .1) (omega arith) ∙ ap (after p) (order-detached (s .tables b) p (a .0)))
       (λ p o. refl)
       (λ p. omega (arith, w .orders b .detached p, bit-small (ltb p (s .tables b .size) && not (isAttached (s .tables b) p))))))
 
@@ -198,9 +198,9 @@ module _ (s : State) (w : WellFormed till s) (m : Mem) (shows : Shows s m) (b : 
     life = rw (at-head s m shows b headLifecycle h (omega arith), at-head s m shows b headCursor h (omega arith)) (life-is (s .tables b .life));
     epoch = at-head s m shows b headEpoch h (omega arith);
     size = at-head s m shows b headPages h (omega arith);
-    frame = λ p l. entry-is p 0 l (omega arith);
-    high = λ p l. entry-is p 1 l (omega arith);
-    busy = λ p l a. entry-is p 2 l (omega arith);
+    frame = λ p l. entry-is p entryFrame l (omega arith);
+    high = λ p l. entry-is p entryHigh l (omega arith);
+    busy = λ p l a. entry-is p entryBusy l (omega arith);
     slots = slots-are;
     free = free-is;
     freeCount = at-head s m shows b headFreeSlots h (omega arith);
@@ -215,36 +215,36 @@ module _ (s : State) (w : WellFormed till s) (m : Mem) (shows : Shows s m) (b : 
   mark-by k tag x i p q r c = rw (p, q, r) c
 
   -- a mark of an open row, by the row's words and its item's
-  mark-at : (k tag i j : ℕ) (d : Body) → find i (s .book .rows) ≡ some d → j < batchMax → j < getD (bodyWords d) 2 0 → getD (bodyWords d) 1 0 ≡ b
-      → getD (itemWords d j) (tag - 1) 0 ≡ k → tag - 1 < 6 → (tag ≡ 2 → getD (itemWords d j) 0 0 ≡ 0) → MarkIs s m b k tag (rankOf i (s .book .rows)) j
+  mark-at : (k tag i j : ℕ) (d : Body) → find i (s .book .rows) ≡ some d → j < batchMax → j < getD (bodyWords d) (rowLength - 1) 0 → getD (bodyWords d) (rowTable - 1) 0 ≡ b
+      → getD (itemWords d j) (tag - 1) 0 ≡ k → tag - 1 < 6 → (tag ≡ tagTransferReserved → getD (itemWords d j) itemOperation 0 ≡ operationMove) → MarkIs s m b k tag (rankOf i (s .book .rows)) j
   mark-at k tag i j d e l n p q u v =
       let r = rank-found i (s .book .rows) d e in
       let x : Row = record { id = i; body = d } in
       let c : rankOf i (s .book .rows) < s .book .capacity = omega (arith, r .0, w .ranges .rowCount) in (
         c,
         rw (at-rank s m shows (rankOf i (s .book .rows)) c) (r .0),
-        omega (arith, n, row-is s m shows (rankOf i (s .book .rows)) x c (r .1) 3 (omega arith)),
-        row-is s m shows (rankOf i (s .book .rows)) x c (r .1) 2 (omega arith) ∙ p,
+        omega (arith, n, row-is s m shows (rankOf i (s .book .rows)) x c (r .1) rowLength (omega arith)),
+        row-is s m shows (rankOf i (s .book .rows)) x c (r .1) rowTable (omega arith) ∙ p,
         item-is s m shows (rankOf i (s .book .rows)) x c (r .1) j (tag - 1) l u ∙ q,
-        λ z. item-is s m shows (rankOf i (s .book .rows)) x c (r .1) j 0 l (omega arith) ∙ v z,
+        λ z. item-is s m shows (rankOf i (s .book .rows)) x c (r .1) j itemOperation l (omega arith) ∙ v z,
       )
 
   mark-reserved : (k g i : ℕ) → s .tables b .slots k ≡ reserved g i → MarkIs s m b k (slotWord m b k slotTag) (slotWord m b k slotPlace) (slotWord m b k slotPosition)
   mark-reserved k g i e =
       let f = reserved-in s (w .marks) b k g i e in
       let p = place-found k (f .0) (f .2) in
-      mark-by k 1 (rankOf i (s .book .rows)) (placeOf k (f .0)) (slot-word k 0 (reserved g i) e refl (omega arith)) (slot-word k 2 (reserved g i) e refl (omega arith))
-      (slot-word k 3 (reserved g i) e refl (omega arith) ∙ ap (positionIn k) (f .1))
-      (mark-at k 1 i (placeOf k (f .0)) (reservation b (f .0)) (f .1) (omega (arith, p .0, range-of s w i (reservation b (f .0)) (f .1) .1 .1, batch-max)) (p .0) refl
+      mark-by k tagReserved (rankOf i (s .book .rows)) (placeOf k (f .0)) (slot-word k slotTag (reserved g i) e refl (omega arith)) (slot-word k slotPlace (reserved g i) e refl (omega arith))
+      (slot-word k slotPosition (reserved g i) e refl (omega arith) ∙ ap (positionIn k) (f .1))
+      (mark-at k tagReserved i (placeOf k (f .0)) (reservation b (f .0)) (f .1) (omega (arith, p .0, range-of s w i (reservation b (f .0)) (f .1) .1 .1, batch-max)) (p .0) refl
       (rw (p .1)) (omega arith) (λ z. absurd (omega arith)))
 
   mark-moving : (k g i : ℕ) → s .tables b .slots k ≡ transferReserved g i → MarkIs s m b k (slotWord m b k slotTag) (slotWord m b k slotPlace) (slotWord m b k slotPosition)
   mark-moving k g i e =
       let f = moving-in s (w .marks) b k g i e in
       let p = moved-found k (f .0) (f .2) in
-      mark-by k 2 (rankOf i (s .book .rows)) (movedAt k (f .0)) (slot-word k 0 (transferReserved g i) e refl (omega arith)) (slot-word k 2 (transferReserved g i) e refl (omega arith))
-      (slot-word k 3 (transferReserved g i) e refl (omega arith) ∙ ap (positionIn k) (f .1))
-      (mark-at k 2 i (movedAt k (f .0)) (claim b (f .0)) (f .1) (omega (arith, p .0, range-of s w i (claim b (f .0)) (f .1) .1 .1, batch-max)) (p .0) refl
+      mark-by k tagTransferReserved (rankOf i (s .book .rows)) (movedAt k (f .0)) (slot-word k slotTag (transferReserved g i) e refl (omega arith)) (slot-word k slotPlace (transferReserved g i) e refl (omega arith))
+      (slot-word k slotPosition (transferReserved g i) e refl (omega arith) ∙ ap (positionIn k) (f .1))
+      (mark-at k tagTransferReserved i (movedAt k (f .0)) (claim b (f .0)) (f .1) (omega (arith, p .0, range-of s w i (claim b (f .0)) (f .1) .1 .1, batch-max)) (p .0) refl
       (rw (p .3)) (omega arith) (λ z. rw (p .3)))
 
   pub marks-are : (k : ℕ) → isMarked (s .tables b .slots k) ≡ true → MarkIs s m b k (slotWord m b k slotTag) (slotWord m b k slotPlace) (slotWord m b k slotPosition)

@@ -9,7 +9,7 @@ use Rattle.model.specs.Bounds.{pages-max}
 use Rattle.model.specs.WellFormed.{WellFormed}
 use Rattle.layout.specs.Layout.{Mem, total, load}
 use Rattle.layout.specs.ShapeOf.{Permitted, Roots}
-use Rattle.layout.specs.Fields.{headFirstEntry, objectKoid, objectKind, objectClass, objectSupported, objectExportable, objectStage, objectActive, objectLimit}
+use Rattle.layout.specs.Fields.{rootVersion, rootTables, rootFrames, rootObjects, rootRows, rootNextId, rootUsedRows, rootFreeFrames, rootPages, headFirstEntry, objectKoid, objectKind, objectClass, objectSupported, objectExportable, objectStage, objectActive, objectLimit}
 use Rattle.layout.specs.Sizes.{pagesMax}
 use Rattle.representation.specs.Represents.{linkOf, FramesAre, ObjectIs, BookIs, Represents, Rep}
 use Rattle.representation.specs.Unique.{shapeFor}
@@ -33,7 +33,7 @@ module _ (s : State) (w : WellFormed till s) (m : Mem) (shows : Shows s m) where
     sixteens = at-sixteen s m shows;
     hundreds = at-hundred s m shows;
     thousands = at-thousand s m shows;
-    count = at-root s m shows 7 (omega arith);
+    count = at-root s m shows rootFreeFrames (omega arith);
   }
 
   object-is : (o : ℕ) → o < s .objectCount → ObjectIs m o (s .objects o)
@@ -50,8 +50,8 @@ module _ (s : State) (w : WellFormed till s) (m : Mem) (shows : Shows s m) where
 
   book-is : BookIs m s
   book-is = record {
-    next = at-root s m shows 5 (omega arith);
-    used = at-root s m shows 6 (omega arith);
+    next = at-root s m shows rootNextId (omega arith);
+    used = at-root s m shows rootUsedRows (omega arith);
     rows = rows-are s m shows w;
     places = λ i h. let e = at-index s m shows i h in (rw e h, rw e (at-rank s m shows i h));
     marks = λ b k h e. marks-are s w m shows b h k e;
@@ -75,12 +75,12 @@ module _ (s : State) (w : WellFormed till s) (m : Mem) (shows : Shows s m) where
   roots-are : Roots (shapeFor s) m
   unfolding shapeFor
   roots-are = record {
-    version = at-root s m shows 0 (omega arith);
-    tables = at-root s m shows 1 (omega arith);
-    frames = at-root s m shows 2 (omega arith);
-    objects = at-root s m shows 3 (omega arith);
-    rows = at-root s m shows 4 (omega arith);
-    pages = at-root s m shows 8 (omega arith);
+    version = at-root s m shows rootVersion (omega arith);
+    tables = at-root s m shows rootTables (omega arith);
+    frames = at-root s m shows rootFrames (omega arith);
+    objects = at-root s m shows rootObjects (omega arith);
+    rows = at-root s m shows rootRows (omega arith);
+    pages = at-root s m shows rootPages (omega arith);
   }
 
 module _ (s : State) (w : WellFormed till s) where
