@@ -19,6 +19,8 @@ const ROWS: u64 = 16;
 /// Requests in a list, about.
 const LONG: usize = 20_000;
 const TIMES: usize = 15;
+/// How often the whole is measured, each time with memory of its own: a row is the median. Single rows of one pass move by a fifth, by where their memory lies.
+const PASSES: usize = 5;
 /// Pairs of runs for a difference, and how many times its uncertainty a difference must be to be told.
 const PAIRS: usize = 1000;
 const CLEAR: f64 = 10.0;
@@ -45,6 +47,9 @@ impl Settings {
     }
     fn pairs(self) -> usize {
         if self.short { PAIRS / 5 } else { PAIRS }
+    }
+    fn passes(self) -> usize {
+        if self.short { 1 } else { PASSES }
     }
     /// Rows of a table that has so many.
     fn rows(self, many: usize) -> usize {
@@ -149,13 +154,17 @@ fn plain_read(words: &[u64]) -> u64 {
     sums.iter().fold(rest, |sum, word| sum.wrapping_add(*word))
 }
 
+/// The median.
+fn half(mut times: Vec<f64>) -> f64 {
+    times.sort_by(f64::total_cmp);
+    times[times.len() / 2]
+}
+
 /// The median of some runs, in nanoseconds: of more runs where they are short.
 fn median(times: usize, mut run: impl FnMut() -> f64) -> f64 {
     let first = run();
     let runs = if first < 200_000.0 { 20 * times } else { times };
-    let mut times: Vec<f64> = (1..runs).map(|_| run()).chain([first]).collect();
-    times.sort_by(f64::total_cmp);
-    times[runs / 2]
+    half((1..runs).map(|_| run()).chain([first]).collect())
 }
 
 /// A list made by asking the Rust: `next` gives the next request from the last answers.
@@ -175,48 +184,60 @@ fn list_of(start: &Start, count: usize, mut next: impl FnMut(usize, &[[u64; ANSW
     (list, count)
 }
 
-/// Prints rows as they are measured, as text or as docs/performance.md has them, and keeps their ratios.
-struct Table {
-    markdown: bool,
-    ratios: Vec<(f64, f64)>,
+/// One row of a table, in nanoseconds: the port, the Rust with its driver, and less what the driver takes to read the words.
+#[derive(Clone)]
+struct Row {
+    slots: u64,
+    name: String,
+    port: f64,
+    rust: f64,
+    less: f64,
 }
 
-impl Table {
-    fn head(&self, what: &str) {
-        if self.markdown {
-            println!("\n| slots | {what} | port | Rust | less words | ratio | ratio, less words |\n|---|---|---|---|---|---|---|");
-        } else {
-            println!("{:>9} {what:48} {:>10} {:>10} {:>10} {:>7} {:>7}", "slots", "port ns", "Rust ns", "less words", "ratio", "less");
+/// A row by its median in each column, over the passes that have it: at least half of them.
+fn middle(passes: &[Vec<Row>]) -> Vec<Row> {
+    let mut rows = Vec::new();
+    for this in passes.iter().flatten() {
+        if rows.iter().any(|row: &Row| (row.slots, &row.name) == (this.slots, &this.name)) {
+            continue;
         }
+        let same: Vec<&Row> = passes.iter().flatten().filter(|row| (row.slots, &row.name) == (this.slots, &this.name)).collect();
+        if 2 * same.len() < passes.len() {
+            println!("not told in {} of {} passes: {}", passes.len() - same.len(), passes.len(), this.name);
+            continue;
+        }
+        let of = |column: fn(&Row) -> f64| half(same.iter().map(|row| column(row)).collect());
+        rows.push(Row { port: of(|row| row.port), rust: of(|row| row.rust), less: of(|row| row.less), ..this.clone() });
     }
+    rows
+}
 
-    fn row(&mut self, slots: u64, name: &str, port: f64, rust: f64, less: f64) {
+/// Prints a table as text or as docs/performance.md has it, then of both ratios least, geometric mean and greatest, and the rows above the bounds.
+fn print_table(markdown: bool, what: &str, sum: &str, rows: &[Row]) {
+    if markdown {
+        println!("\n| slots | {what} | port | Rust | less words | ratio | ratio, less words |\n|---|---|---|---|---|---|---|");
+    } else {
+        println!("{:>9} {what:48} {:>10} {:>10} {:>10} {:>7} {:>7}", "slots", "port ns", "Rust ns", "less words", "ratio", "less");
+    }
+    for Row { slots, name, port, rust, less } in rows {
         let (ratio, ratio_less) = (port / rust, port / less);
-        self.ratios.push((ratio, ratio_less));
-        if self.markdown {
+        if markdown {
             println!("| {slots} | {name} | {port:.0} | {rust:.0} | {less:.0} | {ratio:.2} | {ratio_less:.2} |");
         } else {
             println!("{slots:>9} {name:48} {port:>10.0} {rust:>10.0} {less:>10.0} {ratio:>7.2} {ratio_less:>7.2}");
         }
     }
-
-    /// Least, geometric mean and greatest of both ratios, and the rows above the bounds.
-    fn sum(&mut self, what: &str) {
-        let of = |pick: fn(&(f64, f64)) -> f64| {
-            let all: Vec<f64> = self.ratios.iter().map(pick).collect();
-            let mean = (all.iter().map(|ratio| ratio.ln()).sum::<f64>() / all.len() as f64).exp();
-            let ends = all.iter().fold((f64::INFINITY, 0.0f64), |(low, high), ratio| (low.min(*ratio), high.max(*ratio)));
-            format!("least {:.2}, geometric mean {mean:.2}, greatest {:.2}", ends.0, ends.1)
-        };
-        let above = |bound: f64, pick: fn(&(f64, f64)) -> f64| self.ratios.iter().filter(|row| pick(row) > bound).count();
-        let many = self.ratios.len();
-        println!("\n{what}: {many} rows");
-        if many == 0 {
-            return;
-        }
-        println!("- with the driver: {}; above 1.0: {} of {many}", of(|row| row.0), above(1.0, |row| row.0));
-        println!("- less words: {}; above 1.5: {} of {many}", of(|row| row.1), above(1.5, |row| row.1));
-        self.ratios.clear();
+    let told = |bound: f64, ratio: fn(&Row) -> f64| {
+        let all: Vec<f64> = rows.iter().map(ratio).collect();
+        let mean = (all.iter().map(|ratio| ratio.ln()).sum::<f64>() / all.len() as f64).exp();
+        let ends = all.iter().fold((f64::INFINITY, 0.0f64), |(low, high), ratio| (low.min(*ratio), high.max(*ratio)));
+        let above = all.iter().filter(|ratio| **ratio > bound).count();
+        format!("least {:.2}, geometric mean {mean:.2}, greatest {:.2}; above {bound:.1}: {above} of {}", ends.0, ends.1, all.len())
+    };
+    println!("\n{sum}: {} rows", rows.len());
+    if !rows.is_empty() {
+        println!("- with the driver: {}", told(1.0, |row| row.port / row.rust));
+        println!("- less words: {}", told(1.5, |row| row.port / row.less));
     }
 }
 
@@ -277,7 +298,7 @@ fn spaced(number: f64) -> String {
 }
 
 /// One row by difference.
-fn tell(settings: Settings, table: &mut Table, slots: u64, start: &Start, words: &[u64], this: &Split) {
+fn tell(settings: Settings, rows: &mut Vec<Row>, slots: u64, start: &Start, words: &[u64], this: &Split) {
     let tail = (this.counts.1 - this.counts.0) as f64;
     let mut wanted = vec![0u64; this.counts.1 * ANSWER];
     let mut answers = wanted.clone();
@@ -320,14 +341,14 @@ fn tell(settings: Settings, table: &mut Table, slots: u64, start: &Start, words:
     assert_eq!(answers, wanted, "{}: the answers differ", this.name);
     let less = (rust.0 - reading.0, rust.1 + reading.1);
     if [rust, less, ported].iter().all(|(time, unsure)| *time > CLEAR * unsure) {
-        table.row(slots, this.name, ported.0 / tail, rust.0 / tail, less.0 / tail);
+        rows.push(Row { slots, name: this.name.to_string(), port: ported.0 / tail, rust: rust.0 / tail, less: less.0 / tail });
     } else {
         println!("not told: {} ({:.0} +- {:.0}, Rust {:.0} +- {:.0}, less words {:.0} +- {:.0} ns)", this.name, ported.0, ported.1, rust.0, rust.1, less.0, less.1);
     }
 }
 
 /// The requests of a small table one by one. A list opens at most as many rows as there are.
-fn differences(settings: Settings, table: &mut Table, slots: u64, start: &Start, words: &[u64], handles: &[u64]) {
+fn differences(settings: Settings, told: &mut Vec<Row>, slots: u64, start: &Start, words: &[u64], handles: &[u64]) {
     let first = handles[0];
     let rows = ROWS as usize;
     let half = rows / 2;
@@ -373,11 +394,12 @@ fn differences(settings: Settings, table: &mut Table, slots: u64, start: &Start,
         ),
     ];
     for this in &all[..settings.rows(all.len())] {
-        tell(settings, table, slots, start, words, this);
+        tell(settings, told, slots, start, words, this);
     }
 }
 
 /// The state check of some words beside a plain read of them.
+#[derive(Clone)]
 struct Checked {
     words: usize,
     /// What the state has that others of its size have not.
@@ -413,11 +435,47 @@ pub fn run(settings: Settings) {
     }
 }
 
+/// What one pass measures: requests and cycles, requests by difference, and the state check.
+#[derive(Default)]
+struct Pass {
+    cycles: Vec<Row>,
+    single: Vec<Row>,
+    checks: Vec<Checked>,
+}
+
 fn measure(settings: Settings) {
-    let (markdown, long) = (settings.markdown, settings.long());
-    let mut table = Table { markdown, ratios: Vec::new() };
-    let mut checks = Vec::new();
-    table.head("requests");
+    let all: Vec<Pass> = (1..=settings.passes())
+        .map(|number| {
+            eprintln!("pass {number} of {}", settings.passes());
+            pass(settings)
+        })
+        .collect();
+    let markdown = settings.markdown;
+    let rows = |of: fn(&Pass) -> &Vec<Row>| middle(&all.iter().map(|pass| of(pass).clone()).collect::<Vec<_>>());
+    print_table(markdown, "requests", "Requests and cycles", &rows(|pass| &pass.cycles));
+    if !markdown {
+        println!();
+    }
+    print_table(markdown, "one request, by difference", "By difference", &rows(|pass| &pass.single));
+    println!();
+    if markdown {
+        println!("| words | check | plain read | ratio |\n|---|---|---|---|");
+    }
+    for (at, Checked { words, state, .. }) in all[0].checks.iter().enumerate() {
+        let of = |column: fn(&Checked) -> f64| half(all.iter().map(|pass| column(&pass.checks[at])).collect());
+        let (check, read) = (of(|row| row.check), of(|row| row.read));
+        let told = if state.is_empty() { String::new() } else { format!(", {state}") };
+        if markdown {
+            println!("| {}{told} | {} ns | {} ns | {:.2} |", spaced(*words as f64), spaced(check), spaced(read), check / read);
+        } else {
+            println!("state check of {words} words{told}: {check:.0} ns; a plain read of them {read:.0} ns; ratio {:.2}", check / read);
+        }
+    }
+}
+
+fn pass(settings: Settings) -> Pass {
+    let long = settings.long();
+    let mut told = Pass::default();
     let mut small = None;
     for &pages in settings.pages() {
         let (rust, values) = filled(pages, 16.min(pages * 64 - 2), 2, ROWS, 0);
@@ -568,37 +626,20 @@ fn measure(settings: Settings) {
             assert_eq!(answers, wanted, "{name}: the answers differ");
             let each = |time: f64| time / count as f64 * cycle;
             let (port_ns, rust_ns, less_ns) = (each(whole - check), each(rust_time), each(rust_time - reading));
-            table.row(pages * 64, &name, port_ns, rust_ns, less_ns);
+            told.cycles.push(Row { slots: pages * 64, name, port: port_ns, rust: rust_ns, less: less_ns });
         }
         // The state check, and at 64 pages the same with other objects and with open rows.
-        checks.push(checked(settings, &words, ""));
+        told.checks.push(checked(settings, &words, ""));
         if pages == 64 {
             let mut random = Rng::new(1);
-            checks.push(checked(settings, &spread(&state, |number| number % OBJECTS), "handles of all objects in turn"));
-            checks.push(checked(settings, &spread(&state, |_| random.below(OBJECTS)), "each handle of a random object"));
+            told.checks.push(checked(settings, &spread(&state, |number| number % OBJECTS), "handles of all objects in turn"));
+            told.checks.push(checked(settings, &spread(&state, |_| random.below(OBJECTS)), "each handle of a random object"));
             let (_, open) = shown(filled(pages, 16, 2, OPEN, OPEN).0);
-            checks.push(checked(settings, &open, "64 rows open, parcels of one handle"));
+            told.checks.push(checked(settings, &open, "64 rows open, parcels of one handle"));
         }
         small.get_or_insert((start, words, handles));
     }
-    table.sum("Requests and cycles");
-    if !markdown {
-        println!();
-    }
     let (start, words, handles) = small.expect("the smallest table");
-    table.head("one request, by difference");
-    differences(settings, &mut table, 64, &start, &words, &handles);
-    table.sum("By difference");
-    println!();
-    if markdown {
-        println!("| words | check | plain read | ratio |\n|---|---|---|---|");
-    }
-    for Checked { words, state, check, read } in checks {
-        let told = if state.is_empty() { String::new() } else { format!(", {state}") };
-        if markdown {
-            println!("| {}{told} | {} ns | {} ns | {:.2} |", spaced(words as f64), spaced(check), spaced(read), check / read);
-        } else {
-            println!("state check of {words} words{told}: {check:.0} ns; a plain read of them {read:.0} ns; ratio {:.2}", check / read);
-        }
-    }
+    differences(settings, &mut told.single, 64, &start, &words, &handles);
+    told
 }

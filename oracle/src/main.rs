@@ -22,7 +22,7 @@ const HELP: &str = "usage: oracle COMMAND
   held-entry [SEED PAIRS]     the same on the reading behind the C entry's words, and on wrong readings: a test of the comparison
   held-port [SEED PAIRS]      the same on the port, through its C entry; coverage table
   bench [--markdown] [--short]
-                              the benchmark: the Rust and the port in one run (docs/performance.md); --short: a few rows and runs, to see that it runs
+                              the benchmark: the Rust and the port in one run of five passes (docs/performance.md), two minutes; --short: a few rows and runs, to see that it runs
   record DIR                  write the recorded lists, from the Rust
   same DIR                    make the recorded lists again and compare them with the files, byte for byte
   replay DIR [rust|port]      replay the recorded lists on the reading, on the Rust or on the port
