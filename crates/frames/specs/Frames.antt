@@ -15,19 +15,20 @@ use Rattle.model.specs.State.{till, Table, State}
 use Rattle.model.specs.WellFormed.{Rising, pagesWith, Frames}
 use Rattle.model.specs.Tests.{apart, bit-true, bit-small}
 use Rattle.model.specs.Sums.{sum-put}
-use Rattle.invariant.specs.Frames.{owned, rising-tail}
+use Rattle.model.specs.Counting.{bit-same}
+use Rattle.invariant.specs.Frames.{owned}
 use Rattle.layout.specs.declared.Shape.{Shape}
 use Rattle.layout.specs.Layout.{Mem, head, owner}
 use Rattle.layout.specs.Fields.{headFirstEntry}
 use Rattle.layout.specs.Sizes.{framesMax}
 use Rattle.representation.specs.Represents.{entryAt, FramesAre, Represents}
 use Rattle.representation.specs.Unique.{rising-above}
-use Rattle.storage.specs.Order.{same?, occurs-head, length-below}
+use Rattle.storage.specs.Order.{same?, length-below}
 use Rattle.storage.specs.Ops.{up}
 use Rattle.storage.specs.Whole.{Placed}
 use Rattle.frames.specs.Paged.{entries-apart}
 use Rattle.frames.specs.Whole.{paged}
-use Rattle.frames.specs.Pool.{Counted, counted-of, Pooled, down, take-counted, give-counted}
+use Rattle.frames.specs.Pool.{Counted, counted-of, Pooled, down, Taken, take-counted, give-counted}
 
 -- ---- lists of free frames
 
@@ -35,6 +36,14 @@ use Rattle.frames.specs.Pool.{Counted, counted-of, Pooled, down, take-co
 pub rising-head : (x : ℕ) (l : List ℕ) → Rising (x ∷ l) → occurs x l ≡ 0
 rising-head x [] r = refl
 rising-head x (y ∷ l) r = rising-above x y l (r .1) (r .0)
+
+-- what is taken stood there
+pub taken-there : (f : ℕ) (l k : List ℕ) → Taken f l k → 0 < occurs f k
+taken-there f l k t = omega (arith, t .more f, bit-same f f refl)
+
+-- the lowest of a rising list
+pub taken-first : (f : ℕ) (l k : List ℕ) → k ≡ f ∷ l → Rising k → Taken f l k
+taken-first f l k e r = record { more = λ x. rw e; long = ap length e; gone = rising-head f l (rw e at r) }
 
 -- a free frame is a frame
 pub free-below : (s : State) → Frames s → (f : ℕ) → 0 < occurs f (s .frames) → f < s .frameCount
@@ -67,10 +76,10 @@ module _ (m n : Mem) (s : State) (b p f : ℕ) (u : Table) (firsts : (c : ℕ) �
   entry-same c q = ap (λ (x : ℕ). x + q) (firsts c)
 
   -- PAGE p GETS THE FREE FRAME f
-  pub framesAre-taken : FramesAre m s → (fs : List ℕ) → s .frames ≡ f ∷ fs → occurs f fs ≡ 0 → Pooled down m n f (suc (entryAt m b p)) → u .pages p .frame ≡ some f
+  pub framesAre-taken : FramesAre m s → (fs : List ℕ) → Taken f fs (s .frames) → Pooled down m n f (suc (entryAt m b p)) → u .pages p .frame ≡ some f
       → ((q : ℕ) → (q ≡ p → ⊥) → q < u .size → q < s .tables b .size) → FramesAre n (paged s b u fs)
-  framesAre-taken r fs first out t now size = frames-of n (paged s b u fs)
-      (take-counted m n (s .frameCount) f (suc (entryAt m b p)) fs (rw first at (counted-of m s r)) out t)
+  framesAre-taken r fs taken t now size = frames-of n (paged s b u fs)
+      (take-counted m n (s .frameCount) f (suc (entryAt m b p)) fs (s .frames) (counted-of m s r) taken t)
       (λ c q g l h e. bool (eqb c b)
       (λ d. ⊎-elim
       (λ (y : q ≡ p). new c q g d y (some-is f g (sym now ∙ ap (λ (x : ℕ). u .pages x .frame) (sym y) ∙ (rw d at e))))
@@ -79,7 +88,7 @@ module _ (m n : Mem) (s : State) (b p f : ℕ) (u : Table) (firsts : (c : ℕ) �
       (λ d. old c q g (r .held c q g l (rw d at h) (rw d at e))))
     where
       free : m (owner f) ≡ 0
-      free = r .free f (rw first (occurs-head f fs))
+      free = r .free f (taken-there f fs (s .frames) taken)
 
       new : (c q g : ℕ) → eqb c b ≡ true → q ≡ p → g ≡ f → n (owner g) ≡ suc (entryAt n c q)
       new c q g d y z = rw (z, y, eqb-true c b d) (t .own ∙ ap suc (sym (entry-same b p)))
@@ -117,8 +126,5 @@ module _ (s : State) (b : ℕ) (u : Table) (lb : b < s .tableCount) (w : Frames 
   with-pages : (g : ℕ) → (sum (s .tableCount) λ c. owned (put (s .tables) b u c) g) + owned (s .tables b) g ≡ pagesWith s g + owned u g
   with-pages g = sum-put (λ t. owned t g) (s .tableCount) (s .tables) b u lb
 
-  pub frames-taken : (f : ℕ) (fs : List ℕ) → s .frames ≡ f ∷ fs → ((g : ℕ) → owned u g ≡ owned (s .tables b) g + bit (eqb g f)) → Frames (paged s b u fs)
-  frames-taken f fs e h = record {
-    once = λ g. let o : pagesWith s g + (bit (eqb g f) + occurs g fs) ≡ bit (ltb g (s .frameCount)) = rw e at (w .once g) in omega (arith, o, with-pages g, h g);
-    rising = rising-tail f fs (rw e at (w .rising));
-  }
+  pub frames-taken : (f : ℕ) (fs : List ℕ) → Taken f fs (s .frames) → Rising fs → ((g : ℕ) → owned u g ≡ owned (s .tables b) g + bit (eqb g f)) → Frames (paged s b u fs)
+  frames-taken f fs t r h = record { once = λ g. omega (arith, w .once g, t .more g, with-pages g, h g); rising = r }

@@ -66,6 +66,12 @@ group-bit z g f h = ⊎-elim
 abbrev pub More : ℕ → List ℕ → List ℕ → Type 0
 More f l k = (x : ℕ) → occurs x k ≡ bit (eqb x f) + occurs x l
 
+-- a list from which f, which stands in it once, is taken: any frame of a list of free ones
+pub record Taken (f : ℕ) (l k : List ℕ) : Type 0 where
+  pub more : More f l k
+  pub long : length k ≡ suc (length l)
+  pub gone : occurs f l ≡ 0
+
 pub more-group : (f : ℕ) (l k : List ℕ) → More f l k → (z g : ℕ) → 0 < z → inGroup k z g ≡ bit (eqb g (f / z)) + inGroup l z g
 more-group f l k e z g h =
     sum-equal z (λ j. occurs (g * z + j) k) (λ j. bit (eqb (g * z + j) f) + occurs (g * z + j) l) (λ j i. e (g * z + j))
@@ -113,16 +119,16 @@ module _ (step : ℕ → ℕ) (m n : Mem) (f o : ℕ) (p : Pooled step m n f o) 
 
 module _ (m n : Mem) (c f o : ℕ) (l : List ℕ) where
   -- A FREE FRAME IS TAKEN
-  pub take-counted : Counted m c (f ∷ l) → occurs f l ≡ 0 → Pooled down m n f o → Counted n c l
-  take-counted r out p = record {
+  pub take-counted : (k : List ℕ) → Counted m c k → Taken f l k → Pooled down m n f o → Counted n c l
+  take-counted k r t p = record {
     free = λ g h. pooled-owners down m n f o p g (n (owner g) ≡ 0)
-        (λ (e : g ≡ f) q. let d : occurs g l ≡ 0 = rw e out in absurd (omega arith))
-        (λ e q. q ∙ r .free g (omega arith));
-    groups = λ i j g h. let k : inGroup (f ∷ l) (span i) g ≡ bit (eqb g (f / span i)) + inGroup l (span i) g = more-group f l (f ∷ l) (λ x. refl) (span i) g (span-some i) in
+        (λ (e : g ≡ f) q. let d : occurs g l ≡ 0 = rw e (t .gone) in absurd (omega arith))
+        (λ e q. q ∙ r .free g (omega (arith, t .more g)));
+    groups = λ i j g h. let k : inGroup k (span i) g ≡ bit (eqb g (f / span i)) + inGroup l (span i) g = more-group f l k (t .more) (span i) g (span-some i) in
         pooled-groups down m n f o p (λ i g. n (group i g) ≡ inGroup l (span i) g) i j g
         (λ b q. omega (arith, r .groups i j g h))
         (λ b q. omega (arith, r .groups i j g h));
-    count = p .count ∙ omega (arith, r .count);
+    count = p .count ∙ omega (arith, r .count, t .long);
   }
 
   -- A FRAME IS GIVEN BACK

@@ -28,7 +28,7 @@ use Rattle.layout.specs.Sizes.{pageSize, number32Max}
 use Rattle.layout.specs.RegionNames.{regionRoot, regionOwner, regionGroup16}
 use Rattle.representation.specs.Represents.{entryAt, slotWord, TableIs, FramesAre, isMarked}
 use Rattle.representation.specs.Told.{marked-full}
-use Rattle.storage.specs.Order.{occurs-head, head-in}
+use Rattle.storage.specs.Order.{head-in}
 use Rattle.storage.specs.Sight.{Spot, Spot.sl, look, linkFrame, reals, writesAll, length-all}
 use Rattle.storage.specs.Slots.{Seen, see, unsee, free-vacant}
 use Rattle.storage.specs.Ops.{up, joinP, joinW}
@@ -38,8 +38,8 @@ use Rattle.storage.specs.Whole.{Placed}
 use Rattle.storage.specs.Reps.{Held, ready-of}
 use Rattle.frames.specs.Paged.{OnlyPaged, has-owner, free-alone, paged-first, paged-rows}
 use Rattle.frames.specs.Whole.{paged, placed-paged, held-paged-marks}
-use Rattle.frames.specs.Pool.{Pooled, down}
-use Rattle.frames.specs.Frames.{framesAre-taken, rising-head, free-below, some-is}
+use Rattle.frames.specs.Pool.{Pooled, down, Taken}
+use Rattle.frames.specs.Frames.{framesAre-taken, taken-there, free-below, some-is}
 use Rattle.frames.specs.Done.{pool-look}
 use Rattle.frames.specs.Words.{pooled-between, paged-pool, Steps, take-steps}
 use Rattle.growth.specs.Words.{slotsP, builtW, orderP, entryP, fresh, sizeWith, detachedWith, joinedW, attachW}
@@ -69,10 +69,10 @@ length-attach ws sh b p f = length-writes (joinedW ws sh b p f) sh (stepP down (
 marked-here : (x : Slot) (g : ℕ) → x ≡ vacant g → isMarked x ≡ true → ⊥
 marked-here x g e d = clash (sym (ap isMarked e) ∙ d) refl
 
-module _ (ws : List ℕ) (sh : Shape) (s : State) (h : Held ws sh s) (b : ℕ) (l : b < s .tableCount) (w : Frames s) (p f : ℕ) (fs : List ℕ) (first : s .frames ≡ f ∷ fs)
+module _ (ws : List ℕ) (sh : Shape) (s : State) (h : Held ws sh s) (b : ℕ) (l : b < s .tableCount) (w : Frames s) (p f : ℕ) (fs : List ℕ) (taken : Taken f fs (s .frames))
     (room : Room (s .tables b) p) (ds : List ℕ) (turn : (p ≡ s .tables b .size) ⊎ (s .tables b .detached ≡ p ∷ ds)) where
   free-here : 0 < occurs f (s .frames)
-  free-here = rw first (occurs-head f fs)
+  free-here = taken-there f fs (s .frames) taken
 
   frame-low : f < s .frameCount
   frame-low = free-below s w f free-here
@@ -129,7 +129,7 @@ module _ (ws : List ℕ) (sh : Shape) (s : State) (h : Held ws sh s) (b : ℕ) (
   frames-are : FramesAre (load (attachW ws sh b p f) sh) (paged s b (attach till (s .tables b) p f) fs)
   unfolding attach
   frames-are = framesAre-taken (load ws sh) (load (attachW ws sh b p f) sh) s b p f (attach till (s .tables b) p f) (paged-first b f (load ws sh) (load (attachW ws sh b p f) sh) only)
-      (λ q n. rw (ne-eqb q p n)) (h .reps .memory .frames) fs first (rising-head f fs (rw first at (w .rising))) pooled (rw (eq-eqb p p refl))
+      (λ q n. rw (ne-eqb q p n)) (h .reps .memory .frames) fs taken pooled (rw (eq-eqb p p refl))
       (λ q n k. below (load ws sh) (look (load ws sh) b) (look (mJoined (load ws sh) b p f) b) (s .tables b) seen (h .placed .sound b l) p f room ds turn
       (joined-is ws sh b (s .tables b) p f ripe) q n k)
 

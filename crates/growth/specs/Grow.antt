@@ -20,7 +20,7 @@ use Rattle.model.specs.Sums.{without-none}
 use Rattle.model.specs.Bounds.{pages-max, batch-max}
 use Rattle.invariant.specs.Pages.{Sane, till-sane}
 use Rattle.invariant.specs.Orders.{Sound, Room, attach-sound}
-use Rattle.invariant.specs.Frames.{Grows, pages-grow, reserve-length, attachAll-owned}
+use Rattle.invariant.specs.Frames.{Grows, pages-grow, reserve-length, attachAll-owned, rising-tail}
 use Rattle.layout.specs.declared.Shape.{Shape}
 use Rattle.layout.specs.Layout.{Addr.reg, Mem, head, entry, load}
 use Rattle.layout.specs.Fields.{headPages, headFirstDetached, entryNext}
@@ -30,7 +30,7 @@ use Rattle.representation.specs.Represents.{entryAt, Linked, TableIs}
 use Rattle.storage.specs.Reps.{Held}
 use Rattle.frames.specs.Paged.{paged-high}
 use Rattle.frames.specs.Whole.{paged}
-use Rattle.frames.specs.Frames.{frames-taken}
+use Rattle.frames.specs.Frames.{frames-taken, taken-first}
 use Rattle.frames.specs.Lowest.{lowest-free}
 use Rattle.growth.specs.Words.{pageAt, attachW, attachNextW, attachAllW, advanceW, growW}
 use Rattle.growth.specs.Attach.{only, attach-held}
@@ -136,17 +136,17 @@ module _ (sh : Shape) (b : ℕ) where
       → p ≡ nextPage (s .tables b .detached) (s .tables b .size) → Held (attachNextW ws sh b) sh (paged s b (attach till (s .tables b) p f) fs)
   next-held ws s h l w p f fs first room e =
       let n = next-turn (s .tables b .detached) (s .tables b .size) p e in
-      rw (next-is ws s h l w p f fs first room e) (attach-held ws sh s h b l w p f fs first room (n .0) (n .1))
+      rw (next-is ws s h l w p f fs first room e) (attach-held ws sh s h b l w p f fs (taken-first f fs (s .frames) first (w .rising)) room (n .0) (n .1))
 
   next-frames : (z : Sizes) (s : State) → b < s .tableCount → Frames s → (p f : ℕ) (fs : List ℕ) → s .frames ≡ f ∷ fs → Room (s .tables b) p → Frames (paged s b (attach z (s .tables b) p f) fs)
-  next-frames z s l w p f fs first room = frames-taken s b (attach z (s .tables b) p f) l w f fs first
+  next-frames z s l w p f fs first room = frames-taken s b (attach z (s .tables b) p f) l w f fs (taken-first f fs (s .frames) first (w .rising)) (rising-tail f fs (rw first at (w .rising)))
       (λ g. attachAll-owned z (p ∷ []) (f ∷ []) (s .tables b) (omega arith) (room, λ x. tt) g ∙ omega arith)
 
   next-kept : (ws : List ℕ) (s : State) → Held ws sh s → b < s .tableCount → Frames s → (p f : ℕ) (fs : List ℕ) → s .frames ≡ f ∷ fs → Room (s .tables b) p
       → p ≡ nextPage (s .tables b .detached) (s .tables b .size) → Kept sh ws (attachNextW ws sh b)
   next-kept ws s h l w p f fs first room e =
       let n = next-turn (s .tables b .detached) (s .tables b .size) p e in
-      rw (next-is ws s h l w p f fs first room e) (paged-high b f (load ws sh) (load (attachW ws sh b p f) sh) (only ws sh s h b l w p f fs first room (n .0) (n .1)))
+      rw (next-is ws s h l w p f fs first room e) (paged-high b f (load ws sh) (load (attachW ws sh b p f) sh) (only ws sh s h b l w p f fs (taken-first f fs (s .frames) first (w .rising)) room (n .0) (n .1)))
 
   -- THE PAGES of a plan
   all-both : (ps : List ℕ) (ws : List ℕ) (s : State) → Held ws sh s → b < s .tableCount → Frames s → Follows till (s .tables b) ps → length ps ≤ length (s .frames)
