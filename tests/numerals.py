@@ -55,7 +55,6 @@ layout ROW: row_word put_row
 layout ITEM: item_word put_item
 storage ENTRY: page_word put_page put_page_link
 storage SLOT: frame_word put_frame slot_word put_slot_word put_slot_link
-detach SLOT: word_in
 request: field_in field find read_three fits_too"""
 RECORDS = {(line.split()[0], name): line.split(":")[0].split()[1] for line in ACCESSORS.splitlines() if " " in line.split(":")[0] for name in line.split(": ")[1].split()}
 GROUPS = "free frames are counted in groups of 16, of 256 and of 4,096 (docs/formats.md, the regions)"
@@ -490,7 +489,7 @@ class Look:
 WRONG = [
     ("crates/orders/src/lib.rt", "let tag = layout::cell_word(s, sh, fr - 1, k % size::PAGE_SIZE, field::SLOT_TAG);", "let tag = layout::cell_word(\n        s,\n        sh,\n        fr - 1,\n        k % size::PAGE_SIZE,\n        0,\n    );", "a", "0"),
     ("crates/growth/src/lib.rt", "storage::put_page(s, sh, e, p, field::ENTRY_BUSY, 0);", "storage::put_page(s, sh, e, p, 2, 0);", "a", "2"),
-    ("crates/detach/src/lib.rt", "layout::cell_word(s, sh, fr - 1, j, f)", "layout::cell_word(s, sh, fr - 1, j, f + 1)", "a", "1"),
+    ("crates/storage/src/lib.rt", "layout::cell_word(s, sh, fr - 1, j, f)", "layout::cell_word(s, sh, fr - 1, j, f + 1)", "a", "1"),
     ("crates/head/src/lib.rt", "let life = layout::head_word(s, sh, b, field::HEAD_LIFECYCLE);", "let two = 1;\n    let life = layout::head_word(s, sh, b, two);", "a", "two"),
     ("crates/runner/src/lib.rt", "let op = request::field(rq, at, field::FIELD_OP);", "let op = request::field(rq, at, 0);", "a", "0"),
     ("crates/orders/src/lib.rt", "if tag != value::TAG_VACANT {", "if tag != 0 {", "b", "0"),

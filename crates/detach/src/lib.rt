@@ -5,7 +5,6 @@
 // A page leaves its table, over the state's words: its slots leave the free order, and its frame is given back.
 ghost use mathlib.Core.Path.{_≡_};
 ghost use Rattle.layout.specs.Layout.{load as loadAt};
-ghost use Rattle.representation.specs.Represents.{wordIn};
 ghost use Rattle.answer.specs.Does.{both};
 ghost use Rattle.storage.specs.Ops.{leaveW};
 ghost use Rattle.format.specs.Fields.{tableField};
@@ -18,23 +17,13 @@ use layout::field;
 use layout::size;
 use layout::value;
 
-// Word f of slot j of a frame, given plus 1; 0 where there is none.
-fn word_in(s: &[u64], sh: Shape, fr: u64, j: u64, f: u64) -> u64
-    ensures { λ r. ⌜ r ≡ wordIn (loadAt (now (s .entry)) sh) fr j f ⌝ }
-{
-    if fr == 0 {
-        return 0;
-    }
-    layout::cell_word(s, sh, fr - 1, j, f)
-}
-
 // Slot j of the frame fr, which is vacant, leaves the free order of the table of a head, wherever it stands in it: the head then. Its own words stay.
 fn unlink_slot(s: &mut [u64], sh: Shape, h: TableHead, fr: u64, j: u64) -> TableHead
     ensures words { λ _. ⌜ now (s .exit) ≡ withoutW (now (s .entry)) sh h fr j ⌝ }
     ensures head { λ r. ⌜ r ≡ withoutBy (loadAt (now (s .entry)) sh) h fr j ⌝ }
 {
-    let n = word_in(s, sh, fr, j, field::SLOT_NEXT_FREE);
-    let q = word_in(s, sh, fr, j, field::SLOT_PREVIOUS_FREE);
+    let n = storage::frame_word(s, sh, fr, j, field::SLOT_NEXT_FREE);
+    let q = storage::frame_word(s, sh, fr, j, field::SLOT_PREVIOUS_FREE);
     let qf = storage::link_frame(s, sh, h, q);
     let nf = storage::link_frame(s, sh, h, n);
     storage::put_slot_link(s, sh, qf, q, field::SLOT_NEXT_FREE, n);

@@ -86,7 +86,7 @@ pub fn link_frame(s: &[u64], sh: Shape, h: TableHead, l: u64) -> u64
 }
 
 // Word f of slot j of a frame, given plus 1; 0 where there is none.
-fn frame_word(s: &[u64], sh: Shape, fr: u64, j: u64, f: u64) -> u64
+pub fn frame_word(s: &[u64], sh: Shape, fr: u64, j: u64, f: u64) -> u64
     ensures { λ r. ⌜ r ≡ wordIn (loadAt (now (s .entry)) sh) fr j f ⌝ }
 {
     if fr == 0 {
