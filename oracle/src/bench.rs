@@ -19,7 +19,7 @@ const ROWS: u64 = 16;
 /// Requests in a list, about.
 const LONG: usize = 20_000;
 const TIMES: usize = 15;
-/// How often the whole is measured, each time with memory of its own: a row is the median. Single rows of one pass move by a fifth, by where their memory lies.
+/// How often the whole is measured, each time with memory of its own: a row is the median. Single rows of one pass move by a fifth.
 const PASSES: usize = 5;
 /// Pairs of runs for a difference, and how many times its uncertainty a difference must be to be told.
 const PAIRS: usize = 1000;
