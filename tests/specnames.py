@@ -197,7 +197,7 @@ WRONG = [
     ("crates/growth/specs/Attach.antt", "b p f regionOwner g 0 0 (λ", "b p f 3 g 0 0 (λ", "3"),
     ("crates/create/specs/Memory.antt", "new-size b = new-head b headPages ∙", "new-size b = new-head b 5 ∙", "5"),
     ("crates/book/specs/Close.antt", "next = p .roots rootNextId;", "next = p .roots 5;", "5"),
-    ("crates/counts/specs/Objects.antt", "(field-at (i + 5) objectStage (omega arith) refl)", "(field-at (i + 5) 5 (omega arith) refl)", "5"),
+    ("crates/counts/specs/Objects.antt", "(field-at (i + objectStage) objectStage (omega arith) refl)", "(field-at (i + objectStage) 5 (omega arith) refl)", "5"),
     ("crates/representation/specs/Represents.antt", "m (item r j itemMoved) ≡ k", "m (item r j 1) ≡ k", "1"),
     ("crates/written/specs/Rows.antt", "row-is s m shows i x h e rowId (omega arith)", "row-is s m shows i x h e 0 (omega arith)", "0"),
 ]

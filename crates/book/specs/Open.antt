@@ -104,13 +104,13 @@ module _ (ws : List ℕ) (sh : Shape) (s : State) (h : Held ws sh s) (free : len
   unfolding openP
   row-3 = sees (row x rowLength) ∙ rw (eq-eqb (spare (load ws sh)) (spare (load ws sh)) refl)
 
-  root-6 : load (openW ws sh what b c) sh (root rootUsedRows) ≡ up (load ws sh (root rootUsedRows))
+  root-used : load (openW ws sh what b c) sh (root rootUsedRows) ≡ up (load ws sh (root rootUsedRows))
   unfolding openP
-  root-6 = sees (root rootUsedRows)
+  root-used = sees (root rootUsedRows)
 
-  root-5 : load (openW ws sh what b c) sh (root rootNextId) ≡ up (load ws sh (root rootNextId))
+  root-next : load (openW ws sh what b c) sh (root rootNextId) ≡ up (load ws sh (root rootNextId))
   unfolding openP
-  root-5 = sees (root rootNextId)
+  root-next = sees (root rootNextId)
 
   -- a place in use is another
   apart : (z : ℕ) → load ws sh (rank z) < length (s .book .rows) → z ≡ spare (load ws sh) → ⊥
@@ -145,8 +145,8 @@ module _ (ws : List ℕ) (sh : Shape) (s : State) (h : Held ws sh s) (free : len
         book-held ws (openW ws sh what b c) sh s (addRow y s .book) h books refl
         (λ d l k mk. row-off (slotWord (load ws sh) d k slotPlace) (apart (slotWord (load ws sh) d k slotPlace) (r .book .marks d k l mk .1)) rowId)
         (record {
-          next = root-5 ∙ ap up (r .book .next) ∙ omega arith;
-          used = root-6 ∙ ap up (r .book .used) ∙ omega (arith, more, r .capacity);
+          next = root-next ∙ ap up (r .book .next) ∙ omega arith;
+          used = root-used ∙ ap up (r .book .used) ∙ omega (arith, more, r .capacity);
           rows = rows-all (load (openW ws sh what b c) sh) rs (opened-row y p);
           places = λ j l. rw (index-same j) (r .book .places j l .0, rank-same (load ws sh (index j)) ∙ r .book .places j l .1);
           marks = λ d k l mk. let w = r .book .marks d k l mk in

@@ -19,7 +19,7 @@ use Rattle.model.specs.Tests.{bit-small}
 use Rattle.layout.specs.declared.Shape.{Shape}
 use Rattle.layout.specs.Layout.{Addr, Addr.reg, Mem, total, root, head, entry, cell, row, item, index, objectsAt, object, isIn, in-no, same, same-all, place, place-low, in-object, load, save, load-out, length-save, save-past, loads-same}
 use Rattle.layout.specs.Fields.{rootUsedRows, headPages, headFirstEntry, entryFrame, slotTag, slotObject, objectActive, rowKind, rowLength, itemObject}
-use Rattle.layout.specs.Sizes.{pageSize, slotsMax, batchMax}
+use Rattle.layout.specs.Sizes.{pageSize, slotsMax, batchMax, objectSize}
 use Rattle.layout.specs.RegionNames.{regionObject}
 use Rattle.counts.specs.Found.{gather, isOccupied, holdsHandles, onLink, inCell, inPage, inTable, inRow, inBook, found, handles, countsB}
 use Rattle.counts.specs.Shift.{plus, unit, shiftW, shifted, length-shift, length-shifted, load-other, object-load, object-save}
@@ -182,9 +182,9 @@ settled-kept ws sh os n low within = loads-same (lowered vs sh n) ws sh (length-
 
     at : (a : Addr) → load (lowered vs sh n) sh a ≡ load ws sh a
     at (reg k x y f) = bool (eqb k regionObject)
-        (λ ek. bool (eqb f 6)
+        (λ ek. bool (eqb f objectActive)
         (λ ef. bool (eqb y 0)
-        (λ ey. rw (eqb-true k 8 ek, eqb-true f 6 ef, eqb-true y 0 ey) (count x))
+        (λ ey. rw (eqb-true k regionObject ek, eqb-true f objectActive ef, eqb-true y 0 ey) (count x))
         (λ ey. rest (reg k x y f) (λ o. same-all regionObject o 0 objectActive k x y f ∙ rw (ek, ef, ey))))
         (λ ef. rest (reg k x y f) (λ o. same-all regionObject o 0 objectActive k x y f ∙ rw (ek, ef))))
         (λ ek. rest (reg k x y f) (λ o. same-all regionObject o 0 objectActive k x y f ∙ rw ek))
@@ -275,20 +275,20 @@ halves-few ws sh os n h within none = all-less n (sh .objects) _ h
 module _ (ws : List ℕ) (sh : Shape) where
   -- `settle_one`
   module _ (first o : ℕ) (h : first ≡ objectsAt sh) (l : o < sh .objects) where
-    count-at : getD ws (first + o * 8 + 6) 0 ≡ load ws sh (object o objectActive)
-    count-at = object-load ws sh first o h l (first + o * 8 + 6) objectActive (omega arith) refl
+    count-at : getD ws (first + o * objectSize + objectActive) 0 ≡ load ws sh (object o objectActive)
+    count-at = object-load ws sh first o h l (first + o * objectSize + objectActive) objectActive (omega arith) refl
 
-    pub one-none : getD ws (first + o * 8 + 6) 0 ≡ 0 → (ws ≡ lowerW ws sh o) × (true ≡ halfB (load ws sh (object o objectActive)))
+    pub one-none : getD ws (first + o * objectSize + objectActive) 0 ≡ 0 → (ws ≡ lowerW ws sh o) × (true ≡ halfB (load ws sh (object o objectActive)))
     unfolding lowerW
     one-none z = let c : load ws sh (object o objectActive) ≡ 0 = sym count-at ∙ z in
-        (sym (set-getD ws (first + o * 8 + 6) 0) ∙ object-save ws sh first o h l (first + o * 8 + 6) objectActive (omega arith) refl (getD ws (first + o * 8 + 6) 0) ∙ rw (z, c), rw c)
+        (sym (set-getD ws (first + o * objectSize + objectActive) 0) ∙ object-save ws sh first o h l (first + o * objectSize + objectActive) objectActive (omega arith) refl (getD ws (first + o * objectSize + objectActive) 0) ∙ rw (z, c), rw c)
 
-    pub one-words : (vs : List ℕ) → vs ≡ set ws (first + o * 8 + 6) (getD ws (first + o * 8 + 6) 0 % 4294967296) → vs ≡ lowerW ws sh o
+    pub one-words : (vs : List ℕ) → vs ≡ set ws (first + o * objectSize + objectActive) (getD ws (first + o * objectSize + objectActive) 0 % 4294967296) → vs ≡ lowerW ws sh o
     unfolding lowerW
-    one-words vs e = e ∙ object-save ws sh first o h l (first + o * 8 + 6) objectActive (omega arith) refl (getD ws (first + o * 8 + 6) 0 % 4294967296)
+    one-words vs e = e ∙ object-save ws sh first o h l (first + o * objectSize + objectActive) objectActive (omega arith) refl (getD ws (first + o * objectSize + objectActive) 0 % 4294967296)
         ∙ ap (λ (x : ℕ). save ws sh (object o objectActive) (x % 4294967296)) count-at
 
-    pub one-answer : (r : Bool) → r ≡ eqb (getD ws (first + o * 8 + 6) 0 % 4294967296) (getD ws (first + o * 8 + 6) 0 / 4294967296) → r ≡ halfB (load ws sh (object o objectActive))
+    pub one-answer : (r : Bool) → r ≡ eqb (getD ws (first + o * objectSize + objectActive) 0 % 4294967296) (getD ws (first + o * objectSize + objectActive) 0 / 4294967296) → r ≡ halfB (load ws sh (object o objectActive))
     one-answer r e = e ∙ ap halfB count-at
 
   -- `settle`

@@ -217,16 +217,16 @@ fields-are m o a b c d g f e r pa pb pc pd pg pf pe q = q ∙ rw (pa, pb, pc, pd
 
 -- `object_ok`: the fields stand one after the other
 module _ (ws : List ℕ) (sh : Shape) (first o : ℕ) (h : first ≡ objectsAt sh) (l : o < sh .objects) where
-  field-at : (i f : ℕ) → f < objectSize → i ≡ first + o * 8 + f → getD ws i 0 ≡ load ws sh (object o f)
+  field-at : (i f : ℕ) → f < objectSize → i ≡ first + o * objectSize + f → getD ws i 0 ≡ load ws sh (object o f)
   field-at i f k e = object-load ws sh first o h l i f k e
 
   pub fields-read : (r : Bool)
-      → r ≡ objectB (fields (getD ws (first + o * 8) 0) (getD ws (first + o * 8 + 1) 0) (getD ws (first + o * 8 + 2) 0) (getD ws (first + o * 8 + 4) 0) (getD ws (first + o * 8 + 5) 0)
-      (getD ws (first + o * 8 + 6) 0) (getD ws (first + o * 8 + 7) 0)) 0
+      → r ≡ objectB (fields (getD ws (first + o * objectSize) 0) (getD ws (first + o * objectSize + objectKind) 0) (getD ws (first + o * objectSize + objectClass) 0) (getD ws (first + o * objectSize + objectExportable) 0) (getD ws (first + o * objectSize + objectStage) 0)
+      (getD ws (first + o * objectSize + objectActive) 0) (getD ws (first + o * objectSize + objectLimit) 0)) 0
       → r ≡ objectB (load ws sh) o
-  fields-read r q = let i : ℕ = first + o * 8 in
-      fields-are (load ws sh) o _ _ _ _ _ _ _ r (field-at i objectKoid (omega arith) (omega arith)) (field-at (i + 1) objectKind (omega arith) refl) (field-at (i + 2) objectClass (omega arith) refl)
-      (field-at (i + 4) objectExportable (omega arith) refl) (field-at (i + 5) objectStage (omega arith) refl) (field-at (i + 6) objectActive (omega arith) refl) (field-at (i + 7) objectLimit (omega arith) refl) q
+  fields-read r q = let i : ℕ = first + o * objectSize in
+      fields-are (load ws sh) o _ _ _ _ _ _ _ r (field-at i objectKoid (omega arith) (omega arith)) (field-at (i + objectKind) objectKind (omega arith) refl) (field-at (i + objectClass) objectClass (omega arith) refl)
+      (field-at (i + objectExportable) objectExportable (omega arith) refl) (field-at (i + objectStage) objectStage (omega arith) refl) (field-at (i + objectActive) objectActive (omega arith) refl) (field-at (i + objectLimit) objectLimit (omega arith) refl) q
 
 -- `fields_ok`: no upper part stands, and with every test before the last passed
 pub object-last : (m : Mem) (o a b c d e f g : ℕ) (r : Bool) → a ≡ m (object o objectKoid) → b ≡ m (object o objectKind) → c ≡ m (object o objectClass) → d ≡ m (object o objectExportable) → e ≡ m (object o objectLimit) → f ≡ m (object o objectActive)

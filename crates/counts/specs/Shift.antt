@@ -7,6 +7,7 @@ use native.Mathlib.Omega.{arith}
 use lib.ListN.{length, getD, set, length-set}
 use lib.Seq.{getD-set-other}
 use borrow.Author.Tests.{eq-eqb, ne-eqb}
+use Rattle.layout.specs.Sizes.{objectSize}
 use Rattle.words.specs.Pick.{bool, clash}
 use Rattle.layout.specs.declared.Shape.{Shape}
 use Rattle.layout.specs.Regions.{region, one-place, inside-is, in-place}
@@ -74,7 +75,7 @@ shifted-off ws sh d (o ∷ os) k x y f h = shifted-off (shiftW ws sh d o) sh d o
 
 -- ---- where the fields of object o stand
 
-module _ (ws : List ℕ) (sh : Shape) (first o : ℕ) (h : first ≡ objectsAt sh) (l : o < sh .objects) (i f : ℕ) (k : f < 8) (e : i ≡ first + o * 8 + f) where
+module _ (ws : List ℕ) (sh : Shape) (first o : ℕ) (h : first ≡ objectsAt sh) (l : o < sh .objects) (i f : ℕ) (k : f < objectSize) (e : i ≡ first + o * objectSize + f) where
   object-place : i ≡ place (length ws) sh (object o f)
   object-place = e ∙ sym (in-place (region (layout sh) regionObject) o 0 f (length ws) (in-object sh o f l k) ∙ omega arith)
 
@@ -87,7 +88,7 @@ module _ (ws : List ℕ) (sh : Shape) (first o : ℕ) (h : first ≡ objectsAt s
   object-save v = ap (λ (j : ℕ). set ws j v) object-place
 
 -- `note_handle`
-pub shift-at : (ws vs : List ℕ) (sh : Shape) (first o : ℕ) → first ≡ objectsAt sh → o < sh .objects → vs ≡ set ws (first + o * 8 + 6) (plus (getD ws (first + o * 8 + 6) 0) unit) → vs ≡ shiftW ws sh unit o
+pub shift-at : (ws vs : List ℕ) (sh : Shape) (first o : ℕ) → first ≡ objectsAt sh → o < sh .objects → vs ≡ set ws (first + o * objectSize + objectActive) (plus (getD ws (first + o * objectSize + objectActive) 0) unit) → vs ≡ shiftW ws sh unit o
 unfolding shiftW
-shift-at ws vs sh first o h l e = let i : ℕ = first + o * 8 + 6 in
+shift-at ws vs sh first o h l e = let i : ℕ = first + o * objectSize + objectActive in
     e ∙ object-save ws sh first o h l i objectActive (omega arith) refl (plus (getD ws i 0) unit) ∙ ap (λ (c : ℕ). save ws sh (object o objectActive) (plus c unit)) (object-load ws sh first o h l i objectActive (omega arith) refl)

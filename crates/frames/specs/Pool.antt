@@ -124,7 +124,7 @@ module _ (m n : Mem) (c f o : ℕ) (l : List ℕ) where
     free = λ g h. pooled-owners down m n f o p g (n (owner g) ≡ 0)
         (λ (e : g ≡ f) q. let d : occurs g l ≡ 0 = rw e (t .gone) in absurd (omega arith))
         (λ e q. q ∙ r .free g (omega (arith, t .more g)));
-    groups = λ i j g h. let k : inGroup k (span i) g ≡ bit (eqb g (f / span i)) + inGroup l (span i) g = more-group f l k (t .more) (span i) g (span-some i) in
+    groups = λ i j g h. let e : inGroup k (span i) g ≡ bit (eqb g (f / span i)) + inGroup l (span i) g = more-group f l k (t .more) (span i) g (span-some i) in
         pooled-groups down m n f o p (λ i g. n (group i g) ≡ inGroup l (span i) g) i j g
         (λ b q. omega (arith, r .groups i j g h))
         (λ b q. omega (arith, r .groups i j g h));

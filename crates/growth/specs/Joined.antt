@@ -127,14 +127,14 @@ module _ (ws : List ℕ) (sh : Shape) (b : ℕ) (t : Table) (p f : ℕ) (r : Rip
       let e3 : load w3 sh ≡ upds (load w2 sh) x = load-writes w2 sh (omega (arith, r .ready .room)) x
       (in-head sh b headPages tb (omega arith), (in-head sh b headFirstDetached tb (omega arith), (in-entry sh (e + p) entryFrame pe (omega arith), (in-entry sh (e + p) entryHigh pe (omega arith), (in-entry sh (e + p) entryBusy pe (omega arith), tt))))) in
       let d3 : load w3 sh ≡ mEntry (load ws sh) b p f = e3 ∙ ap (λ (k : Mem). upds k x) (e2 ∙ ap (λ (k : Mem). updsAll k o) e1) in
-      let q8 : load w3 sh (head b headFirstEmpty) ≡ load ws sh (head b headFirstEmpty) = ap (λ (k : Mem). k (head b headFirstEmpty)) d3 ∙ entry-head (load ws sh) b p f b headFirstEmpty (λ a c. omega arith) (λ y. omega arith) in
-      let q10 : load w3 sh (head b headFirstEntry) ≡ load ws sh (head b headFirstEntry) = ap (λ (k : Mem). k (head b headFirstEntry)) d3 ∙ entry-head (load ws sh) b p f b headFirstEntry (λ a c. omega arith) (λ y. omega arith) in
+      let kept-empty : load w3 sh (head b headFirstEmpty) ≡ load ws sh (head b headFirstEmpty) = ap (λ (k : Mem). k (head b headFirstEmpty)) d3 ∙ entry-head (load ws sh) b p f b headFirstEmpty (λ a c. omega arith) (λ y. omega arith) in
+      let kept-first : load w3 sh (head b headFirstEntry) ≡ load ws sh (head b headFirstEntry) = ap (λ (k : Mem). k (head b headFirstEntry)) d3 ∙ entry-head (load ws sh) b p f b headFirstEntry (λ a c. omega arith) (λ y. omega arith) in
       let y : List (List Write) = pageP e (load ws sh (head b headFirstEmpty)) entryPrevious (up p) ∷ (at (entry (e + p) entryNext) (load ws sh (head b headFirstEmpty)) ∷ []) ∷ (at (entry (e + p) entryPrevious) 0 ∷ []) ∷ (at (head b headFirstEmpty) (up p) ∷ []) ∷ [] in
       let e4 : load (writesAll w3 sh y) sh ≡ updsAll (load w3 sh) y = load-all w3 sh (omega (arith, r .ready .room)) y (
         in-pageP (load ws sh (head b headFirstEmpty)) entryPrevious (up p) (omega arith) (λ q z. omega (arith, empty-low q z, under)),
         ((in-entry sh (e + p) entryNext pe (omega arith), tt), ((in-entry sh (e + p) entryPrevious pe (omega arith), tt), ((in-head sh b headFirstEmpty tb (omega arith), tt), tt))),
       ) in
-      rw (q8, q10) (e4 ∙ ap (λ (k : Mem). updsAll k y) d3)
+      rw (kept-empty, kept-first) (e4 ∙ ap (λ (k : Mem). updsAll k y) d3)
 
   -- ALL ELSE is as before
   low-entry : (q i : ℕ) → q < t .limit → Pages (load ws sh) b f (entry (load ws sh (head b headFirstEntry) + q) i)

@@ -165,15 +165,15 @@ module _ (f : ℕ → ℕ) (z : f 0 ≡ 0) (ys : List ℕ) where
       let judge : Fields × List ℕ → Reading Fields = λ r. pick (goodRecord first (mustOf (must (r .0) opField)) (mayOf (must (r .0) opField)) m (r .0)) (some r) none in
       let t = then-some (readFields fieldCount m ws) judge (fs, rest) e in
       let a : Fields × List ℕ = t .0 in
-      let p = pick-some (goodRecord first (mustOf (must (a .0) 0)) (mayOf (must (a .0) 0)) m (a .0)) a (fs, rest) (t .2) in
+      let p = pick-some (goodRecord first (mustOf (must (a .0) opField)) (mayOf (must (a .0) opField)) m (a .0)) a (fs, rest) (t .2) in
       let same : a .0 ≡ fs = ap (λ (x : Fields × List ℕ). x .0) (p .1) in
       let left : a .1 ≡ rest = ap (λ (x : Fields × List ℕ). x .1) (p .1) in
-      let good : goodRecord first (mustOf (must fs 0)) (mayOf (must fs 0)) m fs ≡ true = ap (λ (x : Fields). goodRecord first (mustOf (must x 0)) (mayOf (must x 0)) m x) (sym same) ∙ p .0 in
+      let good : goodRecord first (mustOf (must fs opField)) (mayOf (must fs opField)) m fs ≡ true = ap (λ (x : Fields). goodRecord first (mustOf (must x opField)) (mayOf (must x opField)) m x) (sym same) ∙ p .0 in
       ap (λ (y : Reading Fields). andThen y judge) (fields-go fieldCount 0 m ws fs rest (t .1 ∙ ap some (p .1)))
       ∙ passes fs rest good
     where
-      passes : (fs : Fields) (rest : List ℕ) → goodRecord first (mustOf (must fs 0)) (mayOf (must fs 0)) m fs ≡ true
-          → pick {A = Reading Fields} (goodRecord first (mustOf (must (fieldsBy f 0 fs) 0)) (mayOf (must (fieldsBy f 0 fs) 0)) m (fieldsBy f 0 fs)) (some (fieldsBy f 0 fs, then-ys [] rest)) none ≡ some (fieldsBy f 0 fs, then-ys [] rest)
+      passes : (fs : Fields) (rest : List ℕ) → goodRecord first (mustOf (must fs opField)) (mayOf (must fs opField)) m fs ≡ true
+          → pick {A = Reading Fields} (goodRecord first (mustOf (must (fieldsBy f 0 fs) opField)) (mayOf (must (fieldsBy f 0 fs) opField)) m (fieldsBy f 0 fs)) (some (fieldsBy f 0 fs, then-ys [] rest)) none ≡ some (fieldsBy f 0 fs, then-ys [] rest)
       passes fs rest good = rw (must-same f fs opField refl, fit-by f (first ∷ drop 1 fieldKinds) fs 0 q, good)
 
   -- what a reading makes of the changed words

@@ -65,7 +65,7 @@ may-past (suc n) zero m ws p h = absurd (omega arith)
 may-past (suc n) (suc k) m ws p h = may-past n k (m / 2) ws (past (odd m) p) (omega arith)
 
 -- no map has more than 18 fields
-pub few : (m bit : ℕ) → bit ≤ 18 → ones (m % 2 ^ bit) ≤ 18
+pub few : (m bit : ℕ) → bit ≤ fieldCount → ones (m % 2 ^ bit) ≤ fieldCount
 few m bit h = omega (arith, ones-le bit (m % 2 ^ bit) (mod-lt m (pow-pos bit)))
 
 -- a bit by a shift
@@ -84,11 +84,11 @@ below-few m bit h = omega (arith, below-is m bit h, ones-le bit (m % 2 ^ bit) (m
 -- One field
 
 module _ (ws : List ℕ) (at map bit : ℕ) where
-  pub field-there : (n : ℕ) (r : Optional) → bit < 18 → n ≡ ones (map % 2 ^ bit) → r ≡ optional (here (odd (map / 2 ^ bit)) ws (at + n)) → r ≡ optional (may (fieldsFrom fieldCount map ws at) bit)
-  field-there n r h e p = p ∙ ap (λ (k : ℕ). optional (here (odd (map / 2 ^ bit)) ws (at + k))) e ∙ ap optional (sym (may-at 18 bit map ws at h))
+  pub field-there : (n : ℕ) (r : Optional) → bit < fieldCount → n ≡ ones (map % 2 ^ bit) → r ≡ optional (here (odd (map / 2 ^ bit)) ws (at + n)) → r ≡ optional (may (fieldsFrom fieldCount map ws at) bit)
+  field-there n r h e p = p ∙ ap (λ (k : ℕ). optional (here (odd (map / 2 ^ bit)) ws (at + k))) e ∙ ap optional (sym (may-at fieldCount bit map ws at h))
 
   pub field-past : fieldCount ≤ bit → Absent ≡ optional (may (fieldsFrom fieldCount map ws at) bit)
-  field-past h = ap optional (sym (may-past 18 bit map ws at h))
+  field-past h = ap optional (sym (may-past fieldCount bit map ws at h))
 
 module _ (ws : List ℕ) (at bit : ℕ) where
   pub find-there : (r : Optional) → r ≡ optional (may (fieldsFrom fieldCount (getD ws at 0) ws (at + 1)) bit) → r ≡ optional (may (fieldsAt ws at) bit)
@@ -127,15 +127,15 @@ three-there ws at map a b c r q p = p ∙ ap₂ (λ (m k : ℕ). threeAt (fields
 
 -- The place after a record
 
-pub end-in : (ws : List ℕ) (at n : ℕ) → at < length ws → n ≡ ones (getD ws at 0 % 2 ^ 18) → (at + 1) + n ≡ endAt ws at
+pub end-in : (ws : List ℕ) (at n : ℕ) → at < length ws → n ≡ ones (getD ws at 0 % 2 ^ fieldCount) → (at + 1) + n ≡ endAt ws at
 unfolding endAt
 end-in ws at n h e =
-    sym (ap (λ (b : Bool). pick b (after 18 (getD ws at 0) (suc at)) at) (lt-ltb at (length ws) h) ∙ after-ones 18 (getD ws at 0) (suc at)
+    sym (ap (λ (b : Bool). pick b (after fieldCount (getD ws at 0) (suc at)) at) (lt-ltb at (length ws) h) ∙ after-ones fieldCount (getD ws at 0) (suc at)
     ∙ ap (λ (k : ℕ). suc at + k) (sym e) ∙ ap (λ (k : ℕ). k + n) (sym (add-one at)))
 
 pub end-out : (ws : List ℕ) (at : ℕ) → length ws ≤ at → at ≡ endAt ws at
 unfolding endAt
-end-out ws at h = sym (ap (λ (b : Bool). pick b (after 18 (getD ws at 0) (suc at)) at) (le-ltb at (length ws) h))
+end-out ws at h = sym (ap (λ (b : Bool). pick b (after fieldCount (getD ws at 0) (suc at)) at) (le-ltb at (length ws) h))
 
 -- The words that are tested
 
@@ -174,19 +174,23 @@ apart m n k e o = go (odd (m / 2 ^ k)) refl
         let c : min (a % 2) (b % 2) ≡ 1 = ap₂ min (eqb-true (a % 2) 1 q) (eqb-true (b % 2) 1 o) in
         absurd (omega (arith, s, c, none-left))
 
-absent : (m bit : ℕ) (ws : List ℕ) (p kind : ℕ) → bit < 18 → bitAnd m 251456 ≡ 0 → odd (251456 / 2 ^ bit) ≡ true → fitOne kind (may (fieldsFrom fieldCount m ws p) bit) ≡ true
+-- the map of the fields that do not take every word
+abbrev narrow : ℕ
+narrow = 251456
+
+absent : (m bit : ℕ) (ws : List ℕ) (p kind : ℕ) → bit < fieldCount → bitAnd m narrow ≡ 0 → odd (narrow / 2 ^ bit) ≡ true → fitOne kind (may (fieldsFrom fieldCount m ws p) bit) ≡ true
 unfolding fitOne
 absent m bit ws p kind h e o =
-    ap (fitOne kind) (may-at 18 bit m ws p h ∙ ap (λ (b : Bool). here b ws (p + ones (m % 2 ^ bit))) (apart m 251456 bit e o))
+    ap (fitOne kind) (may-at fieldCount bit m ws p h ∙ ap (λ (b : Bool). here b ws (p + ones (m % 2 ^ bit))) (apart m narrow bit e o))
 
 -- a map with none of the fields that do not take every word
-pub none-narrow : (m : ℕ) (ws : List ℕ) (p : ℕ) → bitAnd m 251456 ≡ 0 → true ≡ narrowFit (fieldsFrom fieldCount m ws p)
+pub none-narrow : (m : ℕ) (ws : List ℕ) (p : ℕ) → bitAnd m narrow ≡ 0 → true ≡ narrowFit (fieldsFrom fieldCount m ws p)
 unfolding narrowFit
 none-narrow m ws p e =
-    sym (both-is _ _ (absent m 6 ws p 1 (omega arith) e refl) (both-is _ _ (absent m 9 ws p 1 (omega arith) e refl)
-    (both-is _ _ (absent m 10 ws p 2 (omega arith) e refl) (both-is _ _ (absent m 12 ws p 3 (omega arith) e refl)
-    (both-is _ _ (absent m 14 ws p 1 (omega arith) e refl) (both-is _ _ (absent m 15 ws p 1 (omega arith) e refl)
-    (both-is _ _ (absent m 16 ws p 2 (omega arith) e refl) (both-is _ _ (absent m 17 ws p 1 (omega arith) e refl) refl))))))))
+    sym (both-is _ _ (absent m flagsField ws p number32 (omega arith) e refl) (both-is _ _ (absent m kindField ws p number32 (omega arith) e refl)
+    (both-is _ _ (absent m koidField ws p aKoid (omega arith) e refl) (both-is _ _ (absent m routeField ws p aRoute (omega arith) e refl)
+    (both-is _ _ (absent m offeredKindField ws p number32 (omega arith) e refl) (both-is _ _ (absent m expectedKindField ws p number32 (omega arith) e refl)
+    (both-is _ _ (absent m forbiddenObjectField ws p aKoid (omega arith) e refl) (both-is _ _ (absent m forbiddenKindField ws p number32 (omega arith) e refl) refl))))))))
 
 -- `fitAll`, not computed
 unfoldable fits : List ℕ → Fields → Bool
@@ -212,9 +216,9 @@ fit-all : (first : ℕ) (x0 x1 x2 x3 x4 x5 x6 x7 x8 x9 x10 x11 x12 x13 x14 x15 x
     → fits (first ∷ 0 ∷ 0 ∷ 0 ∷ 0 ∷ 0 ∷ 1 ∷ 0 ∷ 0 ∷ 1 ∷ 2 ∷ 0 ∷ 3 ∷ 0 ∷ 1 ∷ 1 ∷ 2 ∷ 1 ∷ []) (x0 ∷ x1 ∷ x2 ∷ x3 ∷ x4 ∷ x5 ∷ x6 ∷ x7 ∷ x8 ∷ x9 ∷ x10 ∷ x11 ∷ x12 ∷ x13 ∷ x14 ∷ x15 ∷ x16 ∷ x17 ∷ [])
     ≡ (fitOne first x0 && (fitOne number32 x6 && (fitOne number32 x9 && (fitOne aKoid x10 && (fitOne aRoute x12 && (fitOne number32 x14 && (fitOne number32 x15 && (fitOne aKoid x16 && (fitOne number32 x17 && true)))))))))
 fit-all first x0 x1 x2 x3 x4 x5 x6 x7 x8 x9 x10 x11 x12 x13 x14 x15 x16 x17 =
-    fit-step first x0 _ _ _ (fit-any x1 _ _ _ (fit-any x2 _ _ _ (fit-any x3 _ _ _ (fit-any x4 _ _ _ (fit-any x5 _ _ _ (fit-step 1 x6 _ _ _
-    (fit-any x7 _ _ _ (fit-any x8 _ _ _ (fit-step 1 x9 _ _ _ (fit-step 2 x10 _ _ _ (fit-any x11 _ _ _ (fit-step 3 x12 _ _ _ (fit-any x13 _ _ _
-    (fit-step 1 x14 _ _ _ (fit-step 1 x15 _ _ _ (fit-step 2 x16 _ _ _ (fit-step 1 x17 _ _ _ fit-end)))))))))))))))))
+    fit-step first x0 _ _ _ (fit-any x1 _ _ _ (fit-any x2 _ _ _ (fit-any x3 _ _ _ (fit-any x4 _ _ _ (fit-any x5 _ _ _ (fit-step number32 x6 _ _ _
+    (fit-any x7 _ _ _ (fit-any x8 _ _ _ (fit-step number32 x9 _ _ _ (fit-step aKoid x10 _ _ _ (fit-any x11 _ _ _ (fit-step aRoute x12 _ _ _ (fit-any x13 _ _ _
+    (fit-step number32 x14 _ _ _ (fit-step number32 x15 _ _ _ (fit-step aKoid x16 _ _ _ (fit-step number32 x17 _ _ _ fit-end)))))))))))))))))
 
 pub fits-are : (first m : ℕ) (ws : List ℕ) (p : ℕ) → fitAll (kindsOf first) (fieldsFrom fieldCount m ws p) ≡ (fitOne first (may (fieldsFrom fieldCount m ws p) opField) && narrowFit (fieldsFrom fieldCount m ws p))
 unfolding fieldsFrom narrowFit fits kindsOf fieldKinds
@@ -224,12 +228,12 @@ fits-are first m ws p =
 
 -- The place after a record's fields
 
-module _ (first m : ℕ) (ws : List ℕ) (p n : ℕ) (h : p ≤ length ws) (e : n ≡ ones (m % 2 ^ 18)) where
+module _ (first m : ℕ) (ws : List ℕ) (p n : ℕ) (h : p ≤ length ws) (e : n ≡ ones (m % 2 ^ fieldCount)) where
   walk-is : walk (kindsOf first) ws m p
       ≡ pick (leb (p + n) (length ws) && (fitOne first (may (fieldsFrom fieldCount m ws p) opField) && narrowFit (fieldsFrom fieldCount m ws p))) (some (p + n)) none
   walk-is =
       walk-all first ws m p h
-      ∙ ap₂ (λ (k : ℕ) (b : Bool). pick (leb k (length ws) && b) (some k) none) (after-ones 18 m p ∙ ap (λ (k : ℕ). p + k) (sym e)) (fits-are first m ws p)
+      ∙ ap₂ (λ (k : ℕ) (b : Bool). pick (leb k (length ws) && b) (some k) none) (after-ones fieldCount m p ∙ ap (λ (k : ℕ). p + k) (sym e)) (fits-are first m ws p)
 
   pub fields-fit : (t : Bool) → n ≤ length ws - p → t ≡ (fitOne first (may (fieldsFrom fieldCount m ws p) opField) && narrowFit (fieldsFrom fieldCount m ws p)) → t ≡ true → At (p + n) ≡ nextOf (walk (kindsOf first) ws m p)
   fields-fit t l f q = sym (ap nextOf (walk-is ∙ ap₂ (λ (a b : Bool). pick (a && b) (some (p + n)) none) (le-leb (p + n) (length ws) (omega arith)) (sym f ∙ q)))

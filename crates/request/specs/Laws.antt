@@ -11,7 +11,7 @@ use lib.ListN.{length, getD, drop}
 use lib.Dec.{eqb}
 use Rattle.format.specs.Format.{musts, mays, transferItemMust, transferItemMay, parcelItemMust, parcelItemMay}
 use Rattle.format.specs.Ops.{opPublish, opPrepareTransfer}
-use Rattle.format.specs.Fields.{anOp}
+use Rattle.format.specs.Fields.{anOp, anOperation, zeroWord}
 use Rattle.model.specs.Base.{pick}
 use Rattle.model.specs.Request.{Request}
 use Rattle.model.specs.Words.{andThen, Fields, must, readList}
@@ -89,7 +89,7 @@ request-is ws at op e = ap (λ (k : ℕ). requestOf k ws at) e
 
 -- a request that is well formed: its record, its op, and its items
 pub record Formed (ws : List ℕ) (at e : ℕ) : Type 0 where
-  pub head : Whole 4 (getD musts (opAt ws at) 0) (getD musts (opAt ws at) 0 + getD mays (opAt ws at) 0) ws at (endAt ws at)
+  pub head : Whole anOp (getD musts (opAt ws at) 0) (getD musts (opAt ws at) 0 + getD mays (opAt ws at) 0) ws at (endAt ws at)
   pub known : (1 ≤ opAt ws at) × (opAt ws at ≤ 24)
   pub items : itemsEnd (opAt ws at) (countAt ws at) ws (endAt ws at) ≡ some e
   pub next : e ≡ nextAt ws at
@@ -104,10 +104,10 @@ items-next ws at e p = go (eqb (opAt ws at) opPublish) (eqb (opAt ws at) opPrepa
     n = countAt ws at
 
     go : (b c : Bool)
-        → pick b (manyEnd 6 parcelItemMust (parcelItemMust + parcelItemMay) n ws (endAt ws at)) (pick c (manyEnd 5 transferItemMust (transferItemMust + transferItemMay) n ws (endAt ws at)) (some (endAt ws at))) ≡ some e
+        → pick b (manyEnd zeroWord parcelItemMust (parcelItemMust + parcelItemMay) n ws (endAt ws at)) (pick c (manyEnd anOperation transferItemMust (transferItemMust + transferItemMay) n ws (endAt ws at)) (some (endAt ws at))) ≡ some e
         → e ≡ pick b (placeOf n ws (endAt ws at)) (pick c (placeOf n ws (endAt ws at)) (endAt ws at))
-    go true c q = many-whole 6 parcelItemMust (parcelItemMust + parcelItemMay) n ws (endAt ws at) e q .ends
-    go false true q = many-whole 5 transferItemMust (transferItemMust + transferItemMay) n ws (endAt ws at) e q .ends
+    go true c q = many-whole zeroWord parcelItemMust (parcelItemMust + parcelItemMay) n ws (endAt ws at) e q .ends
+    go false true q = many-whole anOperation transferItemMust (transferItemMust + transferItemMay) n ws (endAt ws at) e q .ends
     go false false q = cc
 
 pub request-whole : (ws : List ℕ) (at e : ℕ) → requestEnd ws at ≡ some e → Formed ws at e
@@ -121,11 +121,11 @@ request-whole ws at e p = go (recordEnd anOp (getD musts (opAt ws at) 0) (getD m
         → andThen x (λ q. itemsEnd (opAt ws at) (countAt ws at) ws q) ≡ some e → Formed ws at e
     go none x r = let z : _≡_ {A = ℕ} 0 1 = cc in absurd (omega arith)
     go (some q) x r =
-        let w = record-whole 4 (getD musts (opAt ws at) 0) (getD musts (opAt ws at) 0 + getD mays (opAt ws at) 0) ws at q x in
+        let w = record-whole anOp (getD musts (opAt ws at) 0) (getD musts (opAt ws at) 0 + getD mays (opAt ws at) 0) ws at q x in
         let i : itemsEnd (opAt ws at) (countAt ws at) ws (endAt ws at) ≡ some e = subst (λ (y : ℕ). itemsEnd (opAt ws at) (countAt ws at) ws y ≡ some e) (w .ends) r in
         record {
-          head = subst (Whole 4 (getD musts (opAt ws at) 0) (getD musts (opAt ws at) 0 + getD mays (opAt ws at) 0) ws at) (w .ends) w;
-          known = known-op (opAt ws at) (first-fits 4 _ _ ws at q w);
+          head = subst (Whole anOp (getD musts (opAt ws at) 0) (getD musts (opAt ws at) 0 + getD mays (opAt ws at) 0) ws at) (w .ends) w;
+          known = known-op (opAt ws at) (first-fits anOp _ _ ws at q w);
           items = i;
           next = items-next ws at e i;
           rises = ends .0;

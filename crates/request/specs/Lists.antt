@@ -106,7 +106,7 @@ module _ (ws : List ℕ) (at : ℕ) where
   unfolding Itemed itemsEnd requestOf parcelAt
   itemed-publish =
       ap (with-parcels) (many-read (λ f. must f idField) zeroWord parcelItemMust parcelItemMay (countAt ws at) ws (endAt ws at))
-      ∙ go (manyEnd 6 parcelItemMust (parcelItemMust + parcelItemMay) (countAt ws at) ws (endAt ws at))
+      ∙ go (manyEnd zeroWord parcelItemMust (parcelItemMust + parcelItemMay) (countAt ws at) ws (endAt ws at))
     where
       with-parcels : Reading (List ℕ) → Reading Request
       with-parcels x = andThen x λ r. some (publish (must (fieldsAt ws at) idField) (r .0), r .1)
@@ -119,7 +119,7 @@ module _ (ws : List ℕ) (at : ℕ) where
   unfolding Itemed itemsEnd requestOf itemAt
   itemed-transfer =
       ap (with-items) (many-read itemOf anOperation transferItemMust transferItemMay (countAt ws at) ws (endAt ws at))
-      ∙ go (manyEnd 5 transferItemMust (transferItemMust + transferItemMay) (countAt ws at) ws (endAt ws at))
+      ∙ go (manyEnd anOperation transferItemMust (transferItemMust + transferItemMay) (countAt ws at) ws (endAt ws at))
     where
       whole : List Item → Request
       whole qs = prepareTransfer (must (fieldsAt ws at) tableField) (routeOf (must (fieldsAt ws at) routeField)) (may (fieldsAt ws at) forbiddenObjectField) (may (fieldsAt ws at) forbiddenKindField) qs
@@ -158,8 +158,8 @@ module _ (ws : List ℕ) (at : ℕ) where
   pub request-read : readRequest (drop at ws) ≡ upTo ws (requestEnd ws at) (requestAt ws at)
   unfolding readRequest requestEnd requestAt Itemed
   request-read =
-      ap (λ (x : Reading Fields). andThen x make) (record-read 4 (λ op. getD musts op 0) (λ op. getD mays op 0) ws at)
-      ∙ go (recordEnd 4 (getD musts (opAt ws at) 0) (getD musts (opAt ws at) 0 + getD mays (opAt ws at) 0) ws at) refl
+      ap (λ (x : Reading Fields). andThen x make) (record-read anOp (λ op. getD musts op 0) (λ op. getD mays op 0) ws at)
+      ∙ go (recordEnd anOp (getD musts (opAt ws at) 0) (getD musts (opAt ws at) 0 + getD mays (opAt ws at) 0) ws at) refl
     where
       make : Fields × List ℕ → Reading Request
       make r = andThen (plainRequest (must (r .0) opField)) λ f. withItems (r .0) (f (r .0)) (r .1)
@@ -168,13 +168,13 @@ module _ (ws : List ℕ) (at : ℕ) where
           → andThen f (λ y. withItems (fieldsAt ws at) (y (fieldsAt ws at)) (drop (endAt ws at) ws)) ≡ upTo ws (itemsEnd (opAt ws at) (countAt ws at) ws (endAt ws at)) (requestOf (opAt ws at) ws at)
       itemed f x p i = ap (λ (y : Option (Fields → Request)). andThen y (λ y. withItems (fieldsAt ws at) (y (fieldsAt ws at)) (drop (endAt ws at) ws))) p ∙ i
 
-      go : (x : Option ℕ) → recordEnd 4 (getD musts (opAt ws at) 0) (getD musts (opAt ws at) 0 + getD mays (opAt ws at) 0) ws at ≡ x
+      go : (x : Option ℕ) → recordEnd anOp (getD musts (opAt ws at) 0) (getD musts (opAt ws at) 0 + getD mays (opAt ws at) 0) ws at ≡ x
           → andThen (upTo ws x (fieldsAt ws at)) make
           ≡ upTo ws (andThen x λ e. itemsEnd (opAt ws at) (countAt ws at) ws e) (requestOf (opAt ws at) ws at)
       go none e = refl
       go (some q) e =
-          let w = record-whole 4 _ _ ws at q e in
-          let o = known-op (opAt ws at) (first-fits 4 _ _ ws at q w) in
+          let w = record-whole anOp _ _ ws at q e in
+          let o = known-op (opAt ws at) (first-fits anOp _ _ ws at q w) in
           let k = known ws at (opAt ws at) (o .0) (o .1) in
           subst (λ (p : ℕ). andThen (plainRequest (opAt ws at)) (λ y. withItems (fieldsAt ws at) (y (fieldsAt ws at)) (drop p ws))
           ≡ upTo ws (itemsEnd (opAt ws at) (countAt ws at) ws p) (requestOf (opAt ws at) ws at)) (sym (w .ends))
@@ -185,22 +185,22 @@ unfolding itemsEnd
 items-ends op n ws p e q h = go (eqb op opPublish) (eqb op opPrepareTransfer) q
   where
     go : (b c : Bool)
-        → pick b (manyEnd 6 parcelItemMust (parcelItemMust + parcelItemMay) n ws p) (pick c (manyEnd 5 transferItemMust (transferItemMust + transferItemMay) n ws p) (some p)) ≡ some e
+        → pick b (manyEnd zeroWord parcelItemMust (parcelItemMust + parcelItemMay) n ws p) (pick c (manyEnd anOperation transferItemMust (transferItemMust + transferItemMay) n ws p) (some p)) ≡ some e
         → (p ≤ e) × (e ≤ length ws)
-    go true c r = many-ends 6 parcelItemMust (parcelItemMust + parcelItemMay) n ws p e r h
-    go false true r = many-ends 5 transferItemMust (transferItemMust + transferItemMay) n ws p e r h
+    go true c r = many-ends zeroWord parcelItemMust (parcelItemMust + parcelItemMay) n ws p e r h
+    go false true r = many-ends anOperation transferItemMust (transferItemMust + transferItemMay) n ws p e r h
     go false false r = let z : p ≡ e = cc in (omega arith, omega arith)
 
 -- a request's end lies behind its place, and not past the list
 pub request-ends : (ws : List ℕ) (at e : ℕ) → requestEnd ws at ≡ some e → (at < e) × (e ≤ length ws)
 unfolding requestEnd
-request-ends ws at e p = go (recordEnd 4 (getD musts (opAt ws at) 0) (getD musts (opAt ws at) 0 + getD mays (opAt ws at) 0) ws at) refl p
+request-ends ws at e p = go (recordEnd anOp (getD musts (opAt ws at) 0) (getD musts (opAt ws at) 0 + getD mays (opAt ws at) 0) ws at) refl p
   where
-    go : (x : Option ℕ) → recordEnd 4 (getD musts (opAt ws at) 0) (getD musts (opAt ws at) 0 + getD mays (opAt ws at) 0) ws at ≡ x
+    go : (x : Option ℕ) → recordEnd anOp (getD musts (opAt ws at) 0) (getD musts (opAt ws at) 0 + getD mays (opAt ws at) 0) ws at ≡ x
         → andThen x (λ q. itemsEnd (opAt ws at) (countAt ws at) ws q) ≡ some e → (at < e) × (e ≤ length ws)
     go none x r = let z : _≡_ {A = ℕ} 0 1 = cc in absurd (omega arith)
     go (some q) x r =
-        let w = record-whole 4 _ _ ws at q x in
+        let w = record-whole anOp _ _ ws at q x in
         let k = items-ends (opAt ws at) (countAt ws at) ws q e r (w .short) in
         (omega (arith, w .rises, k .0), k .1)
 

@@ -1,13 +1,14 @@
 -- What is shown op by op. Assumes nothing.
 use Prim.Native.Nat.{ℕ, zero, suc, _≤_}
 use native.Mathlib.Omega.{arith}
+use Rattle.format.specs.Ops.{opNewObject, opDuplicate, opReleaseParcel, opRetireObject, opReserve, opTrim, opAbort, opPublish, opGetInfo, opResolve, opReplace, opClose, opScanHandles, opPrepareTransfer, opPrepareConsumption, opRollback, opCommit, opDirectCommit, opDirectRollback, opRemoveStoppingOwner, opTeardownStart, opTeardownStep, opTeardownFinish, opTakeEmptyPage, opLast}
 
--- what holds for 1 to 24 holds for every known op
-pub known : (P : ℕ → Type 0) → P 1 → P 2 → P 3 → P 4 → P 5 → P 6 → P 7 → P 8 → P 9 → P 10 → P 11 → P 12 → P 13 → P 14 → P 15 → P 16 → P 17 → P 18 → P 19 → P 20 → P 21 → P 22 → P 23 → P 24
-    → (op : ℕ) → 1 ≤ op → op ≤ 24 → P op
+-- what holds for each op holds for every known one
+pub known : (P : ℕ → Type 0) → P opNewObject → P opDuplicate → P opReleaseParcel → P opRetireObject → P opReserve → P opTrim → P opAbort → P opPublish → P opGetInfo → P opResolve → P opReplace → P opClose → P opScanHandles → P opPrepareTransfer → P opPrepareConsumption → P opRollback → P opCommit → P opDirectCommit → P opDirectRollback → P opRemoveStoppingOwner → P opTeardownStart → P opTeardownStep → P opTeardownFinish → P opTakeEmptyPage
+    → (op : ℕ) → 1 ≤ op → op ≤ opLast → P op
 known P p1 p2 p3 p4 p5 p6 p7 p8 p9 p10 p11 p12 p13 p14 p15 p16 p17 p18 p19 p20 p21 p22 p23 p24 op a b = go op a b
   where
-    go : (n : ℕ) → 1 ≤ n → n ≤ 24 → P n
+    go : (n : ℕ) → 1 ≤ n → n ≤ opLast → P n
     go zero a b = absurd (omega arith)
     go (suc zero) a b = p1
     go (suc (suc zero)) a b = p2

@@ -72,7 +72,7 @@ enter-fills ws ws′ sh x j p = record { long = p .long; rest = λ k z y f n. p 
 module _ (ws : List ℕ) (sh : Shape) (room : total sh ≤ length ws) (x j : ℕ) (h : PreparedHandle) (r : ℕ) where
   pub moved-enters : Entered ws (movedW ws sh x j h r) sh x j
   unfolding movedW
-  moved-enters = enter-all sh x j (movedP x j h r) ws room ((0, refl), ((1, refl), ((2, refl), ((3, refl), ((4, refl), ((5, refl), tt))))))
+  moved-enters = enter-all sh x j (movedP x j h r) ws room ((itemOperation, refl), ((itemMoved, refl), ((itemObject, refl), ((itemRights, refl), ((itemFlags, refl), ((itemGranted, refl), tt))))))
 
   pub moved-in : x < sh .rows → j < batchMax → EntryIs (load (movedW ws sh x j h r) sh) x j (moved (h .slot) (handleOf h) r)
   unfolding movedW

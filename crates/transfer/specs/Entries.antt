@@ -34,7 +34,7 @@ use Rattle.transfer.specs.Raised.{view-found-at}
 module _ (ws : List ℕ) (sh : Shape) (room : total sh ≤ length ws) (x j : ℕ) (h : PreparedHandle) (r : ℕ) where
   copied-enters : Entered ws (copiedW ws sh x j h r) sh x j
   unfolding copiedW
-  copied-enters = enter-all sh x j (copiedP x j h r) ws room ((0, refl), ((2, refl), ((3, refl), ((4, refl), tt))))
+  copied-enters = enter-all sh x j (copiedP x j h r) ws room ((itemOperation, refl), ((itemObject, refl), ((itemRights, refl), ((itemFlags, refl), tt))))
 
   copied-in : x < sh .rows → j < batchMax → EntryIs (load (copiedW ws sh x j h r) sh) x j (copied (withRights (handleOf h) r))
   unfolding copiedW

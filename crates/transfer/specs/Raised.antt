@@ -97,7 +97,7 @@ module _ (ws ws′ : List ℕ) (sh : Shape) (s : State) (os : ℕ → Object) (h
       rw y0 (object-same x (omega (arith, w .xs, h .reps .memory .objectCount)) f (w .fs)))
       (λ i. load-out ws′ sh (reg regionObject x y f) i ∙ sym (load-out ws sh (reg regionObject x y f) i))))
       (λ (z : k ≡ regionObject → ⊥). d .other k x y f z)
-      (same? k 8)
+      (same? k regionObject)
 
   words-back : ws′ ≡ ws
   words-back = loads-same ws′ ws sh (d .long) (fun-ext loads-alike) (d .past)

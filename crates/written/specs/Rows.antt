@@ -15,7 +15,7 @@ use Rattle.model.specs.Bounds.{batch-max}
 use Rattle.model.specs.WellFormed.{isReservedBy, isMovingBy, inReservation, inClaim, All, BodyRange, RowRange, Marks, WellFormed}
 use Rattle.layout.specs.Layout.{Mem, row, item}
 use Rattle.layout.specs.Fields.{rowId, rowKind, rowTable, rowLength, itemSlot, itemOperation, itemMoved, itemObject, itemRights, itemFlags, itemGranted}
-use Rattle.layout.specs.Sizes.{batchMax}
+use Rattle.layout.specs.Sizes.{batchMax, blockSize}
 use Rattle.representation.specs.Represents.{HandleIs, EntryIs, Items, BodyIs, RowsAre}
 use Rattle.written.specs.Searches.{rankOf, rank-found}
 use Rattle.written.specs.Words.{bodyWords, itemWords, entryItem, handleItem, blockWords}
@@ -59,10 +59,10 @@ range-of s w i d e = all-at (RowRange s) (s .book .rows) (rankOf i (s .book .row
 -- ---- the words of a row
 
 module _ (s : State) (m : Mem) (shows : Shows s m) (r : ℕ) (x : Row) (h : r < s .book .capacity) (e : nth (s .book .rows) r ≡ some x) where
-  pub row-is : (f : ℕ) → f < 6 → m (row r f) ≡ getD (blockWords 0 x) f 0
+  pub row-is : (f : ℕ) → f < blockSize → m (row r f) ≡ getD (blockWords 0 x) f 0
   row-is f i = at-row s m shows r f h i ∙ rw e
 
-  pub item-is : (j f : ℕ) → j < batchMax → f < 6 → m (item r j f) ≡ getD (itemWords (x .body) j) f 0
+  pub item-is : (j f : ℕ) → j < batchMax → f < blockSize → m (item r j f) ≡ getD (itemWords (x .body) j) f 0
   item-is j f l i = at-item s m shows r j f h l i ∙ rw e
 
 -- ---- the elements of a list, by number
@@ -83,8 +83,8 @@ items-are P l f = items-from P 0 l (λ i j a e q. let z : i ≡ j = omega arith 
 
 module _ (s : State) (m : Mem) (shows : Shows s m) where
   -- one row's body, by its words
-  body-is : (r : ℕ) (d : Body) → BodyRange s d → ((f : ℕ) → f < 5 → m (row r (suc f)) ≡ getD (bodyWords d) f 0)
-      → ((j f : ℕ) → j < batchMax → f < 6 → m (item r j f) ≡ getD (itemWords d j) f 0) → BodyIs m r d
+  body-is : (r : ℕ) (d : Body) → BodyRange s d → ((f : ℕ) → f < blockSize - 1 → m (row r (suc f)) ≡ getD (bodyWords d) f 0)
+      → ((j f : ℕ) → j < batchMax → f < blockSize → m (item r j f) ≡ getD (itemWords d j) f 0) → BodyIs m r d
   body-is r (reservation b ks) g a c = (
     a (rowKind - 1) (omega arith),
     a (rowTable - 1) (omega arith),
@@ -97,17 +97,17 @@ module _ (s : State) (m : Mem) (shows : Shows s m) where
     where
       each : (j : ℕ) (x : Entry) → j < batchMax → nth es j ≡ some x → EntryIs m r j x
       each j (moved k h y) l e =
-          let at : (f : ℕ) → f < 6 → m (item r j f) ≡ getD (entryItem (moved k h y)) f 0 = λ f i. c j f l i ∙ rw e in
+          let at : (f : ℕ) → f < blockSize → m (item r j f) ≡ getD (entryItem (moved k h y)) f 0 = λ f i. c j f l i ∙ rw e in
           (at itemOperation (omega arith), at itemMoved (omega arith), (at itemObject (omega arith), at itemRights (omega arith), at itemFlags (omega arith)), at itemGranted (omega arith))
       each j (copied h) l e =
-          let at : (f : ℕ) → f < 6 → m (item r j f) ≡ getD (entryItem (copied h)) f 0 = λ f i. c j f l i ∙ rw e in
+          let at : (f : ℕ) → f < blockSize → m (item r j f) ≡ getD (entryItem (copied h)) f 0 = λ f i. c j f l i ∙ rw e in
           (at itemOperation (omega arith), (at itemObject (omega arith), at itemRights (omega arith), at itemFlags (omega arith)))
   body-is r (parcel hs) g a c = (
     a (rowKind - 1) (omega arith),
     a (rowLength - 1) (omega arith),
     items-are (HandleIs m r) hs (λ j h e.
         let l : j < batchMax = omega (arith, nth-low hs j h e, g .0 .1, batch-max) in
-        let at : (f : ℕ) → f < 6 → m (item r j f) ≡ getD (handleItem h) f 0 = λ f i. c j f l i ∙ rw e in
+        let at : (f : ℕ) → f < blockSize → m (item r j f) ≡ getD (handleItem h) f 0 = λ f i. c j f l i ∙ rw e in
         (at itemObject (omega arith), at itemRights (omega arith), at itemFlags (omega arith))),
   )
 

@@ -18,7 +18,7 @@ use Rattle.model.specs.WellFormed.{isAttached, WellFormed}
 use Rattle.layout.specs.Layout.{Mem, head, entry, cell, rank, row, item}
 use Rattle.layout.specs.Fields.{headPageLimit, headMask, headLifecycle, headCursor, headEpoch, headPages, headFirstFree, headFreeSlots, headFirstEmpty, headFirstDetached, headFirstEntry, entryFrame, entryHigh, entryBusy, entryNext, entryPrevious, slotTag, slotGeneration, slotNextFree, slotPreviousFree, slotPlace, slotPosition, slotObject, slotRights, slotFlags, rowId, rowTable, rowLength, itemOperation}
 use Rattle.layout.specs.Values.{tagReserved, tagTransferReserved, operationMove}
-use Rattle.layout.specs.Sizes.{pageSize, batchMax}
+use Rattle.layout.specs.Sizes.{pageSize, batchMax, entrySize, slotSize, blockSize}
 use Rattle.representation.specs.Represents.{entryAt, linkOf, frameOf, wordIn, slotWord, tagged, slotFrom, slotIn, Chain, Linked, LifeIs, TableIs, isMarked}
 use Rattle.written.specs.Searches.{after, before, chained, linked, placeOf, place-found, movedAt, moved-found, rankOf, rank-found}
 use Rattle.written.specs.Words.{entriesBefore, pageAt, lifeWord, cursorWord, orderOf, pageWords, positionIn, slotWords, slotOf, cellWords, bodyWords, itemWords}
@@ -89,7 +89,7 @@ module _ (s : State) (w : WellFormed till s) (m : Mem) (shows : Shows s m) (b : 
   size-limit : (p : ℕ) → p < s .tables b .size → p < s .tables b .limit
   size-limit p l = omega (arith, w .ranges .tables b h .size)
 
-  entry-is : (p f : ℕ) → p < s .tables b .size → f < 5 → m (entry (entryAt m b p) f) ≡ getD (pageWords (s .tables b) p) f 0
+  entry-is : (p f : ℕ) → p < s .tables b .size → f < entrySize → m (entry (entryAt m b p) f) ≡ getD (pageWords (s .tables b) p) f 0
   entry-is p f l i = rw first-is (at-entry s m shows b p f h (size-limit p l) i)
 
   frame-is : (k : ℕ) → frameOf m b k ≡ pick (ltb k maxSlots) (linkOf (s .tables b .pages (k / pageSize) .frame)) 0
@@ -98,7 +98,7 @@ module _ (s : State) (w : WellFormed till s) (m : Mem) (shows : Shows s m) (b : 
       (λ e. rw (e, w .atRest .pages b (k / pageSize) (ltb-false (k / pageSize) (s .tables b .size) e)))))
 
   -- the words of a slot's cell
-  cell-is : (k f : ℕ) → There (s .tables b) k → f < 6 → (fr : ℕ) → s .tables b .pages (k / pageSize) .frame ≡ some fr → m (cell fr (k % pageSize) f) ≡ getD (slotOf s b k) f 0
+  cell-is : (k f : ℕ) → There (s .tables b) k → f < slotSize → (fr : ℕ) → s .tables b .pages (k / pageSize) .frame ≡ some fr → m (cell fr (k % pageSize) f) ≡ getD (slotOf s b k) f 0
   cell-is k f t i fr e =
       let p : k / pageSize < s .tables b .limit = size-limit (k / pageSize) (t .page) in
       let n : k / pageSize * pageSize + k % pageSize ≡ k = omega arith in
@@ -112,10 +112,10 @@ module _ (s : State) (w : WellFormed till s) (m : Mem) (shows : Shows s m) (b : 
   frame-there : (k : ℕ) (t : There (s .tables b) k) → frameOf m b k ≡ suc (t .frame)
   frame-there k t = frame-is k ∙ rw (lt-ltb k maxSlots (t .low), t .has)
 
-  word-there : (k f : ℕ) → There (s .tables b) k → f < 6 → slotWord m b k f ≡ getD (slotOf s b k) f 0
+  word-there : (k f : ℕ) → There (s .tables b) k → f < slotSize → slotWord m b k f ≡ getD (slotOf s b k) f 0
   word-there k f t i = ap (λ (z : ℕ). wordIn m z (k % pageSize) f) (frame-there k t) ∙ cell-is k f t i (t .frame) (t .has)
 
-  slot-word : (k f : ℕ) (x : Slot) → s .tables b .slots k ≡ x → isAbsent x ≡ false → f < 6 → slotWord m b k f ≡ getD (slotWords (s .tables b .free) (s .book .rows) k x) f 0
+  slot-word : (k f : ℕ) (x : Slot) → s .tables b .slots k ≡ x → isAbsent x ≡ false → f < slotSize → slotWord m b k f ≡ getD (slotWords (s .tables b .free) (s .book .rows) k x) f 0
   slot-word k f x e a i =
       word-there k f (slot-there s w b k (ap isAbsent e ∙ a)) i
       ∙ ap (λ (y : Slot). getD (slotWords (s .tables b .free) (s .book .rows) k y) f 0) e
@@ -125,7 +125,7 @@ module _ (s : State) (w : WellFormed till s) (m : Mem) (shows : Shows s m) (b : 
       (getD (slotWords (s .tables b .free) (s .book .rows) k x) slotObject 0) (getD (slotWords (s .tables b .free) (s .book .rows) k x) slotRights 0) (getD (slotWords (s .tables b .free) (s .book .rows) k x) slotFlags 0)
   slot-tagged k x e a =
       let t = slot-there s w b k (ap isAbsent e ∙ a) in
-      let c : (f : ℕ) → f < 6 → m (cell (t .frame) (k % pageSize) f) ≡ getD (slotWords (s .tables b .free) (s .book .rows) k x) f 0
+      let c : (f : ℕ) → f < slotSize → m (cell (t .frame) (k % pageSize) f) ≡ getD (slotWords (s .tables b .free) (s .book .rows) k x) f 0
       = λ f i. cell-is k f t i (t .frame) (t .has) ∙ ap (λ (y : Slot). getD (slotWords (s .tables b .free) (s .book .rows) k y) f 0) e in
       ap (λ (z : ℕ). slotFrom m z (k % pageSize)) (frame-there k t)
       ∙ rw (c slotTag (omega arith), c slotGeneration (omega arith), c slotObject (omega arith), c slotRights (omega arith), c slotFlags (omega arith))
@@ -216,7 +216,7 @@ module _ (s : State) (w : WellFormed till s) (m : Mem) (shows : Shows s m) (b : 
 
   -- a mark of an open row, by the row's words and its item's
   mark-at : (k tag i j : ℕ) (d : Body) → find i (s .book .rows) ≡ some d → j < batchMax → j < getD (bodyWords d) (rowLength - 1) 0 → getD (bodyWords d) (rowTable - 1) 0 ≡ b
-      → getD (itemWords d j) (tag - 1) 0 ≡ k → tag - 1 < 6 → (tag ≡ tagTransferReserved → getD (itemWords d j) itemOperation 0 ≡ operationMove) → MarkIs s m b k tag (rankOf i (s .book .rows)) j
+      → getD (itemWords d j) (tag - 1) 0 ≡ k → tag - 1 < blockSize → (tag ≡ tagTransferReserved → getD (itemWords d j) itemOperation 0 ≡ operationMove) → MarkIs s m b k tag (rankOf i (s .book .rows)) j
   mark-at k tag i j d e l n p q u v =
       let r = rank-found i (s .book .rows) d e in
       let x : Row = record { id = i; body = d } in
