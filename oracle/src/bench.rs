@@ -154,8 +154,7 @@ fn plain_read(words: &[u64]) -> u64 {
     sums.iter().fold(rest, |sum, word| sum.wrapping_add(*word))
 }
 
-/// The median.
-fn half(mut times: Vec<f64>) -> f64 {
+fn median_of(mut times: Vec<f64>) -> f64 {
     times.sort_by(f64::total_cmp);
     times[times.len() / 2]
 }
@@ -164,7 +163,7 @@ fn half(mut times: Vec<f64>) -> f64 {
 fn median(times: usize, mut run: impl FnMut() -> f64) -> f64 {
     let first = run();
     let runs = if first < 200_000.0 { 20 * times } else { times };
-    half((1..runs).map(|_| run()).chain([first]).collect())
+    median_of((1..runs).map(|_| run()).chain([first]).collect())
 }
 
 /// A list made by asking the Rust: `next` gives the next request from the last answers.
@@ -194,20 +193,23 @@ struct Row {
     less: f64,
 }
 
-/// A row by its median in each column, over the passes that have it: at least half of them.
+/// Each row by its median in each column, over the passes that tell it: at least half of them.
 fn middle(passes: &[Vec<Row>]) -> Vec<Row> {
+    let mut names: Vec<(u64, &str)> = Vec::new();
+    for row in passes.iter().flatten() {
+        if !names.contains(&(row.slots, &row.name)) {
+            names.push((row.slots, &row.name));
+        }
+    }
     let mut rows = Vec::new();
-    for this in passes.iter().flatten() {
-        if rows.iter().any(|row: &Row| (row.slots, &row.name) == (this.slots, &this.name)) {
-            continue;
-        }
-        let same: Vec<&Row> = passes.iter().flatten().filter(|row| (row.slots, &row.name) == (this.slots, &this.name)).collect();
+    for (slots, name) in names {
+        let same: Vec<&Row> = passes.iter().flatten().filter(|row| (row.slots, row.name.as_str()) == (slots, name)).collect();
         if 2 * same.len() < passes.len() {
-            println!("not told in {} of {} passes: {}", passes.len() - same.len(), passes.len(), this.name);
+            println!("not told: {name}, by {} of {} passes", passes.len() - same.len(), passes.len());
             continue;
         }
-        let of = |column: fn(&Row) -> f64| half(same.iter().map(|row| column(row)).collect());
-        rows.push(Row { port: of(|row| row.port), rust: of(|row| row.rust), less: of(|row| row.less), ..this.clone() });
+        let of = |column: fn(&Row) -> f64| median_of(same.iter().map(|row| column(row)).collect());
+        rows.push(Row { slots, name: name.to_string(), port: of(|row| row.port), rust: of(|row| row.rust), less: of(|row| row.less) });
     }
     rows
 }
@@ -399,7 +401,6 @@ fn differences(settings: Settings, told: &mut Vec<Row>, slots: u64, start: &Star
 }
 
 /// The state check of some words beside a plain read of them.
-#[derive(Clone)]
 struct Checked {
     words: usize,
     /// What the state has that others of its size have not.
@@ -462,7 +463,7 @@ fn measure(settings: Settings) {
         println!("| words | check | plain read | ratio |\n|---|---|---|---|");
     }
     for (at, Checked { words, state, .. }) in all[0].checks.iter().enumerate() {
-        let of = |column: fn(&Checked) -> f64| half(all.iter().map(|pass| column(&pass.checks[at])).collect());
+        let of = |column: fn(&Checked) -> f64| median_of(all.iter().map(|pass| column(&pass.checks[at])).collect());
         let (check, read) = (of(|row| row.check), of(|row| row.read));
         let told = if state.is_empty() { String::new() } else { format!(", {state}") };
         if markdown {
