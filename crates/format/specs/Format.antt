@@ -10,11 +10,11 @@ use Rattle.format.specs.Ops.{opLast}
 
 -- docs/formats.md, "Ops": the fields that each op must carry, as a bit map, at the op's number
 unfoldable pub musts : List ℕ
-musts = 0 ∷ 101 ∷ 51 ∷ 129 ∷ 5 ∷ 11 ∷ 137 ∷ 129 ∷ 137 ∷ 19 ∷ 563 ∷ 51 ∷ 19 ∷ 2051 ∷ 4107 ∷ 1587 ∷ 129 ∷ 129 ∷ 385 ∷ 385 ∷ 2051 ∷ 3 ∷ 3 ∷ 3 ∷ 3 ∷ []
+musts = 0 ∷ 101 ∷ 51 ∷ 129 ∷ 5 ∷ 11 ∷ 137 ∷ 129 ∷ 137 ∷ 19 ∷ 563 ∷ 51 ∷ 19 ∷ 2051 ∷ 4107 ∷ 1587 ∷ 129 ∷ 129 ∷ 385 ∷ 385 ∷ 2051 ∷ 3 ∷ 3 ∷ 3 ∷ 3 ∷ 11 ∷ 129 ∷ 129 ∷ []
 
 -- docs/formats.md, "Ops": the fields that each op may carry besides
 unfoldable pub mays : List ℕ
-mays = 0 ∷ 0 ∷ 0 ∷ 0 ∷ 0 ∷ 0 ∷ 0 ∷ 0 ∷ 0 ∷ 0 ∷ 0 ∷ 0 ∷ 0 ∷ 0 ∷ 196608 ∷ 0 ∷ 0 ∷ 0 ∷ 0 ∷ 0 ∷ 0 ∷ 0 ∷ 0 ∷ 0 ∷ 0 ∷ []
+mays = 0 ∷ 0 ∷ 0 ∷ 0 ∷ 0 ∷ 0 ∷ 0 ∷ 0 ∷ 0 ∷ 0 ∷ 0 ∷ 0 ∷ 0 ∷ 0 ∷ 196608 ∷ 0 ∷ 0 ∷ 0 ∷ 0 ∷ 0 ∷ 0 ∷ 0 ∷ 0 ∷ 0 ∷ 0 ∷ 0 ∷ 0 ∷ 0 ∷ []
 
 -- docs/formats.md, the items' table: a transfer item must carry operation, value and rights
 abbrev pub transferItemMust : ℕ
@@ -41,7 +41,7 @@ unfoldable pub fieldKinds : List ℕ
 fieldKinds =
     anOp ∷ anyWord ∷ anyWord ∷ anyWord ∷ anyWord ∷ anyWord ∷ number32 ∷ anyWord ∷ anyWord ∷ number32 ∷ aKoid ∷ anyWord ∷ aRoute ∷ anyWord ∷ number32 ∷ number32 ∷ aKoid ∷ number32 ∷ []
 
--- docs/formats.md, "Ops": "Op 0 and every op above 24 is unknown."
+-- docs/formats.md, "Ops": "Op 0 and every op above 27 is unknown."
 unfoldable pub knownOp : ℕ → Bool
 knownOp op = leb 1 op && leb op opLast
 

@@ -73,6 +73,15 @@ opTeardownFinish = 23
 abbrev pub opTakeEmptyPage : ℕ
 opTakeEmptyPage = 24
 
+abbrev pub opMakePlan : ℕ
+opMakePlan = 25
+
+abbrev pub opUsePlan : ℕ
+opUsePlan = 26
+
+abbrev pub opDropPlan : ℕ
+opDropPlan = 27
+
 -- the last of them
 abbrev pub opLast : ℕ
-opLast = 24
+opLast = 27

@@ -39,6 +39,9 @@ pub fn must(op: u64) -> u64
         op::OP_TEARDOWN_STEP => maps::MUST[op::OP_TEARDOWN_STEP as usize],
         op::OP_TEARDOWN_FINISH => maps::MUST[op::OP_TEARDOWN_FINISH as usize],
         op::OP_TAKE_EMPTY_PAGE => maps::MUST[op::OP_TAKE_EMPTY_PAGE as usize],
+        op::OP_MAKE_PLAN => maps::MUST[op::OP_MAKE_PLAN as usize],
+        op::OP_USE_PLAN => maps::MUST[op::OP_USE_PLAN as usize],
+        op::OP_DROP_PLAN => maps::MUST[op::OP_DROP_PLAN as usize],
         _ => 0,
     }
 }
@@ -73,6 +76,9 @@ pub fn may(op: u64) -> u64
         op::OP_TEARDOWN_STEP => maps::MAY[op::OP_TEARDOWN_STEP as usize],
         op::OP_TEARDOWN_FINISH => maps::MAY[op::OP_TEARDOWN_FINISH as usize],
         op::OP_TAKE_EMPTY_PAGE => maps::MAY[op::OP_TAKE_EMPTY_PAGE as usize],
+        op::OP_MAKE_PLAN => maps::MAY[op::OP_MAKE_PLAN as usize],
+        op::OP_USE_PLAN => maps::MAY[op::OP_USE_PLAN as usize],
+        op::OP_DROP_PLAN => maps::MAY[op::OP_DROP_PLAN as usize],
         _ => 0,
     }
 }

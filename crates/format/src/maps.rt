@@ -1,6 +1,6 @@
 // The maps of the fields that a record must and may carry (docs/formats.md, "Ops"): of each op at its number, and of an item.
 // The fields that each op must carry, as a bit map, at the op's number. It is read at constant indices alone, so that it takes no memory at run time.
-pub const MUST: [u64; 25] = [
+pub const MUST: [u64; 28] = [
     0,
     101,
     51,
@@ -26,10 +26,13 @@ pub const MUST: [u64; 25] = [
     3,
     3,
     3,
+    11,
+    129,
+    129,
 ];
 
 // The fields that each op may carry besides.
-pub const MAY: [u64; 25] = [
+pub const MAY: [u64; 28] = [
     0,
     0,
     0,
@@ -45,6 +48,9 @@ pub const MAY: [u64; 25] = [
     0,
     0,
     196608,
+    0,
+    0,
+    0,
     0,
     0,
     0,

@@ -50,5 +50,11 @@ pub const OP_TEARDOWN_FINISH: u64 = 23;
 
 pub const OP_TAKE_EMPTY_PAGE: u64 = 24;
 
+pub const OP_MAKE_PLAN: u64 = 25;
+
+pub const OP_USE_PLAN: u64 = 26;
+
+pub const OP_DROP_PLAN: u64 = 27;
+
 // Every op above the last, and 0, is unknown.
-pub const OP_LAST: u64 = 24;
+pub const OP_LAST: u64 = 27;

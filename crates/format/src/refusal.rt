@@ -1,4 +1,4 @@
-// Numbers that a request answers (document 01, "The request list").
+// Numbers that a request answers (document 01, "The request list"; 21 document 02, 1).
 pub const DONE: u64 = 0;
 
 pub const ALLOCATION: u64 = 1;
@@ -40,3 +40,5 @@ pub const MISUSE: u64 = 18;
 pub const MALFORMED: u64 = 19;
 
 pub const ANSWER_SHORT: u64 = 20;
+
+pub const STALE_PLAN: u64 = 21;

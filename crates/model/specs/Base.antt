@@ -86,10 +86,22 @@ abbrev pub dropIf : (ℕ → Bool) → List ℕ → List ℕ
 dropIf p [] = []
 dropIf p (x ∷ xs) = pick (p x) (dropIf p xs) (x ∷ dropIf p xs)
 
+-- whether two lists are one
+abbrev pub sameList : List ℕ → List ℕ → Bool
+sameList [] [] = true
+sameList [] (y ∷ ys) = false
+sameList (x ∷ xs) [] = false
+sameList (x ∷ xs) (y ∷ ys) = eqb x y && sameList xs ys
+
 -- a number put into a rising list at its place
 abbrev pub insert : ℕ → List ℕ → List ℕ
 insert k [] = k ∷ []
 insert k (x ∷ xs) = pick (ltb k x) (k ∷ x ∷ xs) (x ∷ insert k xs)
+
+-- each of a list put into a rising list at its place
+abbrev pub insertAll : List ℕ → List ℕ → List ℕ
+insertAll [] l = l
+insertAll (k ∷ ks) l = insertAll ks (insert k l)
 
 -- the sum of f over the n numbers from 0 on
 abbrev pub sum : ℕ → (ℕ → ℕ) → ℕ

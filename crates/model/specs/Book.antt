@@ -1,4 +1,4 @@
--- The book: "rows, each an open reservation, an open claim, or a parcel of 1 to 64 loose handles, named by id".
+-- The book: "rows, each an open reservation, an open claim, or a parcel of 1 to 64 loose handles, named by id"; and plans (document 02, 1).
 use mathlib.Core.Bool.{Bool, false, not, _||_}
 use mathlib.Core.List.{List, [], _∷_, _++_}
 use mathlib.Core.Option.{Option, none, some}
@@ -6,7 +6,7 @@ use Prim.Native.Nat.{ℕ, _+_}
 use lib.ListN.{length}
 use lib.Dec.{eqb, ltb}
 use Rattle.model.specs.Base.{pick}
-use Rattle.model.specs.State.{Handle, Entry, Entry.moved, Entry.copied, Body, Body.reservation, Body.claim, Body.parcel, Row, State}
+use Rattle.model.specs.State.{Handle, Entry, Entry.moved, Entry.copied, Body, Body.reservation, Body.claim, Body.parcel, Body.plan, Row, State}
 use Rattle.model.specs.State.{lastId}
 use Rattle.model.specs.Change.{withBook}
 use Rattle.model.specs.Objects.{withRights}
@@ -48,11 +48,12 @@ freeRow s = ltb (length (s .book .rows)) (s .book .capacity)
 abbrev pub idLeft : State → Bool
 idLeft s = not (eqb (s .book .next) lastId)
 
--- whether a row is an open reservation or claim of a table
+-- whether a row is an open reservation or claim of a table: a plan is neither
 abbrev pub opensIn : ℕ → Body → Bool
 opensIn b (reservation c ks) = eqb b c
 opensIn b (claim c es) = eqb b c
 opensIn b (parcel hs) = false
+opensIn b (plan c n w fs) = false
 
 abbrev pub anyOpen : ℕ → List Row → Bool
 anyOpen b [] = false

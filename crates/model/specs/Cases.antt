@@ -1,15 +1,14 @@
 -- P1 to P12 of document 01, "Cases to prove, one table": one table, one computed test, one law. And its corner cases, in the same way.
 use mathlib.Core.Path.{_≡_, refl}
-use mathlib.Core.Bool.{Bool, true, false, _&&_}
+use mathlib.Core.Bool.{Bool, true}
 use mathlib.Core.List.{List, [], _∷_, _++_, map}
 use mathlib.Core.Option.{Option, none, some}
 use Prim.Native.Nat.{ℕ, zero, suc, _+_, _-_, _*_, _^_}
 use lib.ListN.{take, drop}
 use lib.Dec.{eqb, ltb}
-use borrow.Author.Tests.{eqb-true}
 use Rattle.authority.specs.Rights.{contains}
 use Rattle.codec.specs.Codec.{encode, payload, decodes, payloadIn, numberIn, slotIn, generationIn, nextGeneration, maskOf}
-use Rattle.model.specs.Base.{pick, put, every, nth, range, pushAll}
+use Rattle.model.specs.Base.{pick, put, every, nth, range, pushAll, sameList}
 use Rattle.model.specs.State.{till, Slot.absent, Slot.vacant, Slot.occupied, Table, State, Lifecycle, Lifecycle.active, Lifecycle.tearingDown, Lifecycle.retired, Stage.stillNew, Stage.nowActive, Object, maxBatch, maxSlots, knownFlags}
 use Rattle.model.specs.State.{lastId}
 use Rattle.model.specs.Storage.{place, vacate, takeFree, pagesFor, attach, detach, slotsOf}
@@ -26,7 +25,7 @@ use Rattle.model.specs.Step.{rollbackOf, commitOf, directCommitOf, direc
 use Rattle.model.specs.Step.{teardownFinishOf, takeEmptyPageOf}
 use Rattle.model.specs.Create.{ObjectParameters, created}
 use Rattle.model.specs.Words.{usedWords}
-use Rattle.model.specs.Tests.{and-left, and-right, nth-passes}
+use Rattle.model.specs.Tests.{nth-passes, sameList-equal}
 
 -- what the definitions give, beside what the paper says
 pub record Case : Type 0 where
@@ -37,26 +36,10 @@ infix 68 _is_
 abbrev pub _is_ : List ℕ → List ℕ → Case
 _is_ a b = record { given = a; said = b }
 
-abbrev pub sameList : List ℕ → List ℕ → Bool
-sameList [] [] = true
-sameList [] (y ∷ ys) = false
-sameList (x ∷ xs) [] = false
-sameList (x ∷ xs) (y ∷ ys) = eqb x y && sameList xs ys
-
 abbrev pub agree : Case → Bool
 agree c = sameList (c .given) (c .said)
 
 -- what a computed test over a table says of each of its lines
-
-pub sameList-equal : (a b : List ℕ) → sameList a b ≡ true → a ≡ b
-sameList-equal [] [] e = refl
-sameList-equal [] (y ∷ ys) e = cc
-sameList-equal (x ∷ xs) [] e = cc
-sameList-equal (x ∷ xs) (y ∷ ys) e =
-    let h : x ≡ y = eqb-true x y (and-left (eqb x y) (sameList xs ys) e) in
-    let t : xs ≡ ys = sameList-equal xs ys (and-right (eqb x y) (sameList xs ys) e) in
-    cc
-
 pub line : (cs : List Case) → every agree cs ≡ true → (k : ℕ) (c : Case) → nth cs k ≡ some c → c .given ≡ c .said
 line cs e k c h = sameList-equal (c .given) (c .said) (nth-passes agree cs e k c h)
 

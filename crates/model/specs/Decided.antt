@@ -5,17 +5,19 @@ use mathlib.Core.Bool.{Bool, true, false}
 use mathlib.Core.List.{List, [], _∷_}
 use mathlib.Core.Option.{Option, none, some}
 use Prim.Native.Nat.{ℕ, _<_}
+use lib.ListN.{length}
 use lib.Dec.{ltb}
 use borrow.Author.Tests.{ltb-true}
-use Rattle.model.specs.Base.{pick}
+use Rattle.model.specs.Base.{pick, atMost}
 use Rattle.model.specs.State.{Sizes, Handle, Lifecycle, Lifecycle.active, Lifecycle.tearingDown, Lifecycle.retired, Table, Entry, Body}
-use Rattle.model.specs.State.{Body.reservation, Body.claim, Body.parcel, State, isActive}
+use Rattle.model.specs.State.{Body.reservation, Body.claim, Body.parcel, Body.plan, StorageSnapshot, State, isActive, maxBatch}
 use Rattle.model.specs.Request.{Answer}
-use Rattle.model.specs.Book.{spendId}
+use Rattle.model.specs.Storage.{snapshotFor}
+use Rattle.model.specs.Book.{freeRow, idLeft, spendId}
 use Rattle.model.specs.Decision.{Decision, Decision.refusal, Decision.refusalAfterId, Decision.accept, unless_refuse_then_, given_refuse_then_}
-use Rattle.model.specs.Decision.{table_of_refuse_then_, asReservation, asClaim, refuseAfterId_then_, teardownCursor_refuse_then_}
+use Rattle.model.specs.Decision.{table_of_refuse_then_, asReservation, asClaim, asPlan, refuseAfterId_then_, teardownCursor_refuse_then_}
 use Rattle.model.specs.Lookup.{View, View.invalid, View.busy, View.holds, lookup, onView, handle_of_refuse_orBusy_then_}
-use Rattle.model.specs.Step.{carry}
+use Rattle.model.specs.Step.{withRoom, carry}
 
 abbrev pub Leaves : (ℕ → Type 0) → (ℕ → Type 0) → (State → Answer → Type 0) → Decision → Type 0
 Leaves N R A (refusal n) = N n
@@ -28,6 +30,17 @@ onActive s b f = table b of s refuse 18 then λ t. unless isActive (t .life) ref
 
 abbrev pub onHandle : State → ℕ → ℕ → (Table → ℕ → Handle → Decision) → Decision
 onHandle s b v f = onActive s b λ t. handle v of t refuse 2 orBusy 3 then f t
+
+-- what the checks of a reservation, or of a plan, have found
+pub record Room (z : Sizes) (s : State) (b n : ℕ) (w : StorageSnapshot) : Type 0 where
+  pub there : b < s .tableCount
+  pub live : isActive (s .tables b .life) ≡ true
+  pub some : ltb 0 n ≡ true
+  pub few : atMost n maxBatch ≡ true
+  pub snapshot : snapshotFor z (s .tables b) n ≡ Option.some w
+  pub frames : atMost (length (w .pages)) (length (s .frames)) ≡ true
+  pub row : freeRow s ≡ true
+  pub id : idLeft s ≡ true
 
 -- no demand on a number
 abbrev pub Any : ℕ → Type 0
@@ -72,6 +85,7 @@ module _ {N R : ℕ → Type 0} {A : State → Answer → Type 0} where
   with-reservation (some (reservation b ks)) r h = h b ks refl
   with-reservation (some (claim b es)) r h = refuses r
   with-reservation (some (parcel hs)) r h = refuses r
+  with-reservation (some (plan b n w fs)) r h = refuses r
 
   pub with-claim : (x : Option Body) {f : ℕ → List Entry → Decision} → N 18
       → ((b : ℕ) (es : List Entry) → x ≡ some (claim b es) → Decided N R A (f b es)) → Decided N R A (asClaim x 18 f)
@@ -79,6 +93,28 @@ module _ {N R : ℕ → Type 0} {A : State → Answer → Type 0} where
   with-claim (some (reservation b ks)) r h = refuses r
   with-claim (some (claim b es)) r h = h b es refl
   with-claim (some (parcel hs)) r h = refuses r
+  with-claim (some (plan b n w fs)) r h = refuses r
+
+  pub with-plan : (x : Option Body) {f : ℕ → ℕ → StorageSnapshot → List ℕ → Decision} → N 18
+      → ((b n : ℕ) (w : StorageSnapshot) (fs : List ℕ) → x ≡ some (plan b n w fs) → Decided N R A (f b n w fs)) → Decided N R A (asPlan x 18 f)
+  with-plan none r h = refuses r
+  with-plan (some (reservation b ks)) r h = refuses r
+  with-plan (some (claim b es)) r h = refuses r
+  with-plan (some (parcel hs)) r h = refuses r
+  with-plan (some (plan b n w fs)) r h = h b n w fs refl
+
+  pub with-room : (z : Sizes) (s : State) (b n : ℕ) {f : StorageSnapshot → Decision} → N 18 → N 16 → N 17 → N 13 → N 15 → N 1 → N 12
+      → ((w : StorageSnapshot) → Room z s b n w → Decided N R A (f w)) → Decided N R A (withRoom z s b n (λ t. f))
+  with-room z s b n p₁₈ p₁₆ p₁₇ p₁₃ p₁₅ p₁ p₁₂ h = let t : Table = s .tables b in
+      checked (ltb b (s .tableCount)) 18 p₁₈ λ there.
+      checked (isActive (t .life)) 16 p₁₆ λ live.
+      checked (ltb 0 n) 17 p₁₇ λ some.
+      checked (atMost n maxBatch) 13 p₁₃ λ few.
+      with-some (snapshotFor z t n) 15 p₁₅ λ w snapshot.
+      checked (atMost (length (w .pages)) (length (s .frames))) 1 p₁ λ frames.
+      checked (freeRow s) 1 p₁ λ row.
+      checked (idLeft s) 12 p₁₂ λ id.
+      h w (record { there = ltb-true b (s .tableCount) there; live = live; some = some; few = few; snapshot = snapshot; frames = frames; row = row; id = id })
 
   pub while-tearing : (x : Lifecycle) {f : ℕ → Decision} → N 18 → ((c : ℕ) → x ≡ tearingDown c → Decided N R A (f c))
       → Decided N R A (teardownCursor x refuse 18 then f)

@@ -5,7 +5,7 @@ use mathlib.Core.Option.{Option, none, some}
 use Prim.Native.Nat.{ℕ}
 use lib.Dec.{ltb}
 use Rattle.model.specs.Base.{pick, member}
-use Rattle.model.specs.State.{Handle, Lifecycle, Lifecycle.active, Lifecycle.tearingDown, Lifecycle.retired, Table, Object, Entry, Body, Body.reservation, Body.claim, Body.parcel, Row, State}
+use Rattle.model.specs.State.{Handle, Lifecycle, Lifecycle.active, Lifecycle.tearingDown, Lifecycle.retired, Table, Object, Entry, Body, Body.reservation, Body.claim, Body.parcel, Body.plan, StorageSnapshot, Row, State}
 use Rattle.model.specs.Request.{Answer}
 use Rattle.model.specs.Book.{find}
 
@@ -62,18 +62,28 @@ asReservation none n f = refusal n
 asReservation (some (reservation b ks)) n f = f b ks
 asReservation (some (claim b es)) n f = refusal n
 asReservation (some (parcel hs)) n f = refusal n
+asReservation (some (plan b c w fs)) n f = refusal n
 
 abbrev pub asClaim : Option Body → ℕ → (ℕ → List Entry → Decision) → Decision
 asClaim none n f = refusal n
 asClaim (some (reservation b ks)) n f = refusal n
 asClaim (some (claim b es)) n f = f b es
 asClaim (some (parcel hs)) n f = refusal n
+asClaim (some (plan b c w fs)) n f = refusal n
 
 abbrev pub asParcel : Option Body → Option (List Handle)
 asParcel none = none
 asParcel (some (reservation b ks)) = none
 asParcel (some (claim b es)) = none
 asParcel (some (parcel hs)) = some hs
+asParcel (some (plan b c w fs)) = none
+
+abbrev pub asPlan : Option Body → ℕ → (ℕ → ℕ → StorageSnapshot → List ℕ → Decision) → Decision
+asPlan none n f = refusal n
+asPlan (some (reservation b ks)) n f = refusal n
+asPlan (some (claim b es)) n f = refusal n
+asPlan (some (parcel hs)) n f = refusal n
+asPlan (some (plan b c w fs)) n f = f b c w fs
 
 infixr 5 reservationRow_of_refuse_then_
 -- the open reservation of an id: its table and its slots
@@ -89,6 +99,11 @@ infixr 5 parcelRow_of_refuse_then_
 -- the parcel of an id: its handles
 abbrev pub parcelRow_of_refuse_then_ : ℕ → State → ℕ → (List Handle → Decision) → Decision
 parcelRow_of_refuse_then_ i s n f = given asParcel (find i (s .book .rows)) refuse n then f
+
+infixr 5 planRow_of_refuse_then_
+-- the plan of an id: its table, its count, its kept snapshot and its frames
+abbrev pub planRow_of_refuse_then_ : ℕ → State → ℕ → (ℕ → ℕ → StorageSnapshot → List ℕ → Decision) → Decision
+planRow_of_refuse_then_ i s n f = asPlan (find i (s .book .rows)) n f
 
 infixr 5 refuseAfterId_then_
 -- "`prepare_transfer_with_storage` spends its id before it looks at any value": refuse with the number of a fault, if there is one, after the id step

@@ -18,7 +18,7 @@ use Rattle.model.specs.Words.{usedWords}
 use Rattle.model.specs.Cases.{Case, _is_, line, fresh, holding, with0, end, last, numbers, placesOf, places, scan, first, v63, item, transfer, at0, orders, lastIds, countOf, three, cursorIn, down, objectWith}
 
 -- a detached last page before another one
-abbrev sparse : Table
+abbrev pub sparse : Table
 sparse = record { limit = 262144; mask = 0; life = active; epoch = 0; size = 262144; pages = λ p. record { frame = none; high = 1 }; slots = λ k. absent; free = []; empty = []; detached = 262143 ∷ 7 ∷ [] }
 
 abbrev roomForOne : State → State

@@ -18,6 +18,7 @@ pub mod Sums
 pub mod Counting
 pub mod Bounds
 pub mod Cases
+pub mod PlanCases
 pub mod Effects
 pub mod WordCases
 pub mod Decided

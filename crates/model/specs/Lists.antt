@@ -16,7 +16,7 @@ use Rattle.model.specs.Request.{Request.releaseParcel, Request.retireObj
 use Rattle.model.specs.Request.{Request.getInfo, Request.resolve, Request.replace, Request.close, Request.scanHandles}
 use Rattle.model.specs.Request.{Request.prepareTransfer, Request.prepareConsumption, Request.rollback, Request.commit, Request.directCommit}
 use Rattle.model.specs.Request.{Request.directRollback, Request.removeStoppingOwner, Request.teardownStart, Request.teardownStep}
-use Rattle.model.specs.Request.{Request.teardownFinish, Request.takeEmptyPage}
+use Rattle.model.specs.Request.{Request.teardownFinish, Request.takeEmptyPage, Request.makePlan, Request.usePlan, Request.dropPlan}
 use Rattle.model.specs.Lookup.{snapshotAt}
 use Rattle.model.specs.Step.{run, step, snapshotPage}
 use Rattle.model.specs.Words.{Reading, andThen, Fields, odd, readField, readFields, must, goodRecord, readRecord, readMany, readTransferItem}
@@ -113,6 +113,9 @@ front-items f (teardownStart b) ws = ([], refl, omega arith)
 front-items f (teardownStep b) ws = ([], refl, omega arith)
 front-items f (teardownFinish b) ws = ([], refl, omega arith)
 front-items f (takeEmptyPage b) ws = ([], refl, omega arith)
+front-items f (makePlan b n) ws = ([], refl, omega arith)
+front-items f (usePlan i) ws = ([], refl, omega arith)
+front-items f (dropPlan i) ws = ([], refl, omega arith)
 
 -- a request is read off the front of the list: a word at least, and never a word past it
 pub request-in-front : (ws : List ℕ) → Front 1 ws (readRequest ws)

@@ -1,7 +1,7 @@
 -- Demand 1 on the definitions: "a refused request carries a number from document 01 and changes nothing, save the one reservation id spent by
 -- a transfer preparation refused after its id step".
 use mathlib.Core.Path.{_≡_, refl, ap}
-use mathlib.Core.Bool.{Bool, true, false, not, _&&_}
+use mathlib.Core.Bool.{Bool, true, false, not, _&&_, _||_}
 use mathlib.Core.List.{List, [], _∷_, map}
 use mathlib.Core.Option.{Option, none, some}
 use Prim.Native.Nat.{ℕ}
@@ -11,14 +11,14 @@ use borrow.Author.Tests.{not-true}
 use Rattle.authority.specs.Rights.{contains, duplicateRight}
 use Rattle.model.specs.Base.{pick, between, atMost, isSome, member}
 use Rattle.model.specs.State.{Sizes, Handle, Table, Object, State, isActive, maxBatch, knownFlags}
-use Rattle.model.specs.Storage.{pagesFor}
+use Rattle.model.specs.Storage.{isStale}
 use Rattle.model.specs.Request.{Route, Item, Answer, Answer.refused, Answer.done, Answer.opened, Answer.batch, Answer.infoOf, Answer.resolved}
-use Rattle.model.specs.Request.{Answer.renewed, Answer.scanned, Answer.removed, Answer.closed, Answer.taken, Request, Request.newObject}
+use Rattle.model.specs.Request.{Answer.renewed, Answer.scanned, Answer.removed, Answer.closed, Answer.taken, Answer.planned, Request, Request.newObject}
 use Rattle.model.specs.Request.{Request.duplicate, Request.releaseParcel, Request.retireObject, Request.reserve, Request.trim, Request.abort}
 use Rattle.model.specs.Request.{Request.publish, Request.getInfo, Request.resolve, Request.replace, Request.close, Request.scanHandles}
 use Rattle.model.specs.Request.{Request.prepareTransfer, Request.prepareConsumption, Request.rollback, Request.commit, Request.directCommit}
 use Rattle.model.specs.Request.{Request.directRollback, Request.removeStoppingOwner, Request.teardownStart, Request.teardownStep}
-use Rattle.model.specs.Request.{Request.teardownFinish, Request.takeEmptyPage}
+use Rattle.model.specs.Request.{Request.teardownFinish, Request.takeEmptyPage, Request.makePlan, Request.usePlan, Request.dropPlan}
 use Rattle.model.specs.Objects.{isNowActive, isNowRetired, change, raise}
 use Rattle.model.specs.Book.{find, freeRow, idLeft, anyOpen, spendId, copiesOf}
 use Rattle.model.specs.Decision.{Decision, Decision.refusal, Decision.refusalAfterId, Decision.accept, asParcel}
@@ -28,9 +28,9 @@ use Rattle.model.specs.Transfer.{Check, firstFault, itemChecks, copyChec
 use Rattle.model.specs.Step.{decide, step, carry, newObjectOf, duplicateOf, releaseParcelOf, retireObjectOf, reserveOf, trimOf, abortOf}
 use Rattle.model.specs.Step.{publishOf, getInfoOf, resolveOf, replaceOf, closeOf, scanHandlesOf, prepareTransferOf, prepareConsumptionOf}
 use Rattle.model.specs.Step.{rollbackOf, commitOf, directCommitOf, directRollbackOf, removeStoppingOwnerOf, removeAt, nextOccupied}
-use Rattle.model.specs.Step.{teardownStartOf, tearAt, teardownStepOf, teardownFinishOf, takeAt, takeEmptyPageOf}
+use Rattle.model.specs.Step.{teardownStartOf, tearAt, teardownStepOf, teardownFinishOf, takeAt, takeEmptyPageOf, makePlanOf, usePlanOf, dropPlanOf}
 use Rattle.model.specs.Tests.{clash, and-left, and-right}
-use Rattle.model.specs.Decided.{Decided, accepts, checked, with-some, with-view, with-handle, with-reservation, with-claim, while-tearing}
+use Rattle.model.specs.Decided.{Decided, accepts, checked, with-some, with-view, with-handle, with-reservation, with-claim, with-plan, with-room, while-tearing}
 use Rattle.model.specs.Decided.{after-id, either-way, found-or, first-or}
 
 abbrev pub isRefused : Answer → Bool
@@ -45,6 +45,7 @@ isRefused (scanned p) = false
 isRefused (removed x c) = false
 isRefused (closed x) = false
 isRefused (taken p) = false
+isRefused (planned i n m) = false
 
 abbrev pub isTransfer : Request → Bool
 isTransfer (newObject o r f) = false
@@ -71,10 +72,13 @@ isTransfer (teardownStart b) = false
 isTransfer (teardownStep b) = false
 isTransfer (teardownFinish b) = false
 isTransfer (takeEmptyPage b) = false
+isTransfer (makePlan b n) = false
+isTransfer (usePlan i) = false
+isTransfer (dropPlan i) = false
 
--- a request's refusals have the numbers 1 to 18
+-- a request's refusals have the numbers 1 to 18, and 21 (document 02, 1)
 abbrev pub numbered : ℕ → Bool
-numbered n = between 1 n 18
+numbered n = between 1 n 18 || eqb n 21
 
 -- the numbers of a transfer's items and copies, which are looked at after the id step
 abbrev pub judged : ℕ → Bool
@@ -128,7 +132,7 @@ faults-copies os (h ∷ hs) =
 
 module _ (z : Sizes) (s : State) where
   pub decide-fits : (r : Request) → Fits (isTransfer r) (decide z s r)
-  unfolding decide newObjectOf duplicateOf releaseParcelOf retireObjectOf reserveOf trimOf abortOf publishOf getInfoOf resolveOf replaceOf closeOf scanHandlesOf prepareTransferOf prepareConsumptionOf rollbackOf commitOf directCommitOf directRollbackOf removeStoppingOwnerOf teardownStartOf teardownStepOf teardownFinishOf takeEmptyPageOf
+  unfolding decide newObjectOf duplicateOf releaseParcelOf retireObjectOf reserveOf trimOf abortOf publishOf getInfoOf resolveOf replaceOf closeOf scanHandlesOf prepareTransferOf prepareConsumptionOf rollbackOf commitOf directCommitOf directRollbackOf removeStoppingOwnerOf teardownStartOf teardownStepOf teardownFinishOf takeEmptyPageOf makePlanOf usePlanOf dropPlanOf
   decide-fits (newObject o r f) =
       checked (ltb o (s .objectCount)) 18 refl λ e.
       checked (freeRow s) 1 refl λ e.
@@ -158,14 +162,7 @@ module _ (z : Sizes) (s : State) where
       checked (ltb o (s .objectCount)) 18 refl λ e.
       accepts refl
   decide-fits (reserve b n) =
-      checked (ltb b (s .tableCount)) 18 refl λ e.
-      checked (isActive (s .tables b .life)) 16 refl λ e.
-      checked (ltb 0 n) 17 refl λ e.
-      checked (atMost n maxBatch) 13 refl λ e.
-      with-some (pagesFor z (s .tables b) n) 15 refl λ ps e.
-      checked (atMost (length ps) (length (s .frames))) 1 refl λ e.
-      checked (freeRow s) 1 refl λ e.
-      checked (idLeft s) 12 refl λ e.
+      with-room z s b n refl refl refl refl refl refl refl λ w e.
       accepts refl
   decide-fits (trim i n) =
       with-reservation (find i (s .book .rows)) refl λ b ks e.
@@ -262,8 +259,20 @@ module _ (z : Sizes) (s : State) where
       let t : Table = s .tables b in
       checked (ltb b (s .tableCount)) 18 refl λ e.
       either-way (isActive (t .life)) (λ a. first-or (takeAt z s b t) (t .empty) (accepts refl) λ p ps e. accepts refl) (accepts refl)
+  decide-fits (makePlan b n) =
+      with-room z s b n refl refl refl refl refl refl refl λ w e.
+      accepts refl
+  decide-fits (usePlan i) =
+      with-plan (find i (s .book .rows)) refl λ b n w fs e.
+      checked (isActive (s .tables b .life)) 16 refl λ e.
+      checked (not (isStale z (s .tables b) n w)) 21 refl λ e.
+      checked (idLeft s) 12 refl λ e.
+      accepts refl
+  decide-fits (dropPlan i) =
+      with-plan (find i (s .book .rows)) refl λ b n w fs e.
+      accepts refl
 
--- what a refused request leaves: its number is one of 1 to 18; nothing changes, save the one id of a transfer's preparation that is refused for an item or a copy
+-- what a refused request leaves: its number is one of 1 to 18, or 21; nothing changes, save the one id of a transfer's preparation that is refused for an item or a copy
 pub record Refused (z : Sizes) (s : State) (r : Request) (n : ℕ) : Type 0 where
   pub number : numbered n ≡ true
   pub kept : spends r n ≡ false → step z s r .0 ≡ s

@@ -1,4 +1,4 @@
--- The requests of document 01 and their answers.
+-- The requests of document 01 and their answers; and those of document 02.
 use mathlib.Core.List.{List}
 use mathlib.Core.Option.{Option}
 use Prim.Native.Nat.{ℕ}
@@ -49,6 +49,9 @@ pub data Request : Type 0 where
   teardownStep : (table : ℕ) → Request
   teardownFinish : (table : ℕ) → Request
   takeEmptyPage : (table : ℕ) → Request
+  makePlan : (table count : ℕ) → Request
+  usePlan : (id : ℕ) → Request
+  dropPlan : (id : ℕ) → Request
 
 -- mod.rs `HandleInfo`
 pub record Info : Type 0 where
@@ -68,7 +71,7 @@ pub record SnapshotPage : Type 0 where
   pub next : Option ℕ
   pub examined : ℕ
 
--- `closed` is a teardown step's, `infoOf` that of `get_info` and of closing
+-- `closed` is a teardown step's, `infoOf` that of `get_info` and of closing, `batch` that of a reservation and of a plan that is used
 pub data Answer : Type 0 where
   refused : (number : ℕ) → Answer
   done : Answer
@@ -81,3 +84,4 @@ pub data Answer : Type 0 where
   removed : Option Snapshot → (cursor : ℕ) → Answer
   closed : Option Info → Answer
   taken : (page : Option ℕ) → Answer
+  planned : (id count frames : ℕ) → Answer

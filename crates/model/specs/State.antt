@@ -153,11 +153,19 @@ pub data Entry : Type 0 where
   moved : ℕ → Handle → ℕ → Entry
   copied : Handle → Entry
 
--- "rows, each an open reservation, an open claim, or a parcel of 1 to 64 loose handles"
+-- storage.rs `HandleTableStorageSnapshot`, less directory chunks: what a reservation finds in its table, and the pages that it would attach, in order
+pub record StorageSnapshot : Type 0 where
+  pub epoch : ℕ
+  pub freeSlots : ℕ
+  pub pages : List ℕ
+
+-- "rows, each an open reservation, an open claim, or a parcel of 1 to 64 loose handles"; and document 02, 1: a plan of a reservation of a count in a table, with
+-- its kept snapshot and the frames that it holds
 pub data Body : Type 0 where
   reservation : ℕ → List ℕ → Body
   claim : ℕ → List Entry → Body
   parcel : List Handle → Body
+  plan : (table count : ℕ) → StorageSnapshot → (frames : List ℕ) → Body
 
 pub record Row : Type 0 where
   pub id : ℕ

@@ -2,7 +2,7 @@
 --
 -- Letters: s a state, b a table's number and t the table, o an object's number and x the object, v a handle value, k the number of its slot, h its handle, g a
 -- generation, r rights, f flags, n a count, i and j ids (i of the row that a request names first), c a cursor or the number of a second table, ks slots, es a
--- claim's entries, hs handles, is ids, ps pages, qs a transfer's items. The words between (`table .. of`, `unless .. refuse`, `leave .. answer`) are defined in
+-- claim's entries, hs handles, is ids, ps pages, fs frames, w a kept snapshot, qs a transfer's items. The words between (`table .. of`, `unless .. refuse`, `leave .. answer`) are defined in
 -- Decision.antt, Lookup.antt and Effect.antt.
 use mathlib.Core.List.{List, [], _∷_, map}
 use mathlib.Core.Option.{Option, none, some}
@@ -11,19 +11,19 @@ use lib.ListN.{length, take, drop}
 use lib.Dec.{eqb, ltb}
 use Rattle.authority.specs.Rights.{contains, duplicateRight}
 use Rattle.codec.specs.Codec.{encode, nextGeneration}
-use Rattle.model.specs.Base.{pick, isSome, atMost, insert}
-use Rattle.model.specs.State.{Sizes, Handle, Slot.reserved, Slot.transferReserved, Slot.occupied, Lifecycle.tearingDown, Lifecycle.retired, Table, Entry, Entry.moved, Entry.copied, Body.reservation, Body.claim, Body.parcel, State}
+use Rattle.model.specs.Base.{pick, isSome, atMost, insert, insertAll}
+use Rattle.model.specs.State.{Sizes, Handle, Slot.reserved, Slot.transferReserved, Slot.occupied, Lifecycle.tearingDown, Lifecycle.retired, Table, Entry, Entry.moved, Entry.copied, Body.reservation, Body.claim, Body.parcel, Body.plan, StorageSnapshot, State}
 use Rattle.model.specs.State.{generation, isActive, maxBatch, knownFlags}
-use Rattle.model.specs.Storage.{place, keep, keepAll, vacate, vacateAll, takeFree, pagesFor, grow, detach, lengthOf, firstOccupied, Walk, walk}
+use Rattle.model.specs.Storage.{place, keep, keepAll, vacate, vacateAll, takeFree, snapshotFor, isStale, grow, detach, lengthOf, firstOccupied, Walk, walk}
 use Rattle.model.specs.Request.{Route, Item, SnapshotPage}
-use Rattle.model.specs.Request.{Answer, Answer.refused, Answer.done, Answer.opened, Answer.batch, Answer.infoOf, Answer.resolved, Answer.renewed, Answer.scanned, Answer.removed, Answer.closed, Answer.taken}
-use Rattle.model.specs.Request.{Request, Request.newObject, Request.duplicate, Request.releaseParcel, Request.retireObject, Request.reserve, Request.trim, Request.abort, Request.publish, Request.getInfo, Request.resolve, Request.replace, Request.close, Request.scanHandles, Request.prepareTransfer, Request.prepareConsumption, Request.rollback, Request.commit, Request.directCommit, Request.directRollback, Request.removeStoppingOwner, Request.teardownStart, Request.teardownStep, Request.teardownFinish, Request.takeEmptyPage}
+use Rattle.model.specs.Request.{Answer, Answer.refused, Answer.done, Answer.opened, Answer.batch, Answer.infoOf, Answer.resolved, Answer.renewed, Answer.scanned, Answer.removed, Answer.closed, Answer.taken, Answer.planned}
+use Rattle.model.specs.Request.{Request, Request.newObject, Request.duplicate, Request.releaseParcel, Request.retireObject, Request.reserve, Request.trim, Request.abort, Request.publish, Request.getInfo, Request.resolve, Request.replace, Request.close, Request.scanHandles, Request.prepareTransfer, Request.prepareConsumption, Request.rollback, Request.commit, Request.directCommit, Request.directRollback, Request.removeStoppingOwner, Request.teardownStart, Request.teardownStep, Request.teardownFinish, Request.takeEmptyPage, Request.makePlan, Request.usePlan, Request.dropPlan}
 use Rattle.model.specs.Change.{withLife}
 use Rattle.model.specs.Objects.{isNowActive, isNowRetired, limitReached, activated, raise, retiredByOwner, infoFor, withRights}
 use Rattle.model.specs.Book.{spendId, freeRow, idLeft, anyOpen, movedOf, copiesOf, sentOf}
 use Rattle.model.specs.Effect.{_settingTable_to_, _settingFrames_, _changing_by_, _raising_, _releasing_, _opening_, _ending_, _endingAll_, _turning_into_}
 use Rattle.model.specs.Decision.{Decision, Decision.refusal, Decision.refusalAfterId, Decision.accept, leave_answer_, unless_leaving_answering_then_, unless_refuse_then_, when_refuse_then_, given_refuse_then_, table_of_refuse_then_, object_of_refuse_then_}
-use Rattle.model.specs.Decision.{reservationRow_of_refuse_then_, claimRow_of_refuse_then_, parcelRow_of_refuse_then_, refuseAfterId_then_, teardownCursor_refuse_then_, handlesOf, distinct}
+use Rattle.model.specs.Decision.{reservationRow_of_refuse_then_, claimRow_of_refuse_then_, parcelRow_of_refuse_then_, planRow_of_refuse_then_, refuseAfterId_then_, teardownCursor_refuse_then_, handlesOf, distinct}
 use Rattle.model.specs.Lookup.{handle_of_refuse_orBusy_then_, valueAt, handleOr, snapshotAt}
 use Rattle.model.specs.Transfer.{itemsFault, copiesFault, entryFor}
 
@@ -91,25 +91,60 @@ module _ (z : Sizes) where
       changing o by retiredByOwner
       answer done
 
-  -- "Reserve: 16, 17, 13, 15, 1, 12"
-  unfoldable pub reserveOf : State → (tableNumber count : ℕ) → Decision
-  reserveOf s b n =
+  -- "Reserve: 16, 17, 13, 15, 1, 12": the checks of a reservation of n slots, which a plan has too ("with the refusals of a reservation in its order")
+  abbrev pub withRoom : State → (tableNumber count : ℕ) → (Table → StorageSnapshot → Decision) → Decision
+  withRoom s b n f =
       table b of s refuse 18 then λ t.
       unless isActive (t .life) refuse 16 then
       unless ltb 0 n refuse 17 then
       unless atMost n maxBatch refuse 13 then
-      given pagesFor z t n refuse 15 then λ ps.
-      unless atMost (length ps) (length (s .frames)) refuse 1 then
+      given snapshotFor z t n refuse 15 then λ w.
+      unless atMost (length (w .pages)) (length (s .frames)) refuse 1 then
       unless freeRow s refuse 1 then
       unless idLeft s refuse 12 then
+      f t w
+
+  -- the first n slots of the free order of table b, which has grown, are Reserved under the next id
+  abbrev pub reserveIn : State → (tableNumber count : ℕ) → Table → Decision
+  reserveIn s b n grown =
       let i : ℕ = s .book .next in
-      let grown : Table = grow z ps (s .frames) t in
       let ks : List ℕ = take n (grown .free) in
       leave s
       settingTable b to takeFree z n (λ g. reserved g i) grown
-      settingFrames drop (length ps) (s .frames)
       opening reservation b ks
       answer batch i (map (valueAt grown) ks)
+
+  -- a reservation: its pages in the lowest free frames
+  unfoldable pub reserveOf : State → (tableNumber count : ℕ) → Decision
+  reserveOf s b n = withRoom s b n λ t w.
+      reserveIn (s settingFrames drop (length (w .pages)) (s .frames)) b n (grow z (w .pages) (s .frames) t)
+
+  -- document 02, 1: a plan of a reservation. "The plan takes one row and one id"; it holds the lowest free frames, as many as its snapshot has pages
+  unfoldable pub makePlanOf : State → (tableNumber count : ℕ) → Decision
+  makePlanOf s b n = withRoom s b n λ t w.
+      leave s
+      settingFrames drop (length (w .pages)) (s .frames)
+      opening plan b n w (take (length (w .pages)) (s .frames))
+      answer planned (s .book .next) n (length (w .pages))
+
+  -- "21 StalePlan, after TableRetired and before the id". "Using it spends a further id: the plan's row goes, and the reservation, its pages in the plan's frames
+  -- lowest first, stands last in the book under the new id"
+  unfoldable pub usePlanOf : State → (id : ℕ) → Decision
+  usePlanOf s i =
+      planRow i of s refuse 18 then λ b n w fs.
+      unless isActive (s .tables b .life) refuse 16 then
+      when isStale z (s .tables b) n w refuse 21 then
+      unless idLeft s refuse 12 then
+      reserveIn (s ending i) b n (grow z (w .pages) fs (s .tables b))
+
+  -- "Dropping refuses only an unknown plan": its frames are free again
+  unfoldable pub dropPlanOf : State → (id : ℕ) → Decision
+  dropPlanOf s i =
+      planRow i of s refuse 18 then λ b n w fs.
+      leave s
+      settingFrames insertAll fs (s .frames)
+      ending i
+      answer done
 
   -- "trim to 0 or above the batch": 18
   unfoldable pub trimOf : State → (id count : ℕ) → Decision
@@ -388,6 +423,9 @@ module _ (z : Sizes) where
   decide s (teardownStep b) = teardownStepOf s b
   decide s (teardownFinish b) = teardownFinishOf s b
   decide s (takeEmptyPage b) = takeEmptyPageOf s b
+  decide s (makePlan b n) = makePlanOf s b n
+  decide s (usePlan i) = usePlanOf s i
+  decide s (dropPlan i) = dropPlanOf s i
 
   -- "a refused request carries a number and changes nothing, save the one reservation id spent by a transfer preparation refused after
   -- its id step"

@@ -6,8 +6,8 @@ use Prim.Native.Nat.{ℕ, zero, suc, _+_, _-_, _*_, _/_, _%_, _^_, min, max}
 use lib.ListN.{length, take, drop}
 use lib.Dec.{eqb, ltb}
 use Rattle.codec.specs.Codec.{nextGeneration}
-use Rattle.model.specs.Base.{pick, put, range, pushAll, without, dropIf, also}
-use Rattle.model.specs.State.{Sizes, Slot, Slot.absent, Slot.vacant, Page, Table, generation, isBusy, isOccupied, maxSlots, maxBatch}
+use Rattle.model.specs.Base.{pick, put, range, pushAll, without, dropIf, also, sameList}
+use Rattle.model.specs.State.{Sizes, Slot, Slot.absent, Slot.vacant, Page, Table, StorageSnapshot, generation, isBusy, isOccupied, maxSlots, maxBatch}
 
 -- tables with one part changed
 abbrev pub withFree : Table → List ℕ → Table
@@ -31,6 +31,16 @@ raised p g = record { frame = p .frame; high = max (p .high) g }
 abbrev pub busyIn : (ℕ → Slot) → ℕ → ℕ → ℕ
 busyIn f k zero = 0
 busyIn f k (suc n) = pick (isBusy (f k)) (suc (busyIn f (suc k) n)) (busyIn f (suc k) n)
+
+-- a table's snapshot with the pages found; none if none were
+abbrev pub snapshotWith : Table → Option (List ℕ) → Option StorageSnapshot
+snapshotWith t none = none
+snapshotWith t (some ps) = some (record { epoch = t .epoch; freeSlots = length (t .free); pages = ps })
+
+-- whether a snapshot, if there is one, is the one kept
+abbrev pub stillIs : Option StorageSnapshot → StorageSnapshot → Bool
+stillIs none w = false
+stillIs (some v) w = eqb (v .epoch) (w .epoch) && (eqb (v .freeSlots) (w .freeSlots) && sameList (v .pages) (w .pages))
 
 module _ (z : Sizes) where
   abbrev pub pageOf : ℕ → ℕ
@@ -111,6 +121,14 @@ module _ (z : Sizes) where
   unfoldable pub pagesFor : Table → ℕ → Option (List ℕ)
   pagesFor t n = pagesFrom maxBatch (n - length (t .free)) (t .detached) (t .size) (t .limit)
 
+  -- mod.rs `reservation_storage_snapshot_for`, of an active table: "a snapshot looks at the table alone, never at free frames, rows or ids"
+  abbrev pub snapshotFor : Table → ℕ → Option StorageSnapshot
+  snapshotFor t n = snapshotWith t (pagesFor t n)
+
+  -- a plan of n slots: "It is stale exactly when a snapshot for its count taken now would differ or be refused"
+  abbrev pub isStale : Table → ℕ → StorageSnapshot → Bool
+  isStale t n w = not (stillIs (snapshotFor t n) w)
+
   -- a page is attached in a frame. "`fresh_generation` at the limit gives 1 and lowers the page's high mark to 1"; "A new page is
   -- published by rising slot"
   unfoldable pub attach : Table → ℕ → ℕ → Table
@@ -127,7 +145,7 @@ module _ (z : Sizes) where
     detached = without p (t .detached);
   }
 
-  -- the pages of a snapshot, each in the lowest frame that is left; the epoch advances once
+  -- the pages of a snapshot, each in the next of the frames; the epoch advances once
   abbrev pub attachAll : List ℕ → List ℕ → Table → Table
   attachAll [] fs t = t
   attachAll (p ∷ ps) [] t = t

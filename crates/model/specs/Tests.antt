@@ -10,7 +10,7 @@ use lib.ListN.{length}
 use lib.Dec.{eqb, ltb}
 use borrow.Author.Tests.{ltb-false, eqb-true, eqb-false, eq-eqb, ne-eqb, not-true}
 pub use Rattle.words.specs.Pick.{bool, clash, and-left, and-right}
-use Rattle.model.specs.Base.{bit, pick, put, also, nth, every, atMost, between}
+use Rattle.model.specs.Base.{bit, pick, put, also, nth, every, sameList, atMost, between}
 
 infixr 4 _&_
 -- a pair, for lists of facts that are pairs of pairs
@@ -102,3 +102,18 @@ module _ {ℓ} {A : Type ℓ} where
   nth-passes p [] e k a h = apart (cc)
   nth-passes p (x ∷ xs) e zero a h = let y : x ≡ a = cc in rw y at (and-left (p x) (every p xs) e)
   nth-passes p (x ∷ xs) e (suc k) a h = nth-passes p xs (and-right (p x) (every p xs) e) k a h
+
+-- lists that pass the test are one, and one list passes it
+
+pub sameList-equal : (a b : List ℕ) → sameList a b ≡ true → a ≡ b
+sameList-equal [] [] e = refl
+sameList-equal [] (y ∷ ys) e = cc
+sameList-equal (x ∷ xs) [] e = cc
+sameList-equal (x ∷ xs) (y ∷ ys) e =
+    let h : x ≡ y = eqb-true x y (and-left (eqb x y) (sameList xs ys) e) in
+    let t : xs ≡ ys = sameList-equal xs ys (and-right (eqb x y) (sameList xs ys) e) in
+    cc
+
+pub sameList-same : (a : List ℕ) → sameList a a ≡ true
+sameList-same [] = refl
+sameList-same (x ∷ xs) = rw (same x, sameList-same xs)

@@ -3,14 +3,14 @@ use mathlib.Core.Path.{_≡_}
 use mathlib.Core.Bool.{Bool, true, false, not, _&&_}
 use mathlib.Core.List.{List, [], _∷_, map}
 use mathlib.Core.Option.{Option, none, some}
-use Prim.Native.Nat.{ℕ, zero, suc, _+_, _^_, _≤_, _<_}
+use Prim.Native.Nat.{ℕ, zero, suc, _+_, _-_, _^_, _≤_, _<_}
 use lib.ListN.{length}
 use lib.Dec.{eqb, ltb}
 use Rattle.codec.specs.Codec.{generationLimit}
 use Rattle.model.specs.Base.{bit, pick, occurs, sum, isSome}
-use Rattle.model.specs.State.{Sizes, Handle, Slot, Slot.absent, Slot.vacant, Slot.reserved, Slot.transferReserved, Slot.occupied, Page, Lifecycle, Lifecycle.active, Lifecycle.tearingDown, Lifecycle.retired, Table, Stage, Stage.stillNew, Stage.nowActive, Stage.nowRetired, Object, Entry, Entry.moved, Entry.copied, Body, Body.reservation, Body.claim, Body.parcel, Row, Book, State}
+use Rattle.model.specs.State.{Sizes, Handle, Slot, Slot.absent, Slot.vacant, Slot.reserved, Slot.transferReserved, Slot.occupied, Page, Lifecycle, Lifecycle.active, Lifecycle.tearingDown, Lifecycle.retired, Table, Stage, Stage.stillNew, Stage.nowActive, Stage.nowRetired, Object, Entry, Entry.moved, Entry.copied, Body, Body.reservation, Body.claim, Body.parcel, Body.plan, StorageSnapshot, Row, Book, State}
 use Rattle.model.specs.State.{generation, isVacant, isOccupied, isAbsent, isActive, isRetired, noPage, noTable, noObject, maxTables, maxFrames, maxObjects, maxRows, maxBatch, maxLimit, maxSlots, knownFlags}
-use Rattle.model.specs.Storage.{pageOf, busyOf}
+use Rattle.model.specs.Storage.{pageOf, slotsOf, busyOf}
 use Rattle.model.specs.Create.{maxPages}
 use Rattle.model.specs.Book.{find, anyOpen, movedOf}
 
@@ -40,13 +40,39 @@ All P (x ∷ xs) = P x × All P xs
 abbrev pub Batch {ℓ} : {A : Type ℓ} → List A → Type 0
 Batch l = (1 ≤ length l) × (length l ≤ maxBatch)
 
-abbrev pub BodyRange : State → Body → Type 0
-BodyRange s (reservation b ks) = (b < s .tableCount) × Batch ks
-BodyRange s (claim b es) = (b < s .tableCount) × Batch es × All (EntryRange s) es
-BodyRange s (parcel hs) = Batch hs × All (HandleRange s) hs
+abbrev pub Rising : List ℕ → Type 0
+Rising [] = Unit {0}
+Rising (x ∷ []) = Unit {0}
+Rising (x ∷ y ∷ ys) = (x < y) × Rising (y ∷ ys)
 
-abbrev pub RowRange : State → Row → Type 0
-RowRange s r = BodyRange s (r .body)
+-- pages that make room for n slots, and none that is not needed for it
+abbrev pub JustEnough : Sizes → ℕ → List ℕ → Type 0
+JustEnough z n [] = n ≡ 0
+JustEnough z n (p ∷ ps) = (1 ≤ n) × JustEnough z (n - slotsOf z p) ps
+
+-- a kept snapshot of n slots: its pages are those that are wanted beside its free slots
+pub record SnapshotRange (z : Sizes) (n : ℕ) (w : StorageSnapshot) : Type 0 where
+  pub epoch : w .epoch < 2 ^ 64
+  pub freeSlots : w .freeSlots ≤ maxSlots
+  pub pages : All (λ p. p < maxPages z) (w .pages)
+  pub enough : JustEnough z (n - w .freeSlots) (w .pages)
+
+-- a plan of 1 to 64 slots. "The state check counts a plan's frames as held by it, as many as its kept snapshot needs"; they rise
+pub record PlanRange (z : Sizes) (s : State) (b n : ℕ) (w : StorageSnapshot) (fs : List ℕ) : Type 0 where
+  pub table : b < s .tableCount
+  pub count : (1 ≤ n) × (n ≤ maxBatch)
+  pub kept : SnapshotRange z n w
+  pub held : length fs ≡ length (w .pages)
+  pub rising : Rising fs
+
+abbrev pub BodyRange : Sizes → State → Body → Type 0
+BodyRange z s (reservation b ks) = (b < s .tableCount) × Batch ks
+BodyRange z s (claim b es) = (b < s .tableCount) × Batch es × All (EntryRange s) es
+BodyRange z s (parcel hs) = Batch hs × All (HandleRange s) hs
+BodyRange z s (plan b n w fs) = PlanRange z s b n w fs
+
+abbrev pub RowRange : Sizes → State → Row → Type 0
+RowRange z s r = BodyRange z s (r .body)
 
 -- a teardown cursor stands at a slot or past the last
 abbrev pub LifeRange : Lifecycle → Type 0
@@ -78,9 +104,9 @@ pub record Ranges (z : Sizes) (s : State) : Type 0 where
   pub rowCount : length (s .book .rows) ≤ s .book .capacity
   pub tables : (b : ℕ) → b < s .tableCount → TableRange z s (s .tables b)
   pub objects : (o : ℕ) → o < s .objectCount → ObjectRange (s .objects o)
-  pub rows : All (RowRange s) (s .book .rows)
+  pub rows : All (RowRange z s) (s .book .rows)
 
--- "each attached page has a frame of its own and all other frames are free"
+-- "each attached page has a frame of its own and all other frames are free", but for those that a plan holds
 
 abbrev pub isFrame : Option ℕ → ℕ → Bool
 isFrame none f = false
@@ -90,13 +116,25 @@ isFrame (some g) f = eqb f g
 abbrev pub pagesWith : State → ℕ → ℕ
 pagesWith s f = sum (s .tableCount) λ b. sum (s .tables b .limit) λ p. bit (isFrame (s .tables b .pages p .frame) f)
 
-abbrev pub Rising : List ℕ → Type 0
-Rising [] = Unit {0}
-Rising (x ∷ []) = Unit {0}
-Rising (x ∷ y ∷ ys) = (x < y) × Rising (y ∷ ys)
+-- a number for each row's body, added up
+abbrev pub overRows : (Body → ℕ) → List Row → ℕ
+overRows g [] = 0
+overRows g (r ∷ rs) = g (r .body) + overRows g rs
 
+-- the frames that a row holds: a plan's
+abbrev pub framesIn : Body → List ℕ
+framesIn (reservation b ks) = []
+framesIn (claim b es) = []
+framesIn (parcel hs) = []
+framesIn (plan b n w fs) = fs
+
+-- how often the frame is held by a plan
+abbrev pub plansWith : List Row → ℕ → ℕ
+plansWith rs f = overRows (λ b. occurs f (framesIn b)) rs
+
+-- each frame has one page, is held by one plan, or is free
 pub record Frames (s : State) : Type 0 where
-  pub once : (f : ℕ) → pagesWith s f + occurs f (s .frames) ≡ bit (ltb f (s .frameCount))
+  pub once : (f : ℕ) → pagesWith s f + plansWith (s .book .rows) f + occurs f (s .frames) ≡ bit (ltb f (s .frameCount))
   pub rising : Rising (s .frames)
 
 -- "the free order holds every vacant slot once and nothing else, and the empty and detached pages' orders every such page once and
@@ -135,14 +173,14 @@ abbrev pub handlesIn : Body → List Handle
 handlesIn (reservation b ks) = []
 handlesIn (claim b es) = map heldBy es
 handlesIn (parcel hs) = hs
+handlesIn (plan b n w fs) = []
 
 abbrev pub inHandles : ℕ → List Handle → ℕ
 inHandles o [] = 0
 inHandles o (h ∷ hs) = ofObject o h + inHandles o hs
 
 abbrev pub inRows : ℕ → List Row → ℕ
-inRows o [] = 0
-inRows o (r ∷ rs) = inHandles o (handlesIn (r .body)) + inRows o rs
+inRows o rs = overRows (λ b. inHandles o (handlesIn b)) rs
 
 -- the handles of an object: in occupied slots, open claims and parcels
 abbrev pub handleCount : State → ℕ → ℕ
@@ -195,12 +233,14 @@ inReservation b k none = 0
 inReservation b k (some (reservation c ks)) = pick (eqb b c) (occurs k ks) 0
 inReservation b k (some (claim c es)) = 0
 inReservation b k (some (parcel hs)) = 0
+inReservation b k (some (plan c n w fs)) = 0
 
 abbrev pub inClaim : ℕ → ℕ → Option Body → ℕ
 inClaim b k none = 0
 inClaim b k (some (reservation c ks)) = 0
 inClaim b k (some (claim c es)) = pick (eqb b c) (occurs k (movedOf es)) 0
 inClaim b k (some (parcel hs)) = 0
+inClaim b k (some (plan c n w fs)) = 0
 
 pub record Marks (s : State) : Type 0 where
   pub reserved : (i b k : ℕ) → inReservation b k (find i (s .book .rows)) ≡ bit (isReservedBy i (s .tables b .slots k))

@@ -10,7 +10,7 @@ use Rattle.model.specs.Base.{pick, nth, isSome, orElse, range}
 use Rattle.model.specs.State.{till, State, maxBatch, maxSlots, lastId}
 use Rattle.model.specs.Storage.{place, takeFree, pagesFor, attach}
 use Rattle.model.specs.Request.{Route, Route.buffered, Route.rendezvous, Route.stagedStartup, Operation, Operation.asMove, Operation.asCopy, Item}
-use Rattle.model.specs.Request.{Request, Request.newObject, Request.duplicate, Request.releaseParcel, Request.retireObject, Request.reserve, Request.trim, Request.abort, Request.publish, Request.getInfo, Request.resolve, Request.replace, Request.close, Request.scanHandles, Request.prepareTransfer, Request.prepareConsumption, Request.rollback, Request.commit, Request.directCommit, Request.directRollback, Request.removeStoppingOwner, Request.teardownStart, Request.teardownStep, Request.teardownFinish, Request.takeEmptyPage}
+use Rattle.model.specs.Request.{Request, Request.newObject, Request.duplicate, Request.releaseParcel, Request.retireObject, Request.reserve, Request.trim, Request.abort, Request.publish, Request.getInfo, Request.resolve, Request.replace, Request.close, Request.scanHandles, Request.prepareTransfer, Request.prepareConsumption, Request.rollback, Request.commit, Request.directCommit, Request.directRollback, Request.removeStoppingOwner, Request.teardownStart, Request.teardownStep, Request.teardownFinish, Request.takeEmptyPage, Request.makePlan, Request.usePlan, Request.dropPlan}
 use Rattle.model.specs.Step.{decide, step, newObjectOf, reserveOf}
 use Rattle.model.specs.Words.{Outcome, readRequest, readList, usedWords, wordsOf, answerShort, call}
 use Rattle.model.specs.Cases.{Case, _is_, line, fresh}
@@ -73,6 +73,9 @@ shown (teardownStart b) = 21 ∷ b ∷ []
 shown (teardownStep b) = 22 ∷ b ∷ []
 shown (teardownFinish b) = 23 ∷ b ∷ []
 shown (takeEmptyPage b) = 24 ∷ b ∷ []
+shown (makePlan b n) = 25 ∷ b ∷ n ∷ []
+shown (usePlan i) = 26 ∷ i ∷ []
+shown (dropPlan i) = 27 ∷ i ∷ []
 
 -- the requests that a list is read as
 abbrev readsAs : List ℕ → List ℕ
@@ -99,7 +102,7 @@ readings =
     ∷ reads (0x800000000000000b ∷ 5 ∷ 0 ∷ 3 ∷ 1 ∷ []) is (19 ∷ [])
     -- "unknown op"
     ∷ reads (1 ∷ 0 ∷ []) is (19 ∷ [])
-    ∷ reads (11 ∷ 25 ∷ 0 ∷ 3 ∷ []) is (19 ∷ [])
+    ∷ reads (11 ∷ 28 ∷ 0 ∷ 3 ∷ []) is (19 ∷ [])
     ∷ reads (3 ∷ 0xffffffffffffffff ∷ 0 ∷ []) is (19 ∷ [])
     -- "too wide": flags and kinds of more than 32 bits
     ∷ reads (101 ∷ 1 ∷ 0 ∷ 3 ∷ 4294967295 ∷ []) is (0 ∷ [])
@@ -140,6 +143,11 @@ readings =
     ∷ readsAs (1587 ∷ 15 ∷ 31 ∷ 32 ∷ 33 ∷ 34 ∷ 35 ∷ 129 ∷ 16 ∷ 31 ∷ 129 ∷ 17 ∷ 31 ∷ 385 ∷ 18 ∷ 31 ∷ 32 ∷ 385 ∷ 19 ∷ 31 ∷ 32 ∷ 2051 ∷ 20 ∷ 31 ∷ 32 ∷ [])
     is (15 ∷ 31 ∷ 32 ∷ 33 ∷ 34 ∷ 35 ∷ 16 ∷ 31 ∷ 17 ∷ 31 ∷ 18 ∷ 31 ∷ 32 ∷ 19 ∷ 31 ∷ 32 ∷ 20 ∷ 31 ∷ 32 ∷ [])
     ∷ readsAs (3 ∷ 21 ∷ 31 ∷ 3 ∷ 22 ∷ 31 ∷ 3 ∷ 23 ∷ 31 ∷ 3 ∷ 24 ∷ 31 ∷ []) is (21 ∷ 31 ∷ 22 ∷ 31 ∷ 23 ∷ 31 ∷ 24 ∷ 31 ∷ [])
+    ∷ readsAs (11 ∷ 25 ∷ 31 ∷ 32 ∷ 129 ∷ 26 ∷ 31 ∷ 129 ∷ 27 ∷ 31 ∷ []) is (25 ∷ 31 ∷ 32 ∷ 26 ∷ 31 ∷ 27 ∷ 31 ∷ [])
+    -- a plan names no id; its use and its drop name no table and no count
+    ∷ reads (139 ∷ 25 ∷ 0 ∷ 3 ∷ 1 ∷ []) is (19 ∷ [])
+    ∷ reads (11 ∷ 26 ∷ 0 ∷ 3 ∷ []) is (19 ∷ [])
+    ∷ reads (131 ∷ 27 ∷ 0 ∷ 3 ∷ []) is (19 ∷ [])
     -- "Order: state check 18, list 19, answer length 20 .. while a call that passes them gives 0"
     ∷ (ofCall none (11 ∷ []) 0 .result ∷ []) is (18 ∷ [])
     ∷ (ofCall (some fresh) (11 ∷ []) 0 .result ∷ []) is (19 ∷ [])

@@ -11,8 +11,8 @@ use Rattle.format.specs.Fields.{opField, tableField, objectField, countField, v
 use Rattle.model.specs.Base.{pick, bit, isSome, orElse, nth}
 use Rattle.model.specs.State.{Sizes, State}
 use Rattle.model.specs.Request.{Route, Route.buffered, Route.rendezvous, Route.stagedStartup, Operation, Operation.asMove, Operation.asCopy, Item, Info, Snapshot}
-use Rattle.model.specs.Request.{Answer, Answer.refused, Answer.done, Answer.opened, Answer.batch, Answer.infoOf, Answer.resolved, Answer.renewed, Answer.scanned, Answer.removed, Answer.closed, Answer.taken}
-use Rattle.model.specs.Request.{Request, Request.newObject, Request.duplicate, Request.releaseParcel, Request.retireObject, Request.reserve, Request.trim, Request.abort, Request.publish, Request.getInfo, Request.resolve, Request.replace, Request.close, Request.scanHandles, Request.prepareTransfer, Request.prepareConsumption, Request.rollback, Request.commit, Request.directCommit, Request.directRollback, Request.removeStoppingOwner, Request.teardownStart, Request.teardownStep, Request.teardownFinish, Request.takeEmptyPage}
+use Rattle.model.specs.Request.{Answer, Answer.refused, Answer.done, Answer.opened, Answer.batch, Answer.infoOf, Answer.resolved, Answer.renewed, Answer.scanned, Answer.removed, Answer.closed, Answer.taken, Answer.planned}
+use Rattle.model.specs.Request.{Request, Request.newObject, Request.duplicate, Request.releaseParcel, Request.retireObject, Request.reserve, Request.trim, Request.abort, Request.publish, Request.getInfo, Request.resolve, Request.replace, Request.close, Request.scanHandles, Request.prepareTransfer, Request.prepareConsumption, Request.rollback, Request.commit, Request.directCommit, Request.directRollback, Request.removeStoppingOwner, Request.teardownStart, Request.teardownStep, Request.teardownFinish, Request.takeEmptyPage, Request.makePlan, Request.usePlan, Request.dropPlan}
 use Rattle.model.specs.Step.{run}
 
 -- Reading: what was read with the words that are left, or none where the words are malformed (19)
@@ -122,6 +122,9 @@ plainRequests =
     ∷ (λ f. teardownStep (must f tableField))
     ∷ (λ f. teardownFinish (must f tableField))
     ∷ (λ f. takeEmptyPage (must f tableField))
+    ∷ (λ f. makePlan (must f tableField) (must f countField))
+    ∷ (λ f. usePlan (must f idField))
+    ∷ (λ f. dropPlan (must f idField))
     ∷ []
 
 abbrev pub plainRequest : (op : ℕ) → Option (Fields → Request)
@@ -154,6 +157,9 @@ withItems f (teardownStart b) ws = some (teardownStart b, ws)
 withItems f (teardownStep b) ws = some (teardownStep b, ws)
 withItems f (teardownFinish b) ws = some (teardownFinish b, ws)
 withItems f (takeEmptyPage b) ws = some (takeEmptyPage b, ws)
+withItems f (makePlan b n) ws = some (makePlan b n, ws)
+withItems f (usePlan i) ws = some (usePlan i, ws)
+withItems f (dropPlan i) ws = some (dropPlan i, ws)
 
 unfoldable pub readRequest : List ℕ → Reading Request
 readRequest ws =
@@ -199,6 +205,7 @@ usedWords (closed none) = 0 ∷ 0 ∷ []
 usedWords (closed (some i)) = 0 ∷ 1 ∷ infoWords i
 usedWords (taken none) = 0 ∷ 0 ∷ []
 usedWords (taken (some p)) = 0 ∷ 1 ∷ p ∷ []
+usedWords (planned i n m) = 0 ∷ i ∷ n ∷ m ∷ []
 
 -- n words of a list, with 0 after its end
 abbrev pub padded : ℕ → List ℕ → List ℕ
