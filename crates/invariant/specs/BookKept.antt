@@ -1,35 +1,35 @@
 -- Every request keeps the clauses of the book and the counts.
 use mathlib.Core.Path.{_≡_, refl, subst}
-use mathlib.Core.Bool.{true}
+use mathlib.Core.Bool.{true, not}
 use mathlib.Core.List.{List, [], _∷_, _++_, map}
 use mathlib.Core.Option.{Option, some}
 use Prim.Native.Nat.{ℕ, _+_, _≤_, _<_}
 use native.Mathlib.Omega.{arith}
 use lib.ListN.{length, take, drop, length-map}
 use lib.Dec.{ltb, eqb}
-use borrow.Author.Tests.{ltb-true, eqb-true}
+use borrow.Author.Tests.{ltb-true, lt-ltb, eqb-true}
 use Rattle.authority.specs.Rights.{contains}
 use Rattle.codec.specs.Codec.{generationIn}
-use Rattle.model.specs.Base.{bit, occurs, atMost}
-use Rattle.model.specs.State.{Sizes, Slot.reserved, Slot.occupied, Table, Entry, Entry.moved, Body.reservation, State, isVacant, isActive, maxBatch}
-use Rattle.model.specs.Storage.{takeFree, pagesFor, grow}
+use Rattle.model.specs.Base.{bit, occurs, atMost, insertAll}
+use Rattle.model.specs.State.{Sizes, Slot.reserved, Slot.occupied, Table, Entry, Entry.moved, Body.reservation, Body.plan, State, isVacant, isActive, maxBatch}
+use Rattle.model.specs.Storage.{takeFree, pagesFor, isStale, grow}
 use Rattle.model.specs.Request.{Route, Item, Request, Request.newObject, Request.duplicate, Request.releaseParcel, Request.retireObject}
 use Rattle.model.specs.Request.{Request.reserve, Request.trim, Request.abort, Request.publish, Request.getInfo, Request.resolve, Request.replace}
 use Rattle.model.specs.Request.{Request.close, Request.scanHandles, Request.prepareTransfer, Request.prepareConsumption, Request.rollback}
 use Rattle.model.specs.Request.{Request.commit, Request.directCommit, Request.directRollback, Request.removeStoppingOwner, Request.teardownStart}
-use Rattle.model.specs.Request.{Request.teardownStep, Request.teardownFinish, Request.takeEmptyPage}
+use Rattle.model.specs.Request.{Request.teardownStep, Request.teardownFinish, Request.takeEmptyPage, Request.makePlan, Request.usePlan, Request.dropPlan}
 use Rattle.model.specs.Change.{withTable, withFrames}
-use Rattle.model.specs.Book.{addRow, freeRow, idLeft, copiesOf, find}
+use Rattle.model.specs.Book.{addRow, dropRow, dropId, freeRow, idLeft, copiesOf, find}
 use Rattle.model.specs.Decision.{handlesOf, distinct}
 use Rattle.model.specs.Lookup.{lookup}
 use Rattle.model.specs.Transfer.{itemsFault, copiesFault, entryFor}
 use Rattle.model.specs.Step.{reserveOf, trimOf, abortOf, publishOf, prepareTransferOf, prepareConsumptionOf, rollbackOf, commitOf, directCommitOf}
-use Rattle.model.specs.Step.{directRollbackOf, decide, step}
-use Rattle.model.specs.WellFormed.{HandleRange, WellFormed}
+use Rattle.model.specs.Step.{directRollbackOf, makePlanOf, usePlanOf, dropPlanOf, decide, step}
+use Rattle.model.specs.WellFormed.{HandleRange, PlanRange, WellFormed}
 use Rattle.model.specs.Tests.{clash, same, bit-small, put-same, at-most, put-put}
-use Rattle.model.specs.Decided.{accepts, checked, with-some, with-view, after-id, with-reservation, with-claim, carried}
+use Rattle.model.specs.Decided.{accepts, checked, with-some, with-view, after-id, with-reservation, with-claim, with-plan, with-room, carried}
 use Rattle.invariant.specs.Pointwise.{grow-grown}
-use Rattle.invariant.specs.BookLemmas.{row}
+use Rattle.invariant.specs.BookLemmas.{row, found-range, length-dropped}
 use Rattle.invariant.specs.CountLemmas.{of-same}
 use Rattle.invariant.specs.Items.{items-range, items-stand, items-count, items-once, stands-at}
 use Rattle.invariant.specs.Pages.{Sane}
@@ -37,11 +37,12 @@ use Rattle.invariant.specs.Orders.{Sound}
 use Rattle.invariant.specs.Frames.{Grows, pages-grow, reserve-length, grow-sound}
 use Rattle.invariant.specs.StorageDecisions.{sound-at, held-range}
 use Rattle.invariant.specs.Rows.{BookClauses, Good, edit, good-clauses, active-live, good}
-use Rattle.invariant.specs.Counts.{one-batch, spend-id, slot-counted, calm-step}
+use Rattle.invariant.specs.Counts.{one-batch, new-plan, end-plan, spend-id, slot-counted, calm-step}
 use Rattle.invariant.specs.RowsClosed.{abort-good, trim-good, commit-good, rollback-good, publish-good, direct-commit-good}
 use Rattle.invariant.specs.RowsClosed.{direct-rollback-good}
 use Rattle.invariant.specs.RowsOpened.{reserve-good, claim-good}
 use Rattle.invariant.specs.Growth.{grow-calm}
+use Rattle.invariant.specs.Snapshots.{snapshot-pages, fresh-pages}
 use Rattle.invariant.specs.BookHandles.{Keeps, new-object, duplicate-kept, release-kept, retire-kept, info-kept, resolve-kept, scan-kept}
 use Rattle.invariant.specs.BookHandles.{close-kept, replace-kept, remove-kept, start-kept, step-kept, finish-kept, take-kept}
 
@@ -60,6 +61,18 @@ taken-after z s b n u fs g l a p q fr id len order =
     subst (λ y. Good (addRow (reservation b (take n (y .free))) (withTable v b (f y)))) (put-same (s .tables) b u) r in
     subst (λ ts. Good (edit s ts (s .objects) (s .book .rows ++ (row i (reservation b (take n (u .free))) ∷ [])) (i + 1) fs))
     (put-put (s .tables) b (f u) u) r′
+
+-- a table grows in frames of its own, then its first free slots are taken
+reserved-in : (z : Sizes) → Sane z → (v : State) → Good v → (b n : ℕ) (ps gs fs : List ℕ) → b < v .tableCount → Sound z (v .tables b) (v .tables b .free)
+    → isActive (v .tables b .life) ≡ true → 0 < n → n ≤ maxBatch → freeRow v ≡ true → idLeft v ≡ true → pagesFor z (v .tables b) n ≡ some ps → length ps ≤ length gs
+    → let u : Table = grow z ps gs (v .tables b) in Good (addRow (reservation b (take n (u .free))) (withFrames (withTable v b (takeFree z n (λ x. reserved x (v .book .next)) u)) fs))
+reserved-in z sane v g b n ps gs fs l o a p q fr id e m =
+    let t : Table = v .tables b in
+    let u : Table = grow z ps gs t in
+    let gr : Grows z t ps = pages-grow z sane t (t .free) o n ps e in
+    let f : isActive (u .life) ≡ true = rw (grow-grown z ps gs t .life) a in
+    taken-after z v b n u fs (calm-step v g b u l (grow-calm z sane t o ps gs gr) (λ k y. clash y (active-live (u .life) f)) (λ y. clash f y) fs)
+    l f p q fr id (reserve-length z sane t (t .free) o n q ps gs e m) (grow-sound z sane ps gs t o gr .free)
 
 module _ (z : Sizes) (sane : Sane z) (s : State) (w : WellFormed z s) where
   g : Good s
@@ -109,36 +122,33 @@ module _ (z : Sizes) (sane : Sane z) (s : State) (w : WellFormed z s) where
       checked (eqb (length es) (length ks)) _ tt λ l.
       accepts (direct-rollback-good z s g i j b c es ks e f)
 
-  -- the table grows, then the first free slots are taken
-  reserved-kept : (b n : ℕ) (ps : List ℕ) → b < s .tableCount → isActive (s .tables b .life) ≡ true → 0 < n → n ≤ maxBatch → freeRow s ≡ true
-      → idLeft s ≡ true
-      → pagesFor z (s .tables b) n ≡ some ps → length ps ≤ length (s .frames) → let u : Table = grow z ps (s .frames) (s .tables b) in
-      Good (addRow (reservation b (take n (u .free))) (withFrames (withTable s b (takeFree z n (λ x. reserved x (s .book .next)) u))
-      (drop (length ps) (s .frames))))
-  reserved-kept b n ps l a p q fr id e m =
-      let t : Table = s .tables b in
-      let u : Table = grow z ps (s .frames) t in
-      let o : Sound z t (t .free) = sound-at z s w b l in
-      let gr : Grows z t ps = pages-grow z sane t (t .free) o n ps e in
-      let f : isActive (u .life) ≡ true = rw (grow-grown z ps (s .frames) t .life) a in
-      taken-after z s b n u (drop (length ps) (s .frames))
-      (calm-step s g b u l (grow-calm z sane t o ps (s .frames) gr) (λ k y. clash y (active-live (u .life) f)) (λ y. clash f y)
-      (drop (length ps) (s .frames)))
-      l f p q fr id (reserve-length z sane t (t .free) o n q ps (s .frames) e m) (grow-sound z sane ps (s .frames) t o gr .free)
-
   reserve-kept : (b n : ℕ) → Keeps s (reserveOf z s b n)
   unfolding reserveOf
-  reserve-kept b n = let t : Table = s .tables b in
-      checked (ltb b (s .tableCount)) _ tt λ l.
-      checked (isActive (t .life)) _ tt λ a.
-      checked (ltb 0 n) _ tt λ e₁.
-      checked (atMost n maxBatch) _ tt λ e₂.
-      with-some (pagesFor z t n) _ tt λ ps e.
-      checked (atMost (length ps) (length (s .frames))) _ tt λ e₃.
-      checked (freeRow s) _ tt λ fr.
+  reserve-kept b n = with-room z s b n tt tt tt tt tt tt tt λ r o.
+      accepts (reserved-in z sane s g b n (r .pages) (s .frames) (drop (length (r .pages)) (s .frames)) (o .there) (sound-at z s w b (o .there)) (o .live)
+      (ltb-true 0 n (o .some)) (at-most n maxBatch (o .few)) (o .row) (o .id) (snapshot-pages z (s .tables b) n r (o .snapshot) .0)
+      (at-most (length (r .pages)) (length (s .frames)) (o .frames)))
+
+  plan-kept : (b n : ℕ) → Keeps s (makePlanOf z s b n)
+  unfolding makePlanOf
+  plan-kept b n = with-room z s b n tt tt tt tt tt tt tt λ r o.
+      accepts (new-plan s g b n r (take (length (r .pages)) (s .frames)) (drop (length (r .pages)) (s .frames)) (o .row) (o .id))
+
+  use-kept : (i : ℕ) → Keeps s (usePlanOf z s i)
+  unfolding usePlanOf
+  use-kept i = with-plan (find i (s .book .rows)) tt λ b n r fs e.
+      checked (isActive (s .tables b .life)) _ tt λ a.
+      checked (not (isStale z (s .tables b) n r)) _ tt λ f.
       checked (idLeft s) _ tt λ id.
-      accepts (reserved-kept b n ps (ltb-true b (s .tableCount) l) a (ltb-true 0 n e₁) (at-most n maxBatch e₂) fr id e
-      (at-most (length ps) (length (s .frames)) e₃))
+      let p : PlanRange z s b n r fs = found-range s w i (plan b n r fs) e in
+      accepts (reserved-in z sane (dropRow i s) (end-plan s g i b n r fs (s .frames) e) b n (r .pages) fs (s .frames) (p .table) (sound-at z s w b (p .table)) a
+      (p .count .0) (p .count .1) (lt-ltb (length (dropId i (s .book .rows))) (s .book .capacity) (omega (arith, length-dropped i (plan b n r fs) (s .book .rows) e, w .ranges .rowCount)))
+      id (fresh-pages z (s .tables b) n r f) (omega (arith, p .held)))
+
+  drop-kept : (i : ℕ) → Keeps s (dropPlanOf z s i)
+  unfolding dropPlanOf
+  drop-kept i = with-plan (find i (s .book .rows)) tt λ b n r fs e.
+      accepts (end-plan s g i b n r fs (insertAll fs (s .frames)) e)
 
   transfer-kept : (b : ℕ) (route : Route) (bo bk : Option ℕ) (qs : List Item) → Keeps s (prepareTransferOf z s b route bo bk qs)
   unfolding prepareTransferOf
@@ -205,6 +215,9 @@ module _ (z : Sizes) (sane : Sane z) (s : State) (w : WellFormed z s) where
   decided (teardownStep b) = step-kept z sane s w b
   decided (teardownFinish b) = finish-kept z sane s w b
   decided (takeEmptyPage b) = take-kept z sane s w b
+  decided (makePlan b n) = plan-kept b n
+  decided (usePlan i) = use-kept i
+  decided (dropPlan i) = drop-kept i
 
   requested : (r : Request) → Good (step z s r .0)
   unfolding step

@@ -1,6 +1,6 @@
 -- The book's rows: what is found, counted and open after a row is added, dropped or swapped.
 use mathlib.Core.Path.{_≡_, refl, sym, ap, _∙_}
-use mathlib.Core.Bool.{false}
+use mathlib.Core.Bool.{true, false}
 use mathlib.Core.List.{List, [], _∷_, _++_}
 use mathlib.Core.Option.{none, some}
 use Prim.Native.Nat.{ℕ, suc, _+_, _≤_, _<_}
@@ -8,10 +8,11 @@ use native.Mathlib.Omega.{arith}
 use lib.ListN.{length}
 use lib.Dec.{eqb}
 use borrow.Author.Tests.{eqb-true, ne-eqb}
-use Rattle.model.specs.State.{Handle, Body, Row, State}
+use Rattle.model.specs.State.{Sizes, Handle, Body, Body.reservation, Body.claim, Body.parcel, Body.plan, Row, State}
+use Rattle.model.specs.Base.{occurs}
 use Rattle.model.specs.Book.{find, dropId, swapId, opensIn, anyOpen}
-use Rattle.model.specs.WellFormed.{BodyRange, RowRange, All, IdsRise, handlesIn, inHandles, inRows}
-use Rattle.model.specs.Tests.{apart, bool, same, or-false, or-left, or-right}
+use Rattle.model.specs.WellFormed.{WellFormed, EntryRange, HandleRange, Batch, PlanRange, BodyRange, All, IdsRise, overRows, framesIn, plansWith, handlesIn, inHandles, inRows}
+use Rattle.model.specs.Tests.{apart, clash, bool, same, or-false, or-left, or-right}
 
 -- a row of an id
 abbrev pub row : ℕ → Body → Row
@@ -122,6 +123,13 @@ pub length-drop : (i : ℕ) (rs : List Row) → length (dropId i rs) ≤ length 
 length-drop i [] = omega arith
 length-drop i (r ∷ rs) = bool (eqb (r .id) i) (λ e. rw e (omega (arith, length-drop i rs))) (λ e. rw e (omega (arith, length-drop i rs)))
 
+-- a row that is found is one fewer
+pub length-dropped : (i : ℕ) (x : Body) (rs : List Row) → find i rs ≡ some x → length (dropId i rs) < length rs
+length-dropped i x [] e = apart (cc)
+length-dropped i x (r ∷ rs) e = bool (eqb (r .id) i)
+    (λ q. rw q (omega (arith, length-drop i rs)))
+    (λ q. rw q (omega (arith, length-dropped i x rs (rw q at e))))
+
 pub length-swap : (i : ℕ) (b : Body) (rs : List Row) → length (swapId i b rs) ≡ length rs
 length-swap i b [] = refl
 length-swap i b (r ∷ rs) = bool (eqb (r .id) i) (λ e. rw e (ap suc (length-swap i b rs))) (λ e. rw e (ap suc (length-swap i b rs)))
@@ -155,8 +163,58 @@ all-found P i b (r ∷ rs) h e = bool (eqb (r .id) i)
     (λ q. all-found P i b rs (h .1) (rw q at e))
 
 -- a row of a state is in range
-pub found-range : (s : State) → All (RowRange s) (s .book .rows) → (i : ℕ) (x : Body) → find i (s .book .rows) ≡ some x → BodyRange s x
-found-range s w i x e = all-found (BodyRange s) i x (s .book .rows) w e
+pub found-range : {z : Sizes} (s : State) → WellFormed z s → (i : ℕ) (x : Body) → find i (s .book .rows) ≡ some x → BodyRange z s x
+found-range {z} s w i x e = all-found (BodyRange z s) i x (s .book .rows) (w .ranges .rows) e
+
+-- the ranges of a row in two halves: of a reservation, a claim and a parcel, for which the sizes do not matter; and of a plan
+
+abbrev pub BodyHalf : State → Body → Type 0
+BodyHalf s (reservation b ks) = (b < s .tableCount) × Batch ks
+BodyHalf s (claim b es) = (b < s .tableCount) × Batch es × All (EntryRange s) es
+BodyHalf s (parcel hs) = Batch hs × All (HandleRange s) hs
+BodyHalf s (plan b n w fs) = Unit {0}
+
+abbrev pub PlanHalf : Sizes → State → Body → Type 0
+PlanHalf z s (reservation b ks) = Unit {0}
+PlanHalf z s (claim b es) = Unit {0}
+PlanHalf z s (parcel hs) = Unit {0}
+PlanHalf z s (plan b n w fs) = PlanRange z s b n w fs
+
+abbrev pub RowHalf : State → Row → Type 0
+RowHalf s r = BodyHalf s (r .body)
+
+abbrev pub PlanRow : Sizes → State → Row → Type 0
+PlanRow z s r = PlanHalf z s (r .body)
+
+module _ (z : Sizes) (s : State) where
+  body-half : (x : Body) → BodyRange z s x → BodyHalf s x
+  body-half (reservation b ks) r = r
+  body-half (claim b es) r = r
+  body-half (parcel hs) r = r
+  body-half (plan b n w fs) r = tt
+
+  plan-half : (x : Body) → BodyRange z s x → PlanHalf z s x
+  plan-half (reservation b ks) r = tt
+  plan-half (claim b es) r = tt
+  plan-half (parcel hs) r = tt
+  plan-half (plan b n w fs) r = r
+
+  both-halves : (x : Body) → BodyHalf s x → PlanHalf z s x → BodyRange z s x
+  both-halves (reservation b ks) p q = p
+  both-halves (claim b es) p q = p
+  both-halves (parcel hs) p q = p
+  both-halves (plan b n w fs) p q = q
+
+  pub row-halves : (rs : List Row) → All (λ r. BodyRange z s (r .body)) rs → All (RowHalf s) rs × All (PlanRow z s) rs
+  row-halves [] a = (tt, tt)
+  row-halves (r ∷ rs) a = let h = row-halves rs (a .1) in ((body-half (r .body) (a .0), h .0), (plan-half (r .body) (a .0), h .1))
+
+  pub row-whole : (rs : List Row) → All (RowHalf s) rs → All (PlanRow z s) rs → All (λ r. BodyRange z s (r .body)) rs
+  row-whole [] a b = tt
+  row-whole (r ∷ rs) a b = (both-halves (r .body) (a .0) (b .0), row-whole rs (a .1) (b .1))
+
+pub found-half : (s : State) → All (RowHalf s) (s .book .rows) → (i : ℕ) (x : Body) → find i (s .book .rows) ≡ some x → BodyHalf s x
+found-half s w i x e = all-found (BodyHalf s) i x (s .book .rows) w e
 
 -- the handles of rows, by object
 
@@ -164,28 +222,65 @@ pub in-append : (o : ℕ) (hs gs : List Handle) → inHandles o (hs ++ gs) ≡ i
 in-append o [] gs = omega arith
 in-append o (h ∷ hs) gs = omega (arith, in-append o hs gs)
 
-pub rows-add : (o : ℕ) (rs : List Row) (r : Row) → inRows o (rs ++ (r ∷ [])) ≡ inRows o rs + inHandles o (handlesIn (r .body))
-rows-add o [] r = omega arith
-rows-add o (x ∷ rs) r = omega (arith, rows-add o rs r)
+-- a number of each row's body, added up: when a row is added, dropped or swapped
 
-module _ (o i : ℕ) (c : Body) where
-  pub rows-drop : (lo hi : ℕ) (rs : List Row) → IdsRise lo rs hi → find i rs ≡ some c
-      → inRows o (dropId i rs) + inHandles o (handlesIn c) ≡ inRows o rs
-  rows-drop lo hi [] h e = apart (cc)
-  rows-drop lo hi (r ∷ rs) h e = bool (eqb (r .id) i)
+pub over-add : (g : Body → ℕ) (rs : List Row) (r : Row) → overRows g (rs ++ (r ∷ [])) ≡ overRows g rs + g (r .body)
+over-add g [] r = omega arith
+over-add g (x ∷ rs) r = omega (arith, over-add g rs r)
+
+module _ (g : Body → ℕ) (i : ℕ) (c : Body) where
+  pub over-drop : (lo hi : ℕ) (rs : List Row) → IdsRise lo rs hi → find i rs ≡ some c → overRows g (dropId i rs) + g c ≡ overRows g rs
+  over-drop lo hi [] h e = apart (cc)
+  over-drop lo hi (r ∷ rs) h e = bool (eqb (r .id) i)
       (λ q. let y : some (r .body) ≡ some c = rw q at e in let x : r .body ≡ c = cc in
       let n : find i rs ≡ none = ids-under (suc (r .id)) hi i rs (h .1) (omega (arith, eqb-true (r .id) i q)) in
       rw (q, drop-none i rs n, x) (omega arith))
-      (λ q. rw q (omega (arith, rows-drop (suc (r .id)) hi rs (h .1) (rw q at e))))
+      (λ q. rw q (omega (arith, over-drop (suc (r .id)) hi rs (h .1) (rw q at e))))
 
-  pub rows-swap : (b : Body) (lo hi : ℕ) (rs : List Row) → IdsRise lo rs hi → find i rs ≡ some c
-      → inRows o (swapId i b rs) + inHandles o (handlesIn c) ≡ inRows o rs + inHandles o (handlesIn b)
-  rows-swap b lo hi [] h e = apart (cc)
-  rows-swap b lo hi (r ∷ rs) h e = bool (eqb (r .id) i)
+  pub over-swap : (b : Body) (lo hi : ℕ) (rs : List Row) → IdsRise lo rs hi → find i rs ≡ some c → overRows g (swapId i b rs) + g c ≡ overRows g rs + g b
+  over-swap b lo hi [] h e = apart (cc)
+  over-swap b lo hi (r ∷ rs) h e = bool (eqb (r .id) i)
       (λ q. let y : some (r .body) ≡ some c = rw q at e in let x : r .body ≡ c = cc in
       let n : find i rs ≡ none = ids-under (suc (r .id)) hi i rs (h .1) (omega (arith, eqb-true (r .id) i q)) in
       rw (q, swap-none i b rs n, x) (omega arith))
-      (λ q. rw q (omega (arith, rows-swap b (suc (r .id)) hi rs (h .1) (rw q at e))))
+      (λ q. rw q (omega (arith, over-swap b (suc (r .id)) hi rs (h .1) (rw q at e))))
+
+-- so the handles of rows, by object
+
+pub rows-add : (o : ℕ) (rs : List Row) (r : Row) → inRows o (rs ++ (r ∷ [])) ≡ inRows o rs + inHandles o (handlesIn (r .body))
+rows-add o rs r = over-add (λ b. inHandles o (handlesIn b)) rs r
+
+module _ (o i : ℕ) (c : Body) where
+  pub rows-drop : (lo hi : ℕ) (rs : List Row) → IdsRise lo rs hi → find i rs ≡ some c → inRows o (dropId i rs) + inHandles o (handlesIn c) ≡ inRows o rs
+  rows-drop = over-drop (λ b. inHandles o (handlesIn b)) i c
+
+  pub rows-swap : (b : Body) (lo hi : ℕ) (rs : List Row) → IdsRise lo rs hi → find i rs ≡ some c
+      → inRows o (swapId i b rs) + inHandles o (handlesIn c) ≡ inRows o rs + inHandles o (handlesIn b)
+  rows-swap = over-swap (λ b. inHandles o (handlesIn b)) i c
+
+-- rows under an id that hold no frames: to drop them leaves the frames that plans hold
+
+abbrev pub Frameless : ℕ → List Row → Type 0
+Frameless i rs = All (λ r. eqb (r .id) i ≡ true → framesIn (r .body) ≡ []) rs
+
+frameless-none : (i : ℕ) (rs : List Row) → find i rs ≡ none → Frameless i rs
+frameless-none i [] e = tt
+frameless-none i (r ∷ rs) e = bool (eqb (r .id) i)
+    (λ q. let z : some (r .body) ≡ none = rw q at e in apart (cc))
+    (λ q. (λ p. clash p q, frameless-none i rs (rw q at e)))
+
+pub frameless : (i : ℕ) (x : Body) → framesIn x ≡ [] → (lo hi : ℕ) (rs : List Row) → IdsRise lo rs hi → find i rs ≡ some x → Frameless i rs
+frameless i x b lo hi [] h e = tt
+frameless i x b lo hi (r ∷ rs) h e = bool (eqb (r .id) i)
+    (λ q. let y : some (r .body) ≡ some x = rw q at e in let d : r .body ≡ x = cc in
+    (λ p. ap framesIn d ∙ b, frameless-none i rs (ids-under (suc (r .id)) hi i rs (h .1) (omega (arith, eqb-true (r .id) i q)))))
+    (λ q. (λ p. clash p q, frameless i x b (suc (r .id)) hi rs (h .1) (rw q at e)))
+
+pub drop-frameless : (i : ℕ) (f : ℕ) (rs : List Row) → Frameless i rs → plansWith (dropId i rs) f ≡ plansWith rs f
+drop-frameless i f [] h = refl
+drop-frameless i f (r ∷ rs) h = bool (eqb (r .id) i)
+    (λ q. let y : occurs f (framesIn (r .body)) ≡ 0 = ap (occurs f) (h .0 q) in rw q (omega (arith, drop-frameless i f rs (h .1))))
+    (λ q. rw q (omega (arith, drop-frameless i f rs (h .1))))
 
 -- open rows of a table
 

@@ -9,7 +9,7 @@ use lib.Dec.{eqb}
 use borrow.Author.Tests.{eqb-true, eqb-false}
 use Rattle.model.specs.Base.{bit, put}
 use Rattle.model.specs.State.{Handle, Slot, Slot.absent, Slot.vacant, Slot.reserved, Slot.transferReserved, Slot.occupied, Table, Object, Body}
-use Rattle.model.specs.State.{Body.parcel, Row, State, isAbsent, isOccupied, isBusy, isActive, isRetired, maxSlots, maxBatch}
+use Rattle.model.specs.State.{Body.parcel, Body.plan, StorageSnapshot, Row, State, isAbsent, isOccupied, isBusy, isActive, isRetired, maxSlots, maxBatch}
 use Rattle.model.specs.Change.{withTable, withObjects, withFrames}
 use Rattle.model.specs.Objects.{lower, retiredByOwner, change, changeAll, release, withRights}
 use Rattle.model.specs.Book.{find, dropId, addRow, dropRow, spendId, freeRow, idLeft, anyOpen}
@@ -29,6 +29,10 @@ none-in false b k = refl
 pub parcel-in : (m : Bool) (b k : ℕ) (hs : List Handle) → inRow m b k (some (parcel hs)) ≡ 0
 parcel-in true b k hs = refl
 parcel-in false b k hs = refl
+
+plan-in : (m : Bool) (b k c n : ℕ) (w : StorageSnapshot) (fs : List ℕ) → inRow m b k (some (plan c n w fs)) ≡ 0
+plan-in true b k c n w fs = refl
+plan-in false b k c n w fs = refl
 
 pub one-batch {ℓ} : {A : Type ℓ} (a : A) → Batch (a ∷ [])
 unfolding maxBatch
@@ -83,6 +87,26 @@ module _ (s : State) (w : Good s) where
         change-at (λ y. y .count + inRows o (s .book .rows) ≡ s .objects o .count + inRows o (s .book .rows)) retiredByOwner (s .objects) k o
             (λ q. refl) (λ q. refl),
       )))
+
+  -- a plan is made, or goes: it has no slots and no handles
+  pub new-plan : (b n : ℕ) (r : StorageSnapshot) (fs gs : List ℕ) → freeRow s ≡ true → idLeft s ≡ true → Good (addRow (plan b n r fs) (withFrames s gs))
+  new-plan b n r fs gs e i = let m : ℕ = s .book .next in let x : Body = plan b n r fs in let rs : List Row = s .book .rows in
+      settled s (s .tables) (s .objects) (rs ++ (row m x ∷ [])) (m + 1) gs
+      (objects-step s (s .objects) (rs ++ (row m x ∷ [])) (m + 1) w (book-add s w x e i tt (λ c q. refl))
+      (λ k j c p. bool (eqb j m)
+      (λ q. rw (eqb-true j m q, find-add-same m x rs next-none, next-unmarked k c p) (plan-in k c p b n r fs))
+      (λ q. rw (find-add-other m j (eqb-false j m q) x rs) (w .marked k j c p)))
+      (λ o l. (w .fit o l, omega (arith, rows-add o rs (row m x)))))
+
+  pub end-plan : (i b n : ℕ) (r : StorageSnapshot) (fs gs : List ℕ) → find i (s .book .rows) ≡ some (plan b n r fs) → Good (dropRow i (withFrames s gs))
+  end-plan i b n r fs gs e = let rs : List Row = s .book .rows in
+      settled s (s .tables) (s .objects) (dropId i rs) (s .book .next) gs
+      (objects-step s (s .objects) (dropId i rs) (s .book .next) w (book-drop s rs (s .book .next) (book-same s w) i)
+      (λ m j c p. bool (eqb j i)
+      (λ q. let was : inRow m c p (find i rs) ≡ bit (isBy m i (s .tables c .slots p)) = w .marked m i c p in
+      rw (eqb-true j i q, find-drop-same i rs) (none-in m c p ∙ sym (plan-in m c p b n r fs) ∙ (rw e at was)))
+      (λ q. rw (find-drop-other i j (eqb-false j i q) rs) (w .marked m j c p)))
+      (λ o l. (w .fit o l, omega (arith, rows-drop o i (plan b n r fs) 1 (s .book .next) rs (w .rise) e))))
 
   pub spend-id : idLeft s ≡ true → Good (spendId s)
   spend-id e = let n : ℕ = s .book .next in settled s (s .tables) (s .objects) (s .book .rows) (n + 1) (s .frames)

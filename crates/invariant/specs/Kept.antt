@@ -9,6 +9,7 @@ use Rattle.model.specs.Create.{Parameters, create}
 use Rattle.model.specs.Created.{create-well-formed}
 use Rattle.model.specs.WellFormed.{WellFormed}
 use Rattle.invariant.specs.Pages.{Sane}
+use Rattle.invariant.specs.BookLemmas.{row-whole}
 use Rattle.invariant.specs.StorageState.{StorageClauses}
 use Rattle.invariant.specs.StorageKept.{storage-kept}
 use Rattle.invariant.specs.Rows.{BookClauses}
@@ -32,7 +33,7 @@ both-halves z s a b = record {
       slots = b .slots c;
     };
     objects = b .objects;
-    rows = b .rows;
+    rows = row-whole z s (s .book .rows) (b .rows) (a .plans);
   };
   frames = a .frames;
   orders = a .orders;

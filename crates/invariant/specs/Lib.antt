@@ -9,6 +9,7 @@ pub mod Frames
 pub mod StorageState
 pub mod StorageViews
 pub mod StorageDecisions
+pub mod Snapshots
 pub mod StorageHandles
 pub mod StorageKept
 pub mod Rows

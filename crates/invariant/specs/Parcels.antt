@@ -9,14 +9,14 @@ use lib.ListN.{length}
 use lib.Dec.{eqb}
 use borrow.Author.Tests.{eqb-true, eqb-false, not-true}
 use Rattle.model.specs.Base.{member}
-use Rattle.model.specs.State.{Handle, Entry, Entry.moved, Entry.copied, Body, Body.reservation, Body.claim, Body.parcel, Row, State}
+use Rattle.model.specs.State.{Handle, Entry, Entry.moved, Entry.copied, Body, Body.reservation, Body.claim, Body.parcel, Body.plan, Row, State}
 use Rattle.model.specs.Change.{withBook}
 use Rattle.model.specs.Book.{find, dropId, dropRow, dropRows, movedOf, copiesOf, sentOf}
 use Rattle.model.specs.Decision.{asParcel, joined, handlesOf, distinct}
-use Rattle.model.specs.WellFormed.{HandleRange, EntryRange, All, BodyRange, RowRange, IdsRise, heldBy, inHandles, inRows}
+use Rattle.model.specs.WellFormed.{HandleRange, EntryRange, All, IdsRise, heldBy, inHandles, inRows}
 use Rattle.model.specs.Tests.{apart, bool, clash, and-left, and-right}
 use Rattle.invariant.specs.Pointwise.{movedHandles}
-use Rattle.invariant.specs.BookLemmas.{find-drop-same, find-drop-other, all-found, in-append, rows-drop, ids-drop, all-append}
+use Rattle.invariant.specs.BookLemmas.{BodyHalf, RowHalf, Frameless, frameless, find-drop-same, find-drop-other, all-found, in-append, rows-drop, ids-drop, all-append}
 use Rattle.invariant.specs.Marks.{inRow}
 use Rattle.invariant.specs.Rows.{BookStep, book-drop}
 use Rattle.invariant.specs.Counts.{none-in, parcel-in}
@@ -46,6 +46,7 @@ pub parts : (x : Option Body) (r : Option (List Handle)) (hs : List Handle) → 
 parts none r hs e = apart (cc)
 parts (some (reservation b ks)) r hs e = apart (cc)
 parts (some (claim b es)) r hs e = apart (cc)
+parts (some (plan b n w fs)) r hs e = apart (cc)
 parts (some (parcel gs)) none hs e = apart (cc)
 parts (some (parcel gs)) (some fs) hs e = record { first = gs; rest = fs; found = refl; after = refl; whole = cc }
 
@@ -64,12 +65,18 @@ not-parcel i (j ∷ is) rs hs e n = let p : Parts (find j rs) (handlesOf is rs) 
     (λ q. let y : asParcel (find i rs) ≡ some (p .first) = ap (λ t. asParcel (find t rs)) (eqb-true i j q) ∙ ap asParcel (p .found) in apart (cc))
     (λ q. rw q (not-parcel i is rs (p .rest) (p .after) n))
 
-pub handles-range : (s : State) (is : List ℕ) (rs : List Row) (hs : List Handle) → All (RowRange s) rs → handlesOf is rs ≡ some hs
+pub handles-range : (s : State) (is : List ℕ) (rs : List Row) (hs : List Handle) → All (RowHalf s) rs → handlesOf is rs ≡ some hs
     → All (HandleRange s) hs
 handles-range s [] rs hs r e = let y : hs ≡ [] = cc in rw y tt
 handles-range s (i ∷ is) rs hs r e = let p : Parts (find i rs) (handlesOf is rs) hs = parts (find i rs) (handlesOf is rs) hs e in
-    let q : BodyRange s (parcel (p .first)) = all-found (BodyRange s) i (parcel (p .first)) rs r (p .found) in
+    let q : BodyHalf s (parcel (p .first)) = all-found (BodyHalf s) i (parcel (p .first)) rs r (p .found) in
     rw (p .whole) (all-append (HandleRange s) (p .first) (p .rest) (q .1) (handles-range s is rs (p .rest) r (p .after)))
+
+-- parcels hold no frames
+pub parcels-frameless : (is : List ℕ) (hi : ℕ) (rs : List Row) (hs : List Handle) → IdsRise 1 rs hi → handlesOf is rs ≡ some hs → All (λ i. Frameless i rs) is
+parcels-frameless [] hi rs hs r e = tt
+parcels-frameless (i ∷ is) hi rs hs r e = let p : Parts (find i rs) (handlesOf is rs) hs = parts (find i rs) (handlesOf is rs) hs e in
+    (frameless i (parcel (p .first)) refl 1 hi rs r (p .found), parcels-frameless is hi rs (p .rest) r (p .after))
 
 -- the parcels dropped, each once
 

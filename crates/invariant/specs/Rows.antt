@@ -10,16 +10,16 @@ use lib.Dec.{ltb, eqb}
 use borrow.Author.Tests.{ltb-true, ltb-false, eqb-false, ne-eqb, le-ltb, not-true}
 use Rattle.model.specs.Base.{put, occurs}
 use Rattle.model.specs.State.{Sizes, Handle, Slot, Slot.absent, Slot.vacant, Slot.reserved, Slot.transferReserved, Slot.occupied, Lifecycle, Table}
-use Rattle.model.specs.State.{Object, Entry, Entry.moved, Entry.copied, Body, Body.reservation, Body.claim, Body.parcel, Row, State}
+use Rattle.model.specs.State.{Object, Entry, Entry.moved, Entry.copied, Body, Body.reservation, Body.claim, Body.parcel, Body.plan, Row, State}
 use Rattle.model.specs.State.{Lifecycle.active, Lifecycle.tearingDown, Lifecycle.retired, isAbsent, isOccupied, isActive, isRetired, maxSlots}
 use Rattle.model.specs.State.{lastId}
 use Rattle.model.specs.Storage.{pageOf}
 use Rattle.model.specs.Book.{find, dropId, swapId, opensIn, anyOpen, freeRow, idLeft}
-use Rattle.model.specs.WellFormed.{HandleRange, SlotRange, EntryRange, All, BodyRange, RowRange, ObjectRange, Counts, Lifecycles, IdsRise, Ids}
+use Rattle.model.specs.WellFormed.{HandleRange, SlotRange, EntryRange, All, ObjectRange, Counts, Lifecycles, IdsRise, Ids}
 use Rattle.model.specs.WellFormed.{Marks, WellFormed, inRows, isAttached}
 use Rattle.model.specs.Tests.{bool, clash, zero-or, and-false, put-at}
 use Rattle.model.specs.Sums.{sum-put}
-use Rattle.invariant.specs.BookLemmas.{row, ids-add, ids-drop, ids-swap, length-add, length-drop, length-swap, all-drop, all-swap, open-add}
+use Rattle.invariant.specs.BookLemmas.{BodyHalf, RowHalf, row-halves, row, ids-add, ids-drop, ids-swap, length-add, length-drop, length-swap, all-drop, all-swap, open-add}
 use Rattle.invariant.specs.BookLemmas.{open-drop, open-swap, open-found, all-append, all-map}
 use Rattle.invariant.specs.CountLemmas.{Fit, total, totals}
 use Rattle.invariant.specs.Marks.{Marked, both-marks}
@@ -33,7 +33,7 @@ pub record BookClauses (s : State) : Type 0 where
   pub slots : (b k : ℕ) → SlotRange s (s .tables b .slots k)
   pub objects : (o : ℕ) → o < s .objectCount → ObjectRange (s .objects o)
   pub rowCount : length (s .book .rows) ≤ s .book .capacity
-  pub rows : All (RowRange s) (s .book .rows)
+  pub rows : All (RowHalf s) (s .book .rows)
 
 -- the same over tables, objects, rows and a next id that take the places of the state's; and no slot stands past the last
 pub record Clauses (s : State) (ts : ℕ → Table) (os : ℕ → Object) (rs : List Row) (n : ℕ) : Type 0 where
@@ -46,7 +46,7 @@ pub record Clauses (s : State) (ts : ℕ → Table) (os : ℕ → Object) (rs : 
   pub closed : (b k : ℕ) → isRetired (ts b .life) ≡ true → isOccupied (ts b .slots k) ≡ false
   pub slots : (b k : ℕ) → SlotRange s (ts b .slots k)
   pub room : length rs ≤ s .book .capacity
-  pub rows : All (RowRange s) rs
+  pub rows : All (RowHalf s) rs
   pub placed : (b k : ℕ) → maxSlots ≤ k → isAbsent (ts b .slots k) ≡ true
 
 abbrev pub Good : State → Type 0
@@ -81,10 +81,11 @@ module _ (s u : State) (eo : s .objectCount ≡ u .objectCount) (et : s .tableCo
   entry-range (moved k h q) r = (handle-range h (r .0), r .1)
   entry-range (copied h) r = handle-range h r
 
-  body-range : (x : Body) → BodyRange s x → BodyRange u x
+  body-range : (x : Body) → BodyHalf s x → BodyHalf u x
   body-range (reservation b ks) r = (rw et at (r .0), r .1)
   body-range (claim b es) r = (rw et at (r .0), r .1, all-map entry-range es (r .2))
   body-range (parcel hs) r = (r .0, all-map handle-range hs (r .1))
+  body-range (plan b n w fs) r = tt
 
 pub settled : (s : State) (ts : ℕ → Table) (os : ℕ → Object) (rs : List Row) (n : ℕ) (fs : List ℕ) → Clauses s ts os rs n
     → Good (edit s ts os rs n fs)
@@ -129,7 +130,7 @@ good z s w = record {
       (λ e. w .ranges .tables b (ltb-true b (s .tableCount) e) .slots k)
       (λ e. rw (w .atRest .tables b (ltb-false b (s .tableCount) e)) tt);
   room = w .ranges .rowCount;
-  rows = w .ranges .rows;
+  rows = row-halves z s (s .book .rows) (w .ranges .rows) .0;
   placed = λ b k l. w .orders b .there k ∙ rw (le-ltb k maxSlots l) (ap not (and-false (isAttached (s .tables b) (pageOf z k))));
 }
 
@@ -138,7 +139,7 @@ pub record BookStep (s : State) (rs : List Row) (n : ℕ) : Type 0 where
   pub rise : IdsRise 1 rs n
   pub next : n < 2 ^ 64
   pub room : length rs ≤ s .book .capacity
-  pub rows : All (RowRange s) rs
+  pub rows : All (RowHalf s) rs
   pub closing : (b : ℕ) → isActive (s .tables b .life) ≡ false → anyOpen b rs ≡ false
 
 pub id-left : (s : State) → idLeft s ≡ true → s .book .next < 2 ^ 64 → s .book .next + 1 < 2 ^ 64
@@ -150,14 +151,14 @@ module _ (s : State) (w : Good s) where
   pub book-same : BookStep s (s .book .rows) (s .book .next)
   book-same = record { rise = w .rise; next = w .next; room = w .room; rows = w .rows; closing = w .closing }
 
-  pub book-add : (x : Body) → freeRow s ≡ true → idLeft s ≡ true → BodyRange s x
+  pub book-add : (x : Body) → freeRow s ≡ true → idLeft s ≡ true → BodyHalf s x
       → ((b : ℕ) → isActive (s .tables b .life) ≡ false → opensIn b x ≡ false)
       → BookStep s (s .book .rows ++ (row (s .book .next) x ∷ [])) (s .book .next + 1)
   book-add x f i r o = let n : ℕ = s .book .next in record {
     rise = ids-add 1 n x (s .book .rows) (w .rise);
     next = id-left s i (w .next);
     room = omega (arith, length-add (s .book .rows) (row n x), ltb-true (length (s .book .rows)) (s .book .capacity) f);
-    rows = all-append (RowRange s) (s .book .rows) (row n x ∷ []) (w .rows) (r, tt);
+    rows = all-append (RowHalf s) (s .book .rows) (row n x ∷ []) (w .rows) (r, tt);
     closing = λ b e. open-add b (s .book .rows) (row n x) (w .closing b e) (o b e);
   }
 
@@ -179,17 +180,17 @@ module _ (s : State) (rs : List Row) (n : ℕ) (w : BookStep s rs n) where
     rise = ids-drop 1 n i rs (w .rise);
     next = w .next;
     room = omega (arith, length-drop i rs, w .room);
-    rows = all-drop (RowRange s) i rs (w .rows);
+    rows = all-drop (RowHalf s) i rs (w .rows);
     closing = λ b e. open-drop b i rs (w .closing b e);
   }
 
-  pub book-swap : (i : ℕ) (x : Body) → BodyRange s x → ((b : ℕ) → isActive (s .tables b .life) ≡ false → opensIn b x ≡ false)
+  pub book-swap : (i : ℕ) (x : Body) → BodyHalf s x → ((b : ℕ) → isActive (s .tables b .life) ≡ false → opensIn b x ≡ false)
       → BookStep s (swapId i x rs) n
   book-swap i x r o = record {
     rise = ids-swap 1 n i x rs (w .rise);
     next = w .next;
     room = omega (arith, length-swap i x rs, w .room);
-    rows = all-swap (RowRange s) i x rs (w .rows) (λ j. r);
+    rows = all-swap (RowHalf s) i x rs (w .rows) (λ j. r);
     closing = λ b e. open-swap b i x rs (w .closing b e) (o b e);
   }
 

@@ -17,13 +17,13 @@ use Rattle.model.specs.Objects.{lower, changeAll, release}
 use Rattle.model.specs.Book.{find, dropId, swapId, dropRow, dropRows, swapRow, movedOf, copiesOf, sentOf}
 use Rattle.model.specs.Decision.{asParcel, handlesOf, distinct}
 use Rattle.model.specs.Step.{fillAll, restoreAll}
-use Rattle.model.specs.WellFormed.{HandleRange, SlotRange, All, Batch, BodyRange, heldBy, inSlot, inHandles, inRows}
+use Rattle.model.specs.WellFormed.{HandleRange, SlotRange, All, Batch, heldBy, inSlot, inHandles, inRows}
 use Rattle.model.specs.Tests.{bool, zero-or, same, pick-same, apart}
 use Rattle.model.specs.Sums.{member-occurs, member-in, occurs-split}
 use Rattle.invariant.specs.Pointwise.{given, given-out, movedHandles, vacateAll-slots, vacateAll-alike, fillAll-slots, fillAll-alike}
 use Rattle.invariant.specs.Pointwise.{restoreAll-is}
 use Rattle.invariant.specs.BookLemmas.{find-drop-same, find-drop-other, find-swap-same, find-swap-other, rows-drop, rows-swap, ids-drop}
-use Rattle.invariant.specs.BookLemmas.{drop-swap, drop-drop, found-range}
+use Rattle.invariant.specs.BookLemmas.{drop-swap, drop-drop, found-half, BodyHalf}
 use Rattle.invariant.specs.CountLemmas.{Fit, not-held, lower-all, total, total-same, total-given}
 use Rattle.invariant.specs.Marks.{inRow, isBy, Marked, bare, bare-mark, mark-other, mark-held, marked-others, alike, Keys, keys-reservation}
 use Rattle.invariant.specs.Marks.{keys-claim, keys-count, owns, mark-busy}
@@ -173,13 +173,13 @@ module _ (z : Sizes) (s : State) (w : Good s) where
       → Good (dropRow i (withTable s b (vacateAll z ks (s .tables b))))
   abort-good i b ks e = let rs : List Row = s .book .rows in let x : Body = reservation b ks in
       vacated-step i b true ks (dropId i rs) (ends-whole i b true ks x (keys-reservation b ks) e (dropId i rs) (gone-drop i rs) (others-drop i rs))
-      (book-drop s rs (s .book .next) (book-same s w) i) (found-range s (w .rows) i x e .0) (open-active s w i b x e (same b))
+      (book-drop s rs (s .book .next) (book-same s w) i) (found-half s (w .rows) i x e .0) (open-active s w i b x e (same b))
       (λ o. omega (arith, rows-drop o i x 1 (s .book .next) rs (w .rise) e))
 
   pub trim-good : (i b n : ℕ) (ks : List ℕ) → find i (s .book .rows) ≡ some (reservation b ks) → 0 < n → n ≤ length ks
       → Good (swapRow i (reservation b (take n ks)) (withTable s b (vacateAll z (drop n ks) (s .tables b))))
   trim-good i b n ks e p q = let rs : List Row = s .book .rows in let x : Body = reservation b (take n ks) in
-      let r : BodyRange s (reservation b ks) = found-range s (w .rows) i (reservation b ks) e in
+      let r : BodyHalf s (reservation b ks) = found-half s (w .rows) i (reservation b ks) e in
       let a : isActive (s .tables b .life) ≡ true = open-active s w i b (reservation b ks) e (same b) in
       vacated-step i b true (drop n ks) (swapId i x rs) (ends-trim i b n ks e)
       (book-swap s rs (s .book .next) (book-same s w) i x (r .0, (omega (arith, length-take n ks), omega (arith, length-take n ks, r .1 .1)))
@@ -189,7 +189,7 @@ module _ (z : Sizes) (s : State) (w : Good s) where
   pub commit-good : (i b : ℕ) (es : List Entry) → find i (s .book .rows) ≡ some (claim b es)
       → Good (swapRow i (parcel (map sentOf es)) (withTable s b (vacateAll z (movedOf es) (s .tables b))))
   commit-good i b es e = let rs : List Row = s .book .rows in let x : Body = parcel (map sentOf es) in
-      let r : BodyRange s (claim b es) = found-range s (w .rows) i (claim b es) e in
+      let r : BodyHalf s (claim b es) = found-half s (w .rows) i (claim b es) e in
       let now : find i (swapId i x rs) ≡ some x = find-swap-same i x (claim b es) rs e in
       let size : Batch (map sentOf es) = (omega (arith, length-map es sentOf, r .1 .0), omega (arith, length-map es sentOf, r .1 .1)) in
       vacated-step i b false (movedOf es) (swapId i x rs) (ends-whole i b false (movedOf es) (claim b es) (keys-claim b es) e (swapId i x rs)
@@ -202,7 +202,7 @@ module _ (z : Sizes) (s : State) (w : Good s) where
       → Good (dropRow i (release (withTable s b (restoreAll z es (s .tables b))) (copiesOf es)))
   rollback-good i b es e = rw (restoreAll-is z es (s .tables b)) (
       let rs : List Row = s .book .rows in
-      let r : BodyRange s (claim b es) = found-range s (w .rows) i (claim b es) e in
+      let r : BodyHalf s (claim b es) = found-half s (w .rows) i (claim b es) e in
       let d : (o : ℕ) → inRows o (dropId i rs) + inHandles o (map heldBy es) ≡ inRows o rs = λ o. rows-drop o i (claim b es) 1 (s .book .next) rs
       (w .rise) e in
       let a = lower-all (s .objectCount) (copiesOf es) (s .objects) (w .fit) (λ o l. omega (arith, w .counted o l, d o, held-parts o es)) in
@@ -225,7 +225,7 @@ module _ (z : Sizes) (s : State) (w : Good s) where
       filled-step i b true ks hs (s .objects) ns (ends-whole i b true ks x (keys-reservation b ks) e ns
       (λ n c k. drops-in i n c k is (dropId i rs) hs f′ d ∙ gone-drop i rs n c k) (λ n j c k y. drops-in j n c k is (dropId i rs) hs f′ d
       ∙ others-drop i rs n j c k y))
-      (book-drops s (s .book .next) (i ∷ is) rs (book-same s w)) (found-range s (w .rows) i x e .0) (open-active s w i b x e (same b)) len
+      (book-drops s (s .book .next) (i ∷ is) rs (book-same s w)) (found-half s (w .rows) i x e .0) (open-active s w i b x e (same b)) len
       (handles-range s is rs hs (w .rows) f)
       (λ o l. (w .fit o l, omega (arith, a o, rows-drop o i x 1 (s .book .next) rs (w .rise) e))))
 

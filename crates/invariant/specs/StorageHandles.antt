@@ -2,6 +2,7 @@
 use mathlib.Core.Path.{_≡_, refl, sym}
 use mathlib.Core.Bool.{true, not, _&&_}
 use mathlib.Core.List.{List, [], _∷_}
+use mathlib.Core.Option.{some}
 use Prim.Native.Nat.{ℕ, _+_, _≤_, _<_}
 use native.Mathlib.Omega.{arith}
 use lib.Dec.{eqb, ltb}
@@ -33,7 +34,7 @@ use Rattle.invariant.specs.Orders.{Sound, order-is, attached-below, belo
 use Rattle.invariant.specs.Frames.{owned, detach-owned}
 use Rattle.invariant.specs.StorageState.{storage-of, turned, change-rest, changeAll-rest}
 use Rattle.invariant.specs.StorageViews.{next-occupied, parcel-found, occurs-returned, rising-returned}
-use Rattle.invariant.specs.StorageDecisions.{Kept, KeptD, still, held-range, sound-at, objects-kept, table-kept, life-kept}
+use Rattle.invariant.specs.StorageDecisions.{Kept, KeptD, opened, ended, unchanged, still, held-range, sound-at, objects-kept, table-kept, life-kept}
 
 module _ (z : Sizes) (sane : Sane z) (s : State) (w : WellFormed z s) where
   pub new-object : (o r f : ℕ) → KeptD z s (newObjectOf z s o r f)
@@ -49,7 +50,7 @@ module _ (z : Sizes) (sane : Sane z) (s : State) (w : WellFormed z s) where
       checked (not (eqb (x .count) (x .limit))) _ tt λ e7.
       checked (idLeft s) _ tt λ e8.
       accepts (objects-kept z s w (change activated (s .objects) o)
-      (change-rest activated (s .objectCount) o (s .objects) (ltb-true o (s .objectCount) l) (w .atRest .objects)) _ _)
+      (change-rest activated (s .objectCount) o (s .objects) (ltb-true o (s .objectCount) l) (w .atRest .objects)) _ _ (opened z s w _ refl tt))
 
   pub duplicate-kept : (b v r : ℕ) → KeptD z s (duplicateOf z s b v r)
   unfolding duplicateOf
@@ -65,20 +66,21 @@ module _ (z : Sizes) (sane : Sane z) (s : State) (w : WellFormed z s) where
       checked (idLeft s) _ tt λ e7.
       accepts (objects-kept z s w (change raise (s .objects) (h .object))
       (change-rest raise (s .objectCount) (h .object) (s .objects) (held-range z s w b k (generationIn (t .mask) v) h (ltb-true b (s .tableCount) l) (stands-at t v k h e) .object)
-      (w .atRest .objects)) _ _)
+      (w .atRest .objects)) _ _ (opened z s w _ refl tt))
 
   pub release-kept : (i : ℕ) → KeptD z s (releaseParcelOf z s i)
   unfolding releaseParcelOf
   release-kept i = with-some (asParcel (find i (s .book .rows))) _ tt λ hs e.
-      let r : BodyRange s (parcel hs) = found-range s (w .ranges .rows) i (parcel hs) (parcel-found (find i (s .book .rows)) hs e) in
+      let q : find i (s .book .rows) ≡ some (parcel hs) = parcel-found (find i (s .book .rows)) hs e in
+      let r : BodyRange z s (parcel hs) = found-range s w i (parcel hs) q in
       accepts (objects-kept z s w (changeAll lower hs (s .objects))
-      (changeAll-rest lower (s .objectCount) hs (s .objects) (all-map (λ h q. q .object) hs (r .1)) (w .atRest .objects)) _ _)
+      (changeAll-rest lower (s .objectCount) hs (s .objects) (all-map (λ h q. q .object) hs (r .1)) (w .atRest .objects)) _ _ (ended z s w i (parcel hs) q refl))
 
   pub retire-kept : (o : ℕ) → KeptD z s (retireObjectOf z s o)
   unfolding retireObjectOf
   retire-kept o = checked (ltb o (s .objectCount)) _ tt λ l.
       accepts (objects-kept z s w (change retiredByOwner (s .objects) o)
-      (change-rest retiredByOwner (s .objectCount) o (s .objects) (ltb-true o (s .objectCount) l) (w .atRest .objects)) _ _)
+      (change-rest retiredByOwner (s .objectCount) o (s .objects) (ltb-true o (s .objectCount) l) (w .atRest .objects)) _ _ (unchanged z s w))
 
   pub read-kept : (b v : ℕ) → KeptD z s (getInfoOf z s b v)
   unfolding getInfoOf
@@ -108,7 +110,7 @@ module _ (z : Sizes) (sane : Sane z) (s : State) (w : WellFormed z s) where
       (order-is z (place z t k x) (t .free) (place z t k x .free) (sym (place-free z t k x))
       (place-busy z sane t (t .free) k x (sound-at z s w b l) (rw e) refl
       (next-range (generation (t .slots k)))))
-      (s .objects) (w .atRest .objects) _ _)
+      (s .objects) (w .atRest .objects) _ _ (unchanged z s w))
 
   -- a slot is vacated and its handle released; the table's life is new
   vacated-kept : (b k g : ℕ) (h : Handle) (f : Lifecycle) → b < s .tableCount → s .tables b .slots k ≡ occupied g h → LifeRange f
@@ -116,7 +118,7 @@ module _ (z : Sizes) (sane : Sane z) (s : State) (w : WellFormed z s) where
   vacated-kept b k g h f l e r = let t : Table = s .tables b in
       life-kept z s w b (vacate z t k) f l (vacate-alike z t k) (vacate-good z sane t k (sound-at z s w b l) (rw e)) r
       (changeAll lower (h ∷ []) (s .objects))
-      (changeAll-rest lower (s .objectCount) (h ∷ []) (s .objects) (held-range z s w b k g h l e .object, tt) (w .atRest .objects)) _ _
+      (changeAll-rest lower (s .objectCount) (h ∷ []) (s .objects) (held-range z s w b k g h l e .object, tt) (w .atRest .objects)) _ _ (unchanged z s w)
 
   -- or stays
   stays-kept : (b k g : ℕ) (h : Handle) → b < s .tableCount → s .tables b .slots k ≡ occupied g h
@@ -143,7 +145,7 @@ module _ (z : Sizes) (sane : Sane z) (s : State) (w : WellFormed z s) where
       checked (isActive (t .life)) _ tt λ e1.
       checked (not (anyOpen b (s .book .rows))) _ tt λ e2.
       let m : b < s .tableCount = ltb-true b (s .tableCount) l in
-      accepts (life-kept z s w b t (tearingDown 0) m (alike-self z t) (sound-at z s w b m) (omega arith) (s .objects) (w .atRest .objects) _ _)
+      accepts (life-kept z s w b t (tearingDown 0) m (alike-self z t) (sound-at z s w b m) (omega arith) (s .objects) (w .atRest .objects) _ _ (unchanged z s w))
 
   pub step-kept : (b : ℕ) → KeptD z s (teardownStepOf z s b)
   unfolding teardownStepOf
@@ -163,7 +165,7 @@ module _ (z : Sizes) (sane : Sane z) (s : State) (w : WellFormed z s) where
       while-tearing (t .life) tt λ k e.
       checked (not (isSome (nextOccupied z t 0))) _ tt λ e.
       let m : b < s .tableCount = ltb-true b (s .tableCount) l in
-      accepts (life-kept z s w b t retired m (alike-self z t) (sound-at z s w b m) tt (s .objects) (w .atRest .objects) _ _)
+      accepts (life-kept z s w b t retired m (alike-self z t) (sound-at z s w b m) tt (s .objects) (w .atRest .objects) _ _ (unchanged z s w))
 
   -- a page's frame is in use and not free
   frame-once : (b p f : ℕ) → b < s .tableCount → p < s .tables b .limit → bit (isFrame (s .tables b .pages p .frame) f) + occurs f (s .frames) ≤ 1
@@ -187,13 +189,14 @@ module _ (z : Sizes) (sane : Sane z) (s : State) (w : WellFormed z s) where
       let m : p < t .limit = omega (arith, attached-below z t (t .free) o p a, o .size) in
       let g = detach-grown z t p in
       record {
-        storage = turned z s (storage-of z s w) b (detach z t p) (returned z (t .pages p .frame) (s .frames)) l (record {
+        storage = turned z s (storage-of z s w) b (detach z t p) (returned z (t .pages p .frame) (s .frames)) (s .book .rows) (s .book .next) l (record {
           sound = order-is z (detach z t p) _ (detach z t p .free) (sym (detach-free z t p)) (detach-sound z sane t (t .free) p o a);
           limit = g .limit;
           mask = g .mask;
           life = rw (g .life) (w .ranges .tables b l .life);
           frames = λ f. omega (arith, occurs-returned z (t .pages p .frame) (s .frames) f, detach-owned z t p f m);
           rising = rising-returned z (t .pages p .frame) (s .frames) (λ f. frame-once b p f l m) (w .frames .rising);
+          plans = unchanged z s w .range;
         });
         counts = still z s w .counts;
       }

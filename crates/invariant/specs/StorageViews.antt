@@ -1,13 +1,13 @@
--- What a walk and a row tell of slots, and the frame that a page gives back.
+-- What a walk and a row tell of slots, and the frames that a page and a plan give back.
 use mathlib.Core.Path.{_≡_, refl}
 use mathlib.Core.Bool.{true}
 use mathlib.Core.List.{List, [], _∷_}
 use mathlib.Core.Option.{Option, none, some}
 use Prim.Native.Nat.{ℕ, zero, suc, _+_, _-_, _≤_}
 use native.Mathlib.Omega.{arith}
-use Rattle.model.specs.Base.{bit, occurs}
+use Rattle.model.specs.Base.{bit, occurs, insert, insertAll}
 use Rattle.model.specs.State.{Sizes, Handle, Slot, Slot.absent, Slot.vacant, Slot.reserved, Slot.transferReserved, Slot.occupied, Table, Body}
-use Rattle.model.specs.State.{Body.reservation, Body.claim, Body.parcel, isOccupied, isBusy}
+use Rattle.model.specs.State.{Body.reservation, Body.claim, Body.parcel, Body.plan, isOccupied, isBusy}
 use Rattle.model.specs.Storage.{keep, firstOccupied, lengthOf}
 use Rattle.model.specs.Decision.{asParcel}
 use Rattle.model.specs.Lookup.{handleOr}
@@ -39,6 +39,7 @@ parcel-found none hs e = apart (cc)
 parcel-found (some (reservation b ks)) hs e = apart (cc)
 parcel-found (some (claim b es)) hs e = apart (cc)
 parcel-found (some (parcel gs)) hs e = let y : gs ≡ hs = cc in rw y
+parcel-found (some (plan b n w fs)) hs e = apart (cc)
 
 -- handles put into slots leave busy slots busy
 pub fillAll-busy : (z : Sizes) (ks : List ℕ) (hs : List Handle) (t : Table) (j : ℕ) → isBusy (t .slots j) ≡ true
@@ -57,3 +58,15 @@ pub rising-returned : (z : Sizes) (x : Option ℕ) (fs : List ℕ) → ((f : ℕ
     → Rising (returned z x fs)
 rising-returned z none fs h r = r
 rising-returned z (some g) fs h r = rising-insert g fs (let i : 1 + occurs g fs ≤ 1 = rw (same g) at (h g) in omega arith) r
+
+-- the frames that a plan gives back
+
+pub occurs-inserted : (gs fs : List ℕ) (f : ℕ) → occurs f (insertAll gs fs) ≡ occurs f gs + occurs f fs
+occurs-inserted [] fs f = omega arith
+occurs-inserted (g ∷ gs) fs f = omega (arith, occurs-inserted gs (insert g fs) f, occurs-insert f g fs)
+
+pub rising-inserted : (gs fs : List ℕ) → ((f : ℕ) → occurs f gs + occurs f fs ≤ 1) → Rising fs → Rising (insertAll gs fs)
+rising-inserted [] fs h r = r
+rising-inserted (g ∷ gs) fs h r =
+    let i : 1 + occurs g gs + occurs g fs ≤ 1 = rw (same g) at (h g) in
+    rising-inserted gs (insert g fs) (λ f. omega (arith, h f, occurs-insert f g fs)) (rising-insert g fs (omega arith) r)
