@@ -11,10 +11,10 @@ use borrow.Author.Tests.{ltb-true, eqb-true, eqb-false, lt-ltb, eq-eqb, ne-eqb}
 use Rattle.codec.specs.Codec.{decodes, slotIn, generationIn}
 use Rattle.codec.specs.Laws.{same-value}
 use Rattle.model.specs.Base.{bit, member, occurs}
-use Rattle.model.specs.State.{Sizes, Handle, Slot, Slot.absent, Slot.vacant, Slot.reserved, Slot.transferReserved, Slot.occupied, Table, Entry, Entry.moved, Entry.copied, Body, Body.reservation, Body.claim, Body.parcel, State, lastId}
+use Rattle.model.specs.State.{Sizes, Handle, Slot, Slot.absent, Slot.vacant, Slot.reserved, Slot.transferReserved, Slot.occupied, Table, Entry, Entry.moved, Entry.copied, Body, Body.reservation, Body.claim, Body.parcel, Body.plan, StorageSnapshot, State, lastId}
 use Rattle.model.specs.State.{isActive, isOccupied}
 use Rattle.model.specs.Book.{find, freeRow, idLeft, movedOf, spendId}
-use Rattle.model.specs.Decision.{Decision, Decision.refusal, Decision.refusalAfterId, Decision.accept, unless_refuse_then_, given_refuse_then_, asReservation, asClaim, reservationRow_of_refuse_then_, claimRow_of_refuse_then_, refuseAfterId_then_}
+use Rattle.model.specs.Decision.{Decision, Decision.refusal, Decision.refusalAfterId, Decision.accept, unless_refuse_then_, given_refuse_then_, asReservation, asClaim, asPlan, reservationRow_of_refuse_then_, claimRow_of_refuse_then_, planRow_of_refuse_then_, refuseAfterId_then_}
 use Rattle.model.specs.Lookup.{View, View.invalid, View.busy, View.holds, viewSlot, lookup, onView, handleOr}
 use Rattle.model.specs.WellFormed.{WellFormed, isMovingBy, inClaim}
 use Rattle.noninterference.specs.Runs.{lowered, lowerAnswer, lowerSlot}
@@ -232,6 +232,7 @@ module _ (x : Case) where
       go (some (reservation c ks)) = k c ks
       go (some (claim c xs)) = refuses e 18
       go (some (parcel hs)) = refuses e 18
+      go (some (plan c n w fs)) = refuses e 18
 
   pub claims : {e : Bool} (i : ℕ) (f f₀ : ℕ → List Entry → Decision) → (i ≡ t → ⊥) → ((c : ℕ) (xs : List Entry) → Alike e (f c xs) (f₀ c xs))
       → Alike e (claimRow i of s refuse 18 then f) (claimRow lowered t i of E s refuse 18 then f₀)
@@ -242,6 +243,19 @@ module _ (x : Case) where
       go (some (reservation c ks)) = refuses e 18
       go (some (claim c xs)) = k c xs
       go (some (parcel hs)) = refuses e 18
+      go (some (plan c n w fs)) = refuses e 18
+
+  pub plans : {e : Bool} (i : ℕ) (f f₀ : ℕ → ℕ → StorageSnapshot → List ℕ → Decision) → (i ≡ t → ⊥)
+      → ((c n : ℕ) (w : StorageSnapshot) (fs : List ℕ) → Alike e (f c n w fs) (f₀ c n w fs))
+      → Alike e (planRow i of s refuse 18 then f) (planRow lowered t i of E s refuse 18 then f₀)
+  plans {e} i f f₀ n k = rw (find-erase t i n (s .book .rows)) (go (find i (s .book .rows)))
+    where
+      go : (w : Option Body) → Alike e (asPlan w 18 f) (asPlan w 18 f₀)
+      go none = refuses e 18
+      go (some (reservation c ks)) = refuses e 18
+      go (some (claim c xs)) = refuses e 18
+      go (some (parcel hs)) = refuses e 18
+      go (some (plan c n w fs)) = k c n w fs
 
   pub all-stem : (c : ℕ) → Stems t (s .tables c) (s .tables c)
   all-stem c = stems-same t (s .tables c)

@@ -1,6 +1,6 @@
--- Requests on reservations are decided alike.
+-- Requests on reservations and plans are decided alike.
 use mathlib.Core.Path.{_≡_, refl, sym, ap, _∙_}
-use mathlib.Core.Bool.{Bool, true, false}
+use mathlib.Core.Bool.{Bool, true, false, not}
 use mathlib.Core.List.{List, [], _∷_, map}
 use mathlib.Core.Option.{Option}
 use Prim.Native.Nat.{ℕ}
@@ -9,25 +9,25 @@ use lib.Dec.{ltb, eqb}
 use borrow.Author.Tests.{eqb-false}
 use Rattle.codec.specs.Codec.{encode}
 use Rattle.model.specs.Base.{member, orElse, atMost}
-use Rattle.model.specs.State.{Slot.reserved, Table, Body.reservation, Row, State}
+use Rattle.model.specs.State.{Table, StorageSnapshot, Row, State}
 use Rattle.model.specs.State.{isActive, maxBatch}
-use Rattle.model.specs.Storage.{takeFree, pagesFor}
-use Rattle.model.specs.Change.{withTable, withFrames}
+use Rattle.model.specs.Storage.{pagesFor, isStale}
+use Rattle.model.specs.Change.{withFrames, withBook}
 use Rattle.model.specs.Request.{Answer.batch}
-use Rattle.model.specs.Book.{addRow}
-use Rattle.model.specs.Decision.{Decision.accept, distinct}
-use Rattle.model.specs.Lookup.{valueAt}
-use Rattle.model.specs.Step.{reserveOf, trimOf, abortOf, publishOf}
+use Rattle.model.specs.Decision.{Decision, distinct}
+use Rattle.model.specs.Step.{withRoom, reserveIn, reserveOf, makePlanOf, usePlanOf, dropPlanOf, trimOf, abortOf, publishOf}
 use Rattle.noninterference.specs.Runs.{lowered}
-use Rattle.noninterference.specs.Erase.{eraseTable, erase}
+use Rattle.noninterference.specs.Erase.{erase}
 use Rattle.model.specs.Tests.{bool, clash}
 use Rattle.invariant.specs.Parcels.{dropIds, dropRows-is}
+use Rattle.invariant.specs.Snapshots.{snapshot-pages}
 use Rattle.noninterference.specs.Basics.{map-same}
 use Rattle.noninterference.specs.Tables.{gen-erase}
+use Rattle.noninterference.specs.Snapshots.{snapshot-erase, stale-erase}
 use Rattle.noninterference.specs.Marks.{stems-then}
 use Rattle.noninterference.specs.Rows.{handles-erase, distinct-erase}
-use Rattle.noninterference.specs.Alike.{Case, Alike, check, row-left, id-left, somes, reservations}
-use Rattle.noninterference.specs.Effects.{TableTwin, all-vacated, all-filled, grown, reserved-first, BookTwin, with-rows, with-rows₀, same-book, added, dropped, swapped, changes}
+use Rattle.noninterference.specs.Alike.{Case, Alike, check, row-left, id-left, somes, reservations, plans}
+use Rattle.noninterference.specs.Effects.{TableTwin, untouched, all-vacated, all-filled, grown, reserved-first, BookTwin, with-rows, with-rows₀, same-book, added, dropped, swapped, accepts, changes}
 
 module _ (x : Case) where
   abbrev s : State
@@ -36,36 +36,59 @@ module _ (x : Case) where
   abbrev s₀ : State
   s₀ = erase (x .t) (x .es) (x .s)
 
-  -- a grown table gives its first free slots
-  reserves : {e : Bool} (c n m : ℕ) (u u₀ : Table) → TableTwin x (s .tables c) u u₀ → Alike x e
-      (accept (addRow (reservation c (take n (u .free)))
-      (withFrames (withTable s c (takeFree (x .z) n (λ g. reserved g (s .book .next)) u)) (drop m (s .frames))))
-      (batch (s .book .next) (map (valueAt u) (take n (u .free)))))
-      (accept (addRow (reservation c (take n (u₀ .free)))
-      (withFrames (withTable s₀ c (takeFree (x .z) n (λ g. reserved g (s₀ .book .next)) u₀)) (drop m (s₀ .frames))))
-      (batch (s₀ .book .next) (map (valueAt u₀) (take n (u₀ .free)))))
-  reserves c n m u u₀ p = rw (p .same) (
-      changes x c (record { stems = stems-then (x .t) (p .stems) (reserved-first x n u .stems); same = reserved-first x n u .same }) (added x _) refl
+  -- a table that has grown gives its first free slots, whatever frames are free and whichever row goes
+  reserves : {e : Bool} {rs rs₀ : List Row} (c n : ℕ) (fs : List ℕ) (u u₀ : Table) → TableTwin x (s .tables c) u u₀
+      → BookTwin x (with-rows x rs) (with-rows₀ x rs₀)
+      → Alike x e (reserveIn (x .z) (withFrames (withBook s (with-rows x rs)) fs) c n u) (reserveIn (x .z) (withFrames (withBook s₀ (with-rows₀ x rs₀)) fs) c n u₀)
+  reserves c n fs u u₀ p b = rw (p .same) (
+      changes x c (record { stems = stems-then (x .t) (p .stems) (reserved-first x n u .stems); same = reserved-first x n u .same }) (added x _ b) refl
       (ap (batch (s₀ .book .next)) (map-same _ _ (λ k. ap (encode (u .mask) k) (gen-erase (x .t) (x .es) k (u .slots k))) (take n (u .free)))))
 
-  pages-same : (c n : ℕ) → pagesFor (x .z) (eraseTable (x .t) (x .es) (s .tables c)) n ≡ pagesFor (x .z) (s .tables c) n
-  unfolding pagesFor
-  pages-same c n = refl
+  -- the pages that a request needs are those of its snapshot
+  abbrev enough : (tableNumber count : ℕ) → Bool
+  enough c n = atMost (length (orElse (pagesFor (x .z) (s .tables c) n) [])) (length (s .frames))
 
-  pub alike-reserve : (c n : ℕ)
-      → Alike x (atMost (length (orElse (pagesFor (x .z) (s .tables c) n) [])) (length (s .frames))) (reserveOf (x .z) s c n) (reserveOf (x .z) s₀ c n)
-  unfolding reserveOf
-  alike-reserve c n =
+  -- the checks that a reservation and a plan share
+  has-room : (c n : ℕ) {f f₀ : StorageSnapshot → Decision} → ((w : StorageSnapshot) → Alike x true (f w) (f₀ w))
+      → Alike x (enough c n) (withRoom (x .z) s c n (λ y. f)) (withRoom (x .z) s₀ c n (λ y. f₀))
+  has-room c n k =
       check x (ltb c (s .tableCount)) 18 λ q.
       check x (isActive (s .tables c .life)) 16 λ q.
       check x (ltb 0 n) 17 λ q.
       check x (atMost n maxBatch) 13 λ q.
-      somes x 15 _ _ (pages-same c n) λ ps q.
-      check x (atMost (length ps) (length (s .frames))) 1 λ r.
-      rw (ap (λ (m : Option (List ℕ)). atMost (length (orElse m [])) (length (s .frames))) q ∙ r) (
+      somes x 15 _ _ (snapshot-erase (x .z) (x .t) (x .es) (s .tables c) n) λ w q.
+      check x (atMost (length (w .pages)) (length (s .frames))) 1 λ r.
+      rw (ap (λ (m : Option (List ℕ)). atMost (length (orElse m [])) (length (s .frames))) (snapshot-pages (x .z) (s .tables c) n w q .0) ∙ r) (
       row-left x (
       id-left x (
-      reserves c n (length ps) _ _ (grown x ps (s .frames) (s .tables c)))))
+      k w)))
+
+  pub alike-reserve : (c n : ℕ) → Alike x (enough c n) (reserveOf (x .z) s c n) (reserveOf (x .z) s₀ c n)
+  unfolding reserveOf
+  alike-reserve c n = has-room c n λ w.
+      reserves c n (drop (length (w .pages)) (s .frames)) _ _ (grown x (w .pages) (s .frames) (s .tables c)) (same-book x)
+
+  pub alike-makePlan : (c n : ℕ) → Alike x (enough c n) (makePlanOf (x .z) s c n) (makePlanOf (x .z) s₀ c n)
+  unfolding makePlanOf
+  alike-makePlan c n = has-room c n λ w.
+      accepts x (λ d. untouched x (s .tables d)) (added x _ (same-book x)) refl refl
+
+  -- a plan is stale in both runs or in neither
+  pub alike-usePlan : (i : ℕ) → (i ≡ x .t → ⊥) → Alike x true (usePlanOf (x .z) s i) (usePlanOf (x .z) s₀ (lowered (x .t) i))
+  unfolding usePlanOf
+  alike-usePlan i p =
+      plans x i _ _ p λ c n w fs.
+      check x (isActive (s .tables c .life)) 16 λ q.
+      rw (stale-erase (x .z) (x .t) (x .es) (s .tables c) n w) (
+      check x (not (isStale (x .z) (s .tables c) n w)) 21 λ q.
+      id-left x (
+      reserves c n (s .frames) _ _ (grown x (w .pages) fs (s .tables c)) (dropped x i p (same-book x))))
+
+  pub alike-dropPlan : (i : ℕ) → (i ≡ x .t → ⊥) → Alike x true (dropPlanOf (x .z) s i) (dropPlanOf (x .z) s₀ (lowered (x .t) i))
+  unfolding dropPlanOf
+  alike-dropPlan i p =
+      plans x i _ _ p λ c n w fs.
+      accepts x (λ d. untouched x (s .tables d)) (dropped x i p (same-book x)) refl refl
 
   pub alike-trim : (i n : ℕ) → (i ≡ x .t → ⊥) → Alike x true (trimOf (x .z) s i n) (trimOf (x .z) s₀ (lowered (x .t) i) n)
   unfolding trimOf

@@ -65,7 +65,7 @@ module _ (x : Case) where
         (opened (s₀ .book .next)))
     claimed xs xs₀ e = rw e (
         faults x {a = copiesFault (s .objects) (copiesOf xs)} _ _ refl λ q.
-        changes x c (all-marked x (movedOf xs) y) (added x _) refl refl)
+        changes x c (all-marked x (movedOf xs) y) (added x _ (same-book x)) refl refl)
 
     pub alike-prepareTransfer : (qs : List Item) → Clear (x .b) (x .vs) c qs
         → Alike x true (prepareTransferOf (x .z) s c route bo bk qs) (prepareTransferOf (x .z) s₀ c route bo bk qs)
@@ -92,7 +92,7 @@ module _ (x : Case) where
       check x (eqb (s .objects (h .object) .kind) kind) 4 λ q.
       check x (eqb (s .objects (h .object) .koid) koid) 2 λ q.
       id-left x (
-      changes x c (marked x k (s .tables c)) (added x _) refl refl))
+      changes x c (marked x k (s .tables c)) (added x _ (same-book x)) refl refl))
 
   pub alike-rollback : (i : ℕ) → (i ≡ x .t → ⊥) → Alike x true (rollbackOf (x .z) s i) (rollbackOf (x .z) s₀ (lowered (x .t) i))
   unfolding rollbackOf

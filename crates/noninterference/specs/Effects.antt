@@ -116,12 +116,13 @@ module _ (x : Case) where
   abbrev pub with-rows₀ : List Row → Book
   with-rows₀ rs = record { rows = rs; capacity = s₀ .book .capacity; next = s₀ .book .next }
 
-  pub added : (a : Body) → BookTwin
-      (record { rows = s .book .rows ++ (record { id = s .book .next; body = a } ∷ []); capacity = s .book .capacity; next = s .book .next + 1 })
-      (record { rows = s₀ .book .rows ++ (record { id = s₀ .book .next; body = a } ∷ []); capacity = s₀ .book .capacity; next = s₀ .book .next + 1 })
-  added a = record {
-    stays = find-append (x .t) (s .book .next) fresh a (s .book .rows);
-    same = rw (append-erase (x .t) (s .book .rows) (record { id = s .book .next; body = a }) fresh, lowered-next (x .t) (s .book .next) (below x));
+  pub added : {rs rs₀ : List Row} (a : Body) → BookTwin (with-rows rs) (with-rows₀ rs₀) → BookTwin
+      (record { rows = rs ++ (record { id = s .book .next; body = a } ∷ []); capacity = s .book .capacity; next = s .book .next + 1 })
+      (record { rows = rs₀ ++ (record { id = s₀ .book .next; body = a } ∷ []); capacity = s₀ .book .capacity; next = s₀ .book .next + 1 })
+  added {rs} a p = record {
+    stays = find-append (x .t) (s .book .next) fresh a rs ∙ p .stays;
+    same = ap (λ (k : Book). record { rows = k .rows ++ (record { id = s₀ .book .next; body = a } ∷ []); capacity = s .book .capacity; next = s₀ .book .next + 1 }) (p .same)
+        ∙ rw (append-erase (x .t) rs (record { id = s .book .next; body = a }) fresh, lowered-next (x .t) (s .book .next) (below x));
   }
 
   pub dropped : {rs rs₀ : List Row} (i : ℕ) → (i ≡ x .t → ⊥) → BookTwin (with-rows rs) (with-rows₀ rs₀)

@@ -2,14 +2,13 @@
 use mathlib.Core.Path.{_≡_, refl, sym, ap, _∙_}
 use mathlib.Core.Bool.{true, false, _&&_}
 use mathlib.Core.List.{List, [], _∷_, map}
-use mathlib.Core.Option.{some}
 use Prim.Native.Nat.{ℕ, _+_, _≤_}
 use native.Mathlib.Omega.{arith}
 use lib.Dec.{ltb, eqb}
 use borrow.Author.Tests.{eqb-true, lt-ltb, eq-eqb}
 use Rattle.codec.specs.Codec.{decodes, slotIn, generationIn}
 use Rattle.model.specs.Base.{bit, put, every, occurs}
-use Rattle.model.specs.State.{Sizes, Handle, Slot.transferReserved, Slot.occupied, Table, Entry, Entry.moved, Entry.copied, Body, Body.claim, Body.parcel, Row, State}
+use Rattle.model.specs.State.{Sizes, Handle, Slot.transferReserved, Slot.occupied, Table, Entry, Entry.moved, Entry.copied, Body.claim, Body.parcel, State}
 use Rattle.model.specs.State.{isActive}
 use Rattle.model.specs.Storage.{place, vacate, vacateAll}
 use Rattle.model.specs.Change.{withTable}
@@ -18,23 +17,16 @@ use Rattle.model.specs.Request.{Request, Request.close, Request.rollback, Reque
 use Rattle.model.specs.Book.{find, dropRow, swapRow, movedOf, copiesOf, sentOf}
 use Rattle.model.specs.Lookup.{View.holds, lookup}
 use Rattle.model.specs.Step.{restoreAll, closeOf, rollbackOf, commitOf, decide, step, run}
-use Rattle.model.specs.WellFormed.{WellFormed, All, RowRange, BodyRange, isMovingBy, inClaim}
+use Rattle.model.specs.WellFormed.{WellFormed, BodyRange, isMovingBy, inClaim}
 use Rattle.noninterference.specs.Runs.{accepted, lowered, withSlots, lowerTable, lowerRow, lowerState}
 use Rattle.noninterference.specs.Erase.{handleAt, eraseTable, erase}
 use Rattle.model.specs.Tests.{bool}
-use Rattle.invariant.specs.BookLemmas.{find-drop-same, find-swap-same}
+use Rattle.invariant.specs.BookLemmas.{find-drop-same, find-swap-same, all-found}
 use Rattle.noninterference.specs.Basics.{put-map}
 use Rattle.noninterference.specs.Tables.{vacateAll-erase, restoreAll-erase}
 use Rattle.noninterference.specs.Rows.{drop-twice}
 use Rattle.noninterference.specs.Alike.{Held, Open, Case, bare-slot, counted, is-active}
 use Rattle.noninterference.specs.Restore.{restore-idle, agrees-own, stand-erased}
-
--- a row that is found is in range
-row-range : (s : State) (i : ℕ) (x : Body) (rs : List Row) → All (RowRange s) rs → find i rs ≡ some x → BodyRange s x
-row-range s i x [] a e = let y : _≡_ {A = ℕ} 0 1 = cc in absurd (omega arith)
-row-range s i x (r ∷ rs) a e = bool (eqb (r .id) i)
-    (λ q. let w : some (r .body) ≡ some x = rw q at e in let v : r .body ≡ x = cc in rw v at (a .0))
-    (λ q. row-range s i x rs (a .1) (rw q at e))
 
 -- a table without the claim's marks is only lowered
 bare-table : (t : ℕ) (es : List Entry) (x : Table) → ((k : ℕ) → isMovingBy t (x .slots k) ≡ false) → eraseTable t es x ≡ lowerTable t x
@@ -136,7 +128,7 @@ module _ (z : Sizes) (kept : (s : State) → WellFormed z s → (r : Request) �
   abbrev after-rollback : State
   after-rollback = dropRow t (withTable s b (restoreAll z es y))
 
-  rolled : step z s (rollback t) ≡ (after-rollback, done)
+  pub rolled : step z s (rollback t) ≡ (after-rollback, done)
   unfolding step decide rollbackOf
   rolled = rw (o .row, no-copies es vs (o .held))
 
@@ -144,7 +136,7 @@ module _ (z : Sizes) (kept : (s : State) → WellFormed z s → (r : Request) �
   restored = sym (restoreAll-erase t es z es y)
       ∙ restore-idle z (eraseTable t es y) es (stand-erased z t es y (o .wf .generations b) es (agrees-own es once) vs (o .held))
 
-  erase-rolled : erase t es after-rollback ≡ erase t es s
+  pub erase-rolled : erase t es after-rollback ≡ erase t es s
   erase-rolled = λ i. record {
     tableCount = s .tableCount;
     tables = λ c. tables-same c i;
@@ -182,7 +174,7 @@ module _ (z : Sizes) (kept : (s : State) → WellFormed z s → (r : Request) �
   abbrev after-commit : State
   after-commit = swapRow t (parcel (map sentOf es)) (withTable s b (vacateAll z (movedOf es) y))
 
-  made : step z s (commit t) ≡ (after-commit, done)
+  pub made : step z s (commit t) ≡ (after-commit, done)
   unfolding step decide commitOf
   made = rw (o .row)
 
@@ -199,7 +191,7 @@ module _ (z : Sizes) (kept : (s : State) → WellFormed z s → (r : Request) �
   closed : (every accepted (run z (erase t es s) (map (close b) vs) .1) ≡ true)
       × ((c : ℕ) → run z (erase t es s) (map (close b) vs) .0 .tables c ≡ put (erase t es s .tables) b (vacateAll z (movedOf es) (eraseTable t es y)) c)
   closed = closings z b (erase t es s) (eraseTable t es y) refl
-      (lt-ltb b (s .tableCount) (row-range s t (claim b es) (s .book .rows) (o .wf .ranges .rows) (o .row) .0))
+      (lt-ltb b (s .tableCount) (all-found (BodyRange z s) t (claim b es) (s .book .rows) (o .wf .ranges .rows) (o .row) .0))
       (is-active x) es once vs (ready es vs (o .held))
 
   pub closings-accepted : every accepted (run z (erase t es s) (map (close b) vs) .1) ≡ true

@@ -1,4 +1,4 @@
--- Two worked pairs of runs: the checker computes both runs of each, in both endings, and compares every answer and every field in use.
+-- Three worked pairs of runs: the checker computes both runs of each, in both endings, and compares every answer and every field in use.
 use mathlib.Core.Path.{_≡_, refl}
 use mathlib.Core.Bool.{true, false}
 use mathlib.Core.List.{List, [], _∷_, _++_, map}
@@ -7,8 +7,9 @@ use Prim.Native.Nat.{ℕ}
 use Rattle.model.specs.Base.{every}
 use Rattle.model.specs.State.{State}
 use Rattle.model.specs.Request.{Route.buffered, Route.rendezvous, Operation.asMove, Operation.asCopy, Item, Answer.opened}
-use Rattle.model.specs.Request.{Request, Request.newObject, Request.duplicate, Request.releaseParcel, Request.retireObject, Request.reserve, Request.trim, Request.abort, Request.publish, Request.getInfo, Request.resolve, Request.replace, Request.close, Request.scanHandles, Request.prepareTransfer, Request.prepareConsumption, Request.rollback, Request.commit, Request.directCommit, Request.directRollback, Request.removeStoppingOwner, Request.teardownStart, Request.teardownStep, Request.teardownFinish, Request.takeEmptyPage}
-use Rattle.model.specs.Cases.{item, sameList-equal}
+use Rattle.model.specs.Request.{Request, Request.newObject, Request.duplicate, Request.releaseParcel, Request.retireObject, Request.reserve, Request.trim, Request.abort, Request.publish, Request.getInfo, Request.resolve, Request.replace, Request.close, Request.scanHandles, Request.prepareTransfer, Request.prepareConsumption, Request.rollback, Request.commit, Request.directCommit, Request.directRollback, Request.removeStoppingOwner, Request.teardownStart, Request.teardownStep, Request.teardownFinish, Request.takeEmptyPage, Request.makePlan, Request.usePlan, Request.dropPlan}
+use Rattle.model.specs.Cases.{item}
+use Rattle.model.specs.Tests.{sameList-equal}
 use Rattle.noninterference.specs.Names.{valueOf}
 use Rattle.noninterference.specs.Runs.{permitted, wanting, lowerRequest, lowerAnswer, lowerState}
 use Rattle.noninterference.specs.World.{little, ran, numbers, tablesNumbers, stateNumbers, answerNumbers, v0, v1, shop}
@@ -60,10 +61,17 @@ list₁ =
     ∷ close 0 (v0 2 2)
     ∷ removeStoppingOwner 1 0
     ∷ abort 99
+    ∷ makePlan 0 4
+    ∷ makePlan 1 9
+    ∷ makePlan 0 1
+    ∷ usePlan 14
+    ∷ usePlan 15
+    ∷ dropPlan 15
+    ∷ dropPlan 15
     ∷ []
 
 abbrev given₁ : List ℕ
-given₁ = 0 ∷ 15 ∷ 17 ∷ 13 ∷ 10 ∷ 18 ∷ 0 ∷ 0 ∷ 2 ∷ 0 ∷ 4 ∷ 0 ∷ 0 ∷ 0 ∷ 5 ∷ 0 ∷ 0 ∷ 0 ∷ 9 ∷ 0 ∷ 0 ∷ 0 ∷ 0 ∷ 0 ∷ 18 ∷ 0 ∷ 0 ∷ 0 ∷ 18 ∷ []
+given₁ = 0 ∷ 15 ∷ 17 ∷ 13 ∷ 10 ∷ 18 ∷ 0 ∷ 0 ∷ 2 ∷ 0 ∷ 4 ∷ 0 ∷ 0 ∷ 0 ∷ 5 ∷ 0 ∷ 0 ∷ 0 ∷ 9 ∷ 0 ∷ 0 ∷ 0 ∷ 0 ∷ 0 ∷ 18 ∷ 0 ∷ 0 ∷ 0 ∷ 18 ∷ 0 ∷ 1 ∷ 0 ∷ 0 ∷ 21 ∷ 0 ∷ 18 ∷ []
 
 first : Pair shop (prepareTransfer 0 rendezvous none none items₁) 7 0 (map valueOf items₁) list₁ given₁
 unfolding ran
@@ -121,6 +129,40 @@ given₂ = 11 ∷ 6 ∷ 7 ∷ 0 ∷ 11 ∷ 0 ∷ 18 ∷ 8 ∷ 11 ∷ 0 ∷ 3 ∷
 second : Pair (ran shop (reserve 0 1 ∷ []) .0) (prepareTransfer 0 buffered (some 102) (some 9) items₂) 8 0 (map valueOf items₂) list₂ given₂
 unfolding ran
 second = record {
+  opens = refl;
+  permits = refl;
+  wants = refl;
+  gives = refl;
+  answers = sameList-equal _ _ refl;
+  afterRollback = sameList-equal _ _ refl;
+  afterCommit = sameList-equal _ _ refl;
+}
+
+-- The third pair: the plans 7 of table 0 and 8 of table 1 stand before the transfer, whose id is 9. Plan 7 is of the table that the goods are held in, and stays
+-- fresh; plan 8 is stale when another reservation of its table is made, in both runs
+
+abbrev list₃ : List Request
+list₃ =
+    usePlan 10
+    ∷ makePlan 0 9
+    ∷ reserve 1 1
+    ∷ usePlan 8
+    ∷ usePlan 7
+    ∷ usePlan 7
+    ∷ dropPlan 8
+    ∷ makePlan 1 2
+    ∷ abort 10
+    ∷ usePlan 12
+    ∷ dropPlan 12
+    ∷ trim 11 1
+    ∷ []
+
+abbrev given₃ : List ℕ
+given₃ = 18 ∷ 15 ∷ 0 ∷ 21 ∷ 0 ∷ 18 ∷ 0 ∷ 0 ∷ 0 ∷ 21 ∷ 0 ∷ 0 ∷ []
+
+third : Pair (ran shop (makePlan 0 2 ∷ makePlan 1 2 ∷ []) .0) (prepareTransfer 0 rendezvous none none items₁) 9 0 (map valueOf items₁) list₃ given₃
+unfolding ran
+third = record {
   opens = refl;
   permits = refl;
   wants = refl;

@@ -10,7 +10,7 @@ use Rattle.model.specs.Change.{withBook}
 use Rattle.model.specs.Create.{created}
 use Rattle.model.specs.Words.{usedWords}
 use Rattle.model.specs.Request.{Route.rendezvous, Operation.asMove, Operation.asCopy, Item}
-use Rattle.model.specs.Request.{Request, Request.newObject, Request.duplicate, Request.reserve, Request.publish, Request.getInfo, Request.scanHandles, Request.prepareTransfer, Request.rollback, Request.removeStoppingOwner, Request.teardownStart}
+use Rattle.model.specs.Request.{Request, Request.newObject, Request.duplicate, Request.reserve, Request.publish, Request.getInfo, Request.scanHandles, Request.prepareTransfer, Request.rollback, Request.removeStoppingOwner, Request.teardownStart, Request.makePlan, Request.usePlan}
 use Rattle.model.specs.Cases.{item}
 use Rattle.noninterference.specs.Names.{valueOf}
 use Rattle.noninterference.specs.Runs.{isMove, namesId, namesValue, walks, wanting, lowerRequest, lowerAnswer}
@@ -54,6 +54,13 @@ id-named : Differ shop 7 items (rollback 7 ∷ []) (true ∷ false ∷ true ∷ 
 unfolding ran
 id-named = (refl, refl, refl)
 
+-- the same by a use: the plan made after the transfer is 7 in the plain run
+id-used : Differ shop 7 items (makePlan 0 1 ∷ usePlan 7 ∷ []) (true ∷ false ∷ true ∷ true ∷ true ∷ [])
+    ((0 ∷ 7 ∷ 1 ∷ 0 ∷ []) ∷ (18 ∷ []) ∷ [])
+    ((0 ∷ 7 ∷ 1 ∷ 0 ∷ []) ∷ (0 ∷ 8 ∷ 1 ∷ v0 0 1 ∷ []) ∷ [])
+unfolding ran
+id-used = (refl, refl, refl)
+
 -- a scan of that table: one entry and the end against two entries and a next cursor
 scanned-there : Differ shop 7 items (scanHandles 0 0 ∷ []) (true ∷ true ∷ true ∷ false ∷ true ∷ [])
     ((0 ∷ 1 ∷ 0 ∷ 0 ∷ 4 ∷ v0 2 1 ∷ 101 ∷ 2 ∷ 3 ∷ 1 ∷ []) ∷ [])
@@ -84,6 +91,12 @@ row-wanted : Differ two-rows 3 (item asMove (v0 3 1) 3 ∷ []) (newObject 1 3 0 
 unfolding ran
 row-wanted = (refl, refl, refl)
 
+row-wanted-by-plan : Differ two-rows 3 (item asMove (v0 3 1) 3 ∷ []) (makePlan 0 1 ∷ makePlan 0 1 ∷ []) (true ∷ true ∷ true ∷ true ∷ false ∷ [])
+    ((0 ∷ 3 ∷ 1 ∷ 0 ∷ []) ∷ (1 ∷ []) ∷ [])
+    ((0 ∷ 3 ∷ 1 ∷ 0 ∷ []) ∷ (0 ∷ 4 ∷ 1 ∷ 0 ∷ []) ∷ [])
+unfolding ran
+row-wanted-by-plan = (refl, refl, refl)
+
 -- want of an id: the transfer takes the last one
 abbrev last-id : State
 last-id = withBook shop (record { rows = []; capacity = 6; next = lastId - 1 })
@@ -92,6 +105,15 @@ id-wanted : Differ last-id (lastId - 1) items (duplicate 0 (v0 2 1) 1 ∷ []) (t
     ((0 ∷ (lastId - 1) ∷ []) ∷ [])
 unfolding ran
 id-wanted = (refl, refl, refl)
+
+-- the same of a plan that stands already
+abbrev last-id-planned : State
+last-id-planned = let s : State = ran shop (makePlan 0 1 ∷ []) .0 in withBook s (record { rows = s .book .rows; capacity = 6; next = lastId - 1 })
+
+id-wanted-by-use : Differ last-id-planned (lastId - 1) items (usePlan 7 ∷ []) (true ∷ true ∷ true ∷ true ∷ false ∷ []) ((12 ∷ []) ∷ [])
+    ((0 ∷ (lastId - 1) ∷ 1 ∷ v0 0 1 ∷ []) ∷ [])
+unfolding ran
+id-wanted-by-use = (refl, refl, refl)
 
 -- a copy among the moves: it counts as a handle of object 0, whose limit is 5
 copy-among : Differ shop 7 (item asMove (v0 1 1) 2 ∷ item asCopy (v0 3 1) 2 ∷ [])

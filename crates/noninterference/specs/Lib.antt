@@ -3,6 +3,7 @@ pub mod Runs
 pub mod Basics
 pub mod Erase
 pub mod Tables
+pub mod Snapshots
 pub mod Marks
 pub mod Rows
 pub mod Alike
@@ -16,7 +17,9 @@ pub mod Lists
 pub mod Restore
 pub mod Endings
 pub mod Start
+pub mod Beside
 pub mod Theorem
+pub mod Plans
 pub mod World
 pub mod Examples
 pub mod Exclusions

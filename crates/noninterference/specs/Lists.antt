@@ -12,7 +12,7 @@ use Rattle.codec.specs.Codec.{generationIn}
 use Rattle.model.specs.Base.{bit, atMost, every, member, occurs}
 use Rattle.model.specs.State.{Sizes, Slot, Slot.absent, Slot.vacant, Slot.reserved, Slot.transferReserved, Slot.occupied, Table, Entry, Entry.moved, Entry.copied, Body.claim, State}
 use Rattle.model.specs.Request.{Item, Answer, Answer.refused}
-use Rattle.model.specs.Request.{Request, Request.newObject, Request.duplicate, Request.releaseParcel, Request.retireObject, Request.reserve, Request.trim, Request.abort, Request.publish, Request.getInfo, Request.resolve, Request.replace, Request.close, Request.scanHandles, Request.prepareTransfer, Request.prepareConsumption, Request.rollback, Request.commit, Request.directCommit, Request.directRollback, Request.removeStoppingOwner, Request.teardownStart, Request.teardownStep, Request.teardownFinish, Request.takeEmptyPage}
+use Rattle.model.specs.Request.{Request, Request.newObject, Request.duplicate, Request.releaseParcel, Request.retireObject, Request.reserve, Request.trim, Request.abort, Request.publish, Request.getInfo, Request.resolve, Request.replace, Request.close, Request.scanHandles, Request.prepareTransfer, Request.prepareConsumption, Request.rollback, Request.commit, Request.directCommit, Request.directRollback, Request.removeStoppingOwner, Request.teardownStart, Request.teardownStep, Request.teardownFinish, Request.takeEmptyPage, Request.makePlan, Request.usePlan, Request.dropPlan}
 use Rattle.noninterference.specs.Names.{valueOf}
 use Rattle.model.specs.Book.{find, movedOf}
 use Rattle.model.specs.Decision.{Decision, Decision.refusal, Decision.refusalAfterId, Decision.accept}
@@ -24,7 +24,7 @@ use Rattle.model.specs.Tests.{bool, clash, and-left, and-right, or-left, or-rig
 use Rattle.noninterference.specs.Marks.{Stems}
 use Rattle.noninterference.specs.Alike.{Held, Open, Case, Stays, wants, Twin, Alike, all-stem, spend-erase}
 use Rattle.noninterference.specs.Values.{alike-newObject, alike-duplicate, alike-releaseParcel, alike-retireObject, alike-getInfo, alike-resolve, alike-replace, alike-close}
-use Rattle.noninterference.specs.Batches.{alike-reserve, alike-trim, alike-abort, alike-publish}
+use Rattle.noninterference.specs.Batches.{alike-reserve, alike-makePlan, alike-usePlan, alike-dropPlan, alike-trim, alike-abort, alike-publish}
 use Rattle.noninterference.specs.Walks.{alike-scanHandles, alike-removeStoppingOwner, alike-teardownStart, alike-teardownStep, alike-teardownFinish, alike-takeEmptyPage}
 use Rattle.noninterference.specs.Claims.{Clear, alike-prepareTransfer, alike-prepareConsumption, alike-rollback, alike-commit, alike-directCommit, alike-directRollback}
 
@@ -112,6 +112,9 @@ module _ (x : Case) where
   decided (teardownStep c) i v w = none-needed (alike-teardownStep x c)
   decided (teardownFinish c) i v w = none-needed (alike-teardownFinish x c)
   decided (takeEmptyPage c) i v w = none-needed (alike-takeEmptyPage x c)
+  decided (makePlan c n) i v w = alike-makePlan x c n
+  decided (usePlan j) i v w = none-needed (alike-usePlan x j (only (x .t) j i))
+  decided (dropPlan j) i v w = none-needed (alike-dropPlan x j (only (x .t) j i))
 
   -- a decision carried out
   abbrev Same : State × Answer → State × Answer → Type 0

@@ -3,7 +3,7 @@ use mathlib.Core.Path.{_≡_, refl}
 use mathlib.Core.List.{List, [], _∷_, map}
 use mathlib.Core.Option.{Option, none, some}
 use Prim.Native.Nat.{ℕ}
-use Rattle.model.specs.Request.{Item, Request, Request.newObject, Request.duplicate, Request.releaseParcel, Request.retireObject, Request.reserve, Request.trim, Request.abort, Request.publish, Request.getInfo, Request.resolve, Request.replace, Request.close, Request.scanHandles, Request.prepareTransfer, Request.prepareConsumption, Request.rollback, Request.commit, Request.directCommit, Request.directRollback, Request.removeStoppingOwner, Request.teardownStart, Request.teardownStep, Request.teardownFinish, Request.takeEmptyPage}
+use Rattle.model.specs.Request.{Item, Request, Request.newObject, Request.duplicate, Request.releaseParcel, Request.retireObject, Request.reserve, Request.trim, Request.abort, Request.publish, Request.getInfo, Request.resolve, Request.replace, Request.close, Request.scanHandles, Request.prepareTransfer, Request.prepareConsumption, Request.rollback, Request.commit, Request.directCommit, Request.directRollback, Request.removeStoppingOwner, Request.teardownStart, Request.teardownStep, Request.teardownFinish, Request.takeEmptyPage, Request.makePlan, Request.usePlan, Request.dropPlan}
 
 -- "A request names a number if a field of that kind in it or its items holds it"
 pub record Names (r : Request) : Type 0 where
@@ -80,6 +80,9 @@ namesOf (teardownStart b) = walkOf b (teardownStart b)
 namesOf (teardownStep b) = nothing (teardownStep b)
 namesOf (teardownFinish b) = nothing (teardownFinish b)
 namesOf (takeEmptyPage b) = nothing (takeEmptyPage b)
+namesOf (makePlan b n) = slotsIn b n (makePlan b n)
+namesOf (usePlan i) = anId i λ j. usePlan j
+namesOf (dropPlan i) = anId i λ j. dropPlan j
 
 -- a request with each of its ids changed
 abbrev pub requestBy : (ℕ → ℕ) → Request → Request

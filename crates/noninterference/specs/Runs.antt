@@ -11,7 +11,7 @@ use Rattle.model.specs.Storage.{pagesFor}
 use Rattle.model.specs.Transfer.{isCopy}
 use Rattle.model.specs.Step.{step}
 use Rattle.model.specs.Request.{Item}
-use Rattle.model.specs.Request.{Answer, Answer.refused, Answer.done, Answer.opened, Answer.batch, Answer.infoOf, Answer.resolved, Answer.renewed, Answer.scanned, Answer.removed, Answer.closed, Answer.taken}
+use Rattle.model.specs.Request.{Answer, Answer.refused, Answer.done, Answer.opened, Answer.batch, Answer.infoOf, Answer.resolved, Answer.renewed, Answer.scanned, Answer.removed, Answer.closed, Answer.taken, Answer.planned}
 use Rattle.model.specs.Request.{Request}
 use Rattle.noninterference.specs.Names.{namesOf, requestBy}
 
@@ -50,6 +50,7 @@ gives n (scanned p) = false
 gives n (removed o c) = false
 gives n (closed o) = false
 gives n (taken p) = false
+gives n (planned i k m) = false
 
 -- "the pages it needs"
 abbrev pub pagesOf : Sizes → State → Option (ℕ × ℕ) → ℕ
@@ -83,6 +84,7 @@ accepted (scanned p) = true
 accepted (removed o c) = true
 accepted (closed o) = true
 accepted (taken p) = true
+accepted (planned i k m) = true
 
 -- "Ids above the transfer's, the next id included, are one lower in P, in list, answers and state"
 unfoldable pub lowered : ℕ → ℕ → ℕ
@@ -103,6 +105,7 @@ lowerAnswer t (scanned p) = scanned p
 lowerAnswer t (removed o c) = removed o c
 lowerAnswer t (closed o) = closed o
 lowerAnswer t (taken p) = taken p
+lowerAnswer t (planned i n m) = planned (lowered t i) n m
 
 abbrev pub lowerSlot : ℕ → Slot → Slot
 lowerSlot t absent = absent

@@ -1,5 +1,5 @@
 -- Demand 3 of document 00, whole: the held and the plain run.
-use mathlib.Core.Path.{_≡_, refl, sym, ap, subst, _∙_}
+use mathlib.Core.Path.{_≡_, refl, subst}
 use mathlib.Core.Bool.{true, false}
 use mathlib.Core.List.{List, map}
 use mathlib.Core.Option.{Option}
@@ -14,10 +14,8 @@ use Rattle.noninterference.specs.Names.{valueOf}
 use Rattle.noninterference.specs.Runs.{isMove, permitted, wanting, accepted, lowerRequest, lowerAnswer, lowerTable, lowerState}
 use Rattle.invariant.specs.Pages.{Sane}
 use Rattle.invariant.specs.Kept.{kept as always-kept}
-use Rattle.noninterference.specs.Erase.{erase}
-use Rattle.noninterference.specs.Lists.{list-alike}
 use Rattle.noninterference.specs.Endings.{rollback-done, rollback-is, commit-done, closings-accepted, commit-is}
-use Rattle.noninterference.specs.Start.{Begun, opens}
+use Rattle.noninterference.specs.Beside.{Beside, runs-beside}
 
 -- run H left `h` with the transfer t of table b still open, run P left `p`: they agree
 pub record Agree (z : Sizes) (t b : ℕ) (values : List ℕ) (h p : State × List Answer) : Type 0 where
@@ -46,17 +44,15 @@ module _ (z : Sizes) (sane : Sane z) where
       let kept : (s : State) → WellFormed z s → (r : Request) → WellFormed z (step z s r .0) = always-kept z sane in
       let transfer : Request = prepareTransfer b route bannedObject bannedKind items in
       let values : List ℕ = map valueOf items in
-      let g : Begun z s t b values (step z s transfer .0) = opens z s w b route bannedObject bannedKind items moves t opened-t (kept s w transfer) in
-      let l = list-alike z kept t b (g .es) values (step z s transfer .0) (g .claimed) rs p n in
       let h : State × List Answer = run z (step z s transfer .0) rs in
-      let q : (erase t (g .es) (h .0), map (lowerAnswer t) (h .1)) ≡ run z u (map (lowerRequest t) rs) =
-      sym (l .0) ∙ ap (λ (x : State). run z x (map (lowerRequest t) rs)) (g .same ∙ e) in
-      subst (Agree z t b values h) q (record {
+      let y : Beside z t b values h (run z u (map (lowerRequest t) rs)) =
+      runs-beside z kept s u w e b route bannedObject bannedKind items moves t opened-t rs p n in
+      subst (Agree z t b values h) (y .same) (record {
         answers = refl;
         words = refl;
-        rolledBack = rollback-done z kept t b (g .es) values (h .0) (l .1);
-        afterRollback = rollback-is z kept t b (g .es) values (h .0) (l .1);
-        committed = commit-done z kept t b (g .es) values (h .0) (l .1);
-        closings = closings-accepted z kept t b (g .es) values (h .0) (l .1);
-        afterCommit = commit-is z kept t b (g .es) values (h .0) (l .1);
+        rolledBack = rollback-done z kept t b (y .es) values (h .0) (y .claimed);
+        afterRollback = rollback-is z kept t b (y .es) values (h .0) (y .claimed);
+        committed = commit-done z kept t b (y .es) values (h .0) (y .claimed);
+        closings = closings-accepted z kept t b (y .es) values (h .0) (y .claimed);
+        afterCommit = commit-is z kept t b (y .es) values (h .0) (y .claimed);
       })

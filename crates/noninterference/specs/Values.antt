@@ -39,7 +39,7 @@ module _ (x : Case) where
       check x (not (isNowActive (y .stage))) 10 λ q.
       check x (not (eqb (y .count) (y .limit))) 11 λ q.
       id-left x (
-      accepts x (λ c. untouched x (s .tables c)) (added x _) refl refl))
+      accepts x (λ c. untouched x (s .tables c)) (added x _ (same-book x)) refl refl))
 
   pub alike-duplicate : (c v r : ℕ) → (eqb c (x .b) && member v (x .vs)) ≡ false
       → Alike x true (duplicateOf (x .z) s c v r) (duplicateOf (x .z) s₀ c v r)
@@ -54,7 +54,7 @@ module _ (x : Case) where
       check x (not (isNowRetired (s .objects (h .object) .stage))) 9 λ q.
       check x (not (eqb (s .objects (h .object) .count) (s .objects (h .object) .limit))) 11 λ q.
       id-left x (
-      accepts x (λ c. untouched x (s .tables c)) (added x _) refl refl))
+      accepts x (λ c. untouched x (s .tables c)) (added x _ (same-book x)) refl refl))
 
   pub alike-retireObject : (o : ℕ) → Alike x true (retireObjectOf (x .z) s o) (retireObjectOf (x .z) s₀ o)
   unfolding retireObjectOf

@@ -6,14 +6,14 @@ use Rattle.authority.specs.Rights.{contains}
 use Rattle.codec.specs.Codec.{encode, payload, maskOf, payloadIn, numberIn, slotIn, generationIn, decodes, nextGeneration}
 use Rattle.model.specs.Base.{range, bit, isSome, orElse}
 use Rattle.model.specs.State.{Handle, Slot.absent, Slot.vacant, Slot.reserved, Slot.transferReserved, Slot.occupied, Lifecycle.active, Lifecycle.tearingDown, Lifecycle.retired, Class, Class.leaf, Class.rendezvousOnly, Class.never, Stage, Stage.stillNew, Stage.nowActive, Stage.nowRetired}
-use Rattle.model.specs.State.{Entry, Entry.moved, Entry.copied, Body, Body.reservation, Body.claim, Body.parcel, Row}
+use Rattle.model.specs.State.{Entry, Entry.moved, Entry.copied, Body, Body.reservation, Body.claim, Body.parcel, Body.plan, StorageSnapshot, Row}
 use Rattle.model.specs.State.{Sizes, Slot, Page, Lifecycle, Table, Object, State, maxBatch, maxSlots, knownFlags, lastId}
 use Rattle.model.specs.Storage.{place, vacate, takeFree, pagesFor, attach, detach}
 use Rattle.model.specs.Create.{Parameters, created}
 use Rattle.model.specs.Request.{Request, Request.newObject, Request.duplicate, Request.reserve, Request.publish}
 use Rattle.model.specs.Request.{Answer}
 use Rattle.model.specs.Step.{newObjectOf, duplicateOf, releaseParcelOf, retireObjectOf, reserveOf, trimOf, abortOf, publishOf, getInfoOf, closeOf, replaceOf, resolveOf, scanHandlesOf, prepareTransferOf}
-use Rattle.model.specs.Step.{prepareConsumptionOf, rollbackOf, commitOf, directCommitOf, directRollbackOf, removeStoppingOwnerOf, teardownStartOf, teardownStepOf, teardownFinishOf, takeEmptyPageOf, decide, step, run}
+use Rattle.model.specs.Step.{prepareConsumptionOf, rollbackOf, commitOf, directCommitOf, directRollbackOf, removeStoppingOwnerOf, teardownStartOf, teardownStepOf, teardownFinishOf, takeEmptyPageOf, makePlanOf, usePlanOf, dropPlanOf, decide, step, run}
 use Rattle.model.specs.Words.{usedWords}
 use Rattle.noninterference.specs.Runs.{permitted, wantsRow, wantsId, lowered}
 
@@ -26,8 +26,8 @@ unfoldable pub ran : State → List Request → State × List Answer
 unfolding contains encode payload maskOf payloadIn numberIn slotIn generationIn decodes nextGeneration maxBatch
     maxSlots knownFlags lastId place vacate takeFree pagesFor attach detach created newObjectOf duplicateOf releaseParcelOf retireObjectOf reserveOf
     trimOf abortOf publishOf getInfoOf closeOf replaceOf resolveOf scanHandlesOf prepareTransferOf prepareConsumptionOf rollbackOf commitOf
-    directCommitOf directRollbackOf removeStoppingOwnerOf teardownStartOf teardownStepOf teardownFinishOf takeEmptyPageOf decide step usedWords
-    permitted wantsRow wantsId lowered
+    directCommitOf directRollbackOf removeStoppingOwnerOf teardownStartOf teardownStepOf teardownFinishOf takeEmptyPageOf makePlanOf usePlanOf dropPlanOf
+    decide step usedWords permitted wantsRow wantsId lowered
 ran s rs = run little s rs
 
 -- an answer's number, the first of its words
@@ -95,10 +95,14 @@ abbrev pub entryNumbers : Entry → List ℕ
 entryNumbers (moved k h r) = 0 ∷ k ∷ r ∷ handleNumbers h
 entryNumbers (copied h) = 1 ∷ handleNumbers h
 
+abbrev pub snapshotNumbers : StorageSnapshot → List ℕ
+snapshotNumbers w = w .epoch ∷ w .freeSlots ∷ counted one (w .pages)
+
 abbrev pub bodyNumbers : Body → List ℕ
 bodyNumbers (reservation b ks) = 0 ∷ b ∷ counted one ks
 bodyNumbers (claim b es) = 1 ∷ b ∷ counted entryNumbers es
 bodyNumbers (parcel hs) = 2 ∷ counted handleNumbers hs
+bodyNumbers (plan b n w fs) = 3 ∷ b ∷ n ∷ snapshotNumbers w ++ counted one fs
 
 abbrev pub rowNumbers : Row → List ℕ
 rowNumbers r = r .id ∷ bodyNumbers (r .body)
