@@ -159,6 +159,13 @@ rowTable = 2
 abbrev pub rowLength : ℕ
 rowLength = 3
 
+-- of a plan
+abbrev pub rowCount : ℕ
+rowCount = 4
+
+abbrev pub rowEpoch : ℕ
+rowEpoch = 5
+
 -- of an entry of a row; of a reservation
 abbrev pub itemSlot : ℕ
 itemSlot = 0
@@ -183,3 +190,14 @@ itemFlags = 4
 -- of a claim's move
 abbrev pub itemGranted : ℕ
 itemGranted = 5
+
+-- of a plan
+abbrev pub itemPage : ℕ
+itemPage = 0
+
+abbrev pub itemFrame : ℕ
+itemFrame = 1
+
+-- of a plan's first entry alone, in use or not
+abbrev pub itemFreeSlots : ℕ
+itemFreeSlots = 2

@@ -34,6 +34,10 @@ objectsMax = 4096
 abbrev pub rowsMax : ℕ
 rowsMax = 256
 
+-- the owner word of a frame that a plan holds is this and the place of the plan's row: above the number of any page entry plus 1
+abbrev pub planOwner : ℕ
+planOwner = tablesMax * pagesMax + 1
+
 -- the most entries of a row
 abbrev pub batchMax : ℕ
 batchMax = 64

@@ -28,6 +28,9 @@ kindClaim = 2
 abbrev pub kindParcel : ℕ
 kindParcel = 3
 
+abbrev pub kindPlan : ℕ
+kindPlan = 4
+
 -- lifecycle of a table
 abbrev pub lifeActive : ℕ
 lifeActive = 0

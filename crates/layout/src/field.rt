@@ -108,6 +108,11 @@ pub const ROW_TABLE: u64 = 2;
 
 pub const ROW_LENGTH: u64 = 3;
 
+// Of a plan: its count and its kept epoch.
+pub const ROW_COUNT: u64 = 4;
+
+pub const ROW_EPOCH: u64 = 5;
+
 // Of an entry of a row. Of a reservation.
 pub const ITEM_SLOT: u64 = 0;
 
@@ -125,3 +130,11 @@ pub const ITEM_FLAGS: u64 = 4;
 
 // Of a claim's move.
 pub const ITEM_GRANTED: u64 = 5;
+
+// Of a plan.
+pub const ITEM_PAGE: u64 = 0;
+
+pub const ITEM_FRAME: u64 = 1;
+
+// Of a plan, in its first entry alone, in use or not: the kept number of free slots.
+pub const ITEM_FREE_SLOTS: u64 = 2;

@@ -23,6 +23,9 @@ pub const OBJECTS_MAX: u64 = 4096;
 
 pub const ROWS_MAX: u64 = 256;
 
+// The owner word of a frame that a plan holds is this and the place of the plan's row: above the number of any page entry plus 1.
+pub const PLAN_OWNER: u64 = TABLES_MAX * PAGES_MAX + 1;
+
 // The most entries of a row.
 pub const BATCH_MAX: u64 = 64;
 

@@ -18,6 +18,8 @@ pub const KIND_CLAIM: u64 = 2;
 
 pub const KIND_PARCEL: u64 = 3;
 
+pub const KIND_PLAN: u64 = 4;
+
 // Lifecycle of a table.
 pub const LIFE_ACTIVE: u64 = 0;
 

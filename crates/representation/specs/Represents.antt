@@ -7,15 +7,15 @@ use Prim.Native.Nat.{ℕ, zero, suc, _+_, _-_, _*_, _/_, _%_, _<_}
 use lib.ListN.{length}
 use lib.Dec.{ltb}
 use Rattle.model.specs.Base.{pick, bit, occurs, sum}
-use Rattle.model.specs.State.{till, Handle, Slot, Slot.absent, Slot.vacant, Slot.reserved, Slot.transferReserved, Slot.occupied, Lifecycle, Lifecycle.active, Lifecycle.tearingDown, Lifecycle.retired, Table, Class, Class.leaf, Class.rendezvousOnly, Class.never, Stage, Stage.stillNew, Stage.nowActive, Stage.nowRetired, Object, Entry, Entry.moved, Entry.copied, Body, Body.reservation, Body.claim, Body.parcel, Row, State, maxSlots}
+use Rattle.model.specs.State.{till, Handle, Slot, Slot.absent, Slot.vacant, Slot.reserved, Slot.transferReserved, Slot.occupied, Lifecycle, Lifecycle.active, Lifecycle.tearingDown, Lifecycle.retired, Table, Class, Class.leaf, Class.rendezvousOnly, Class.never, Stage, Stage.stillNew, Stage.nowActive, Stage.nowRetired, Object, Entry, Entry.moved, Entry.copied, Body, Body.reservation, Body.claim, Body.parcel, Body.plan, StorageSnapshot, Row, State, maxSlots}
 use Rattle.model.specs.Storage.{busyOf}
 use Rattle.model.specs.WellFormed.{isAttached, WellFormed}
 use Rattle.layout.specs.declared.Shape.{Shape}
 use Rattle.layout.specs.Layout.{Mem, root, head, entry, owner, group, cell, object, index, rank, row, item, load}
 use Rattle.layout.specs.ShapeOf.{Shaped}
-use Rattle.layout.specs.Fields.{rootNextId, rootUsedRows, rootFreeFrames, headPageLimit, headMask, headLifecycle, headCursor, headEpoch, headPages, headFirstFree, headFreeSlots, headFirstEmpty, headFirstDetached, headFirstEntry, entryFrame, entryHigh, entryBusy, entryNext, entryPrevious, slotTag, slotGeneration, slotNextFree, slotPreviousFree, slotPlace, slotPosition, slotObject, slotRights, slotFlags, objectKoid, objectKind, objectClass, objectSupported, objectExportable, objectStage, objectActive, objectLimit, rowId, rowKind, rowTable, rowLength, itemSlot, itemOperation, itemMoved, itemObject, itemRights, itemFlags, itemGranted}
-use Rattle.layout.specs.Values.{tagVacant, tagReserved, tagTransferReserved, tagOccupied, kindReservation, kindClaim, kindParcel, lifeActive, lifeTearingDown, lifeRetired, stageNew, stageActive, stageRetired, classLeaf, classRendezvousOnly, classNever, operationMove, operationCopy}
-use Rattle.layout.specs.Sizes.{pageSize}
+use Rattle.layout.specs.Fields.{rootNextId, rootUsedRows, rootFreeFrames, headPageLimit, headMask, headLifecycle, headCursor, headEpoch, headPages, headFirstFree, headFreeSlots, headFirstEmpty, headFirstDetached, headFirstEntry, entryFrame, entryHigh, entryBusy, entryNext, entryPrevious, slotTag, slotGeneration, slotNextFree, slotPreviousFree, slotPlace, slotPosition, slotObject, slotRights, slotFlags, objectKoid, objectKind, objectClass, objectSupported, objectExportable, objectStage, objectActive, objectLimit, rowId, rowKind, rowTable, rowLength, rowCount, rowEpoch, itemSlot, itemOperation, itemMoved, itemObject, itemRights, itemFlags, itemGranted, itemPage, itemFrame, itemFreeSlots}
+use Rattle.layout.specs.Values.{tagVacant, tagReserved, tagTransferReserved, tagOccupied, kindReservation, kindClaim, kindParcel, kindPlan, lifeActive, lifeTearingDown, lifeRetired, stageNew, stageActive, stageRetired, classLeaf, classRendezvousOnly, classNever, operationMove, operationCopy}
+use Rattle.layout.specs.Sizes.{pageSize, planOwner}
 
 -- Reading the memory
 
@@ -145,10 +145,27 @@ abbrev pub Items : {A : Type 0} → (ℕ → A → Type 0) → ℕ → List A �
 Items P j [] = Unit {0}
 Items P j (x ∷ xs) = P j x × Items P (suc j) xs
 
+-- a frame that a plan holds: the frame's owner word names the row's place
+abbrev pub HeldIs : Mem → ℕ → ℕ → ℕ → Type 0
+HeldIs m r j f = (m (item r j itemFrame) ≡ f) × (m (owner f) ≡ planOwner + r)
+
+-- a plan: an item for each page of its kept snapshot, with the frame that it holds for it
+pub record PlanIs (m : Mem) (r b n : ℕ) (w : StorageSnapshot) (fs : List ℕ) : Type 0 where
+  pub kind : m (row r rowKind) ≡ kindPlan
+  pub table : m (row r rowTable) ≡ b
+  pub count : m (row r rowCount) ≡ n
+  pub epoch : m (row r rowEpoch) ≡ w .epoch
+  pub freeSlots : m (item r 0 itemFreeSlots) ≡ w .freeSlots
+  pub pageCount : m (row r rowLength) ≡ length (w .pages)
+  pub pages : Items (λ j p. m (item r j itemPage) ≡ p) 0 (w .pages)
+  pub frameCount : m (row r rowLength) ≡ length fs
+  pub held : Items (HeldIs m r) 0 fs
+
 abbrev pub BodyIs : Mem → ℕ → Body → Type 0
 BodyIs m r (reservation b ks) = (m (row r rowKind) ≡ kindReservation) × (m (row r rowTable) ≡ b) × (m (row r rowLength) ≡ length ks) × Items (λ j k. m (item r j itemSlot) ≡ k) 0 ks
 BodyIs m r (claim b es) = (m (row r rowKind) ≡ kindClaim) × (m (row r rowTable) ≡ b) × (m (row r rowLength) ≡ length es) × Items (EntryIs m r) 0 es
 BodyIs m r (parcel hs) = (m (row r rowKind) ≡ kindParcel) × (m (row r rowLength) ≡ length hs) × Items (HandleIs m r) 0 hs
+BodyIs m r (plan b n w fs) = PlanIs m r b n w fs
 
 -- the rows in use stand in the places that the index names first
 abbrev pub RowsAre : Mem → ℕ → List Row → Type 0

@@ -10,15 +10,15 @@ use lib.Dec.{ltb}
 use borrow.Author.Tests.{ltb-true, ltb-false}
 use Rattle.words.specs.Pick.{bool}
 use Rattle.model.specs.Base.{bit, occurs, sum}
-use Rattle.model.specs.State.{till, Handle, Slot, Page, Lifecycle, Lifecycle.active, Lifecycle.tearingDown, Lifecycle.retired, Table, Class, Class.leaf, Class.rendezvousOnly, Class.never, Stage, Stage.stillNew, Stage.nowActive, Stage.nowRetired, Object, Entry, Entry.moved, Entry.copied, Body, Body.reservation, Body.claim, Body.parcel, Row, State}
+use Rattle.model.specs.State.{till, Handle, Slot, Page, Lifecycle, Lifecycle.active, Lifecycle.tearingDown, Lifecycle.retired, Table, Class, Class.leaf, Class.rendezvousOnly, Class.never, Stage, Stage.stillNew, Stage.nowActive, Stage.nowRetired, Object, Entry, Entry.moved, Entry.copied, Body, Body.reservation, Body.claim, Body.parcel, Body.plan, StorageSnapshot, Row, State}
 use Rattle.model.specs.Counting.{bit-same, bit-other}
-use Rattle.model.specs.WellFormed.{Rising, pagesWith, WellFormed}
+use Rattle.model.specs.WellFormed.{Rising, pagesWith, plansWith, WellFormed}
 use Rattle.layout.specs.declared.Shape.{Shape}
 use Rattle.layout.specs.declared.ShapeRead.the-variants.{Shape as found}
 use Rattle.layout.specs.Layout.{Mem, head, item, index, load}
 use Rattle.layout.specs.ShapeOf.{shape-is}
-use Rattle.layout.specs.Fields.{headLifecycle, headCursor, headFirstFree, headFirstEmpty, headFirstDetached, itemSlot}
-use Rattle.representation.specs.Represents.{linkOf, Chain, Linked, LifeIs, TableIs, classWord, stageWord, ObjectIs, HandleIs, EntryIs, Items, BodyIs, RowsAre, Represents, Rep}
+use Rattle.layout.specs.Fields.{headLifecycle, headCursor, headFirstFree, headFirstEmpty, headFirstDetached, itemSlot, itemPage}
+use Rattle.representation.specs.Represents.{linkOf, Chain, Linked, LifeIs, TableIs, classWord, stageWord, ObjectIs, HandleIs, EntryIs, Items, HeldIs, BodyIs, RowsAre, Represents, Rep}
 
 -- the counts of a state
 unfoldable pub shapeFor : State → Shape
@@ -146,6 +146,10 @@ object-parts x koid kind class supported exportable limit stage count a b c d e 
 handle-parts : (x : Handle) (object rights flags : ℕ) → object ≡ x .object → rights ≡ x .rights → flags ≡ x .flags → _≡_ {A = Handle} (record { object = object; rights = rights; flags = flags }) x
 handle-parts x object rights flags a b c = rw (a, b, c)
 
+snapshot-parts : (x : StorageSnapshot) (epoch freeSlots : ℕ) (pages : List ℕ) → epoch ≡ x .epoch → freeSlots ≡ x .freeSlots → pages ≡ x .pages
+    → _≡_ {A = StorageSnapshot} (record { epoch = epoch; freeSlots = freeSlots; pages = pages }) x
+snapshot-parts x epoch freeSlots pages a b c = rw (a, b, c)
+
 row-parts : (x : Row) (id : ℕ) (body : Body) → id ≡ x .id → body ≡ x .body → _≡_ {A = Row} (record { id = id; body = body }) x
 row-parts x id body a b = rw (a, b)
 
@@ -202,14 +206,27 @@ body-unique m r (reservation b ks) (reservation b′ ks′) p q =
     let c : ks ≡ ks′ = items-unique (λ j k. m (item r j itemSlot) ≡ k) (λ j x y i e. sym i ∙ e) 0 ks ks′ (sym (p .2) ∙ q .2) (p .3) (q .3) in rw (a, c)
 body-unique m r (reservation b ks) (claim b′ es′) p q = absurd (omega arith)
 body-unique m r (reservation b ks) (parcel hs′) p q = absurd (omega arith)
+body-unique m r (reservation b ks) (plan b′ n′ w′ fs′) p q = absurd (omega (arith, p .0, q .kind))
 body-unique m r (claim b es) (reservation b′ ks′) p q = absurd (omega arith)
 body-unique m r (claim b es) (claim b′ es′) p q =
     let a : b ≡ b′ = sym (p .1) ∙ q .1 in
     let c : es ≡ es′ = items-unique (EntryIs m r) (entry-unique m r) 0 es es′ (sym (p .2) ∙ q .2) (p .3) (q .3) in rw (a, c)
 body-unique m r (claim b es) (parcel hs′) p q = absurd (omega arith)
+body-unique m r (claim b es) (plan b′ n′ w′ fs′) p q = absurd (omega (arith, p .0, q .kind))
 body-unique m r (parcel hs) (reservation b′ ks′) p q = absurd (omega arith)
 body-unique m r (parcel hs) (claim b′ es′) p q = absurd (omega arith)
 body-unique m r (parcel hs) (parcel hs′) p q = ap parcel (items-unique (HandleIs m r) (handle-unique m r) 0 hs hs′ (sym (p .1) ∙ q .1) (p .2) (q .2))
+body-unique m r (parcel hs) (plan b′ n′ w′ fs′) p q = absurd (omega (arith, p .0, q .kind))
+body-unique m r (plan b n w fs) (reservation b′ ks′) p q = absurd (omega (arith, p .kind, q .0))
+body-unique m r (plan b n w fs) (claim b′ es′) p q = absurd (omega (arith, p .kind, q .0))
+body-unique m r (plan b n w fs) (parcel hs′) p q = absurd (omega (arith, p .kind, q .0))
+body-unique m r (plan b n w fs) (plan b′ n′ w′ fs′) p q =
+    let a : b ≡ b′ = sym (p .table) ∙ q .table in
+    let c : n ≡ n′ = sym (p .count) ∙ q .count in
+    let d : w ≡ w′ = snapshot-parts w′ (w .epoch) (w .freeSlots) (w .pages) (sym (p .epoch) ∙ q .epoch) (sym (p .freeSlots) ∙ q .freeSlots)
+    (items-unique (λ j k. m (item r j itemPage) ≡ k) (λ j x y i e. sym i ∙ e) 0 (w .pages) (w′ .pages) (sym (p .pageCount) ∙ q .pageCount) (p .pages) (q .pages)) in
+    let e : fs ≡ fs′ = items-unique (HeldIs m r) (λ j x y i e. sym (i .0) ∙ e .0) 0 fs fs′ (sym (p .frameCount) ∙ q .frameCount) (p .held) (q .held) in
+    rw (a, c, d, e)
 
 pub rows-unique : (m : Mem) (i : ℕ) (l k : List Row) → length l ≡ length k → RowsAre m i l → RowsAre m i k → l ≡ k
 rows-unique m i [] [] e p q = refl
@@ -243,16 +260,16 @@ module _ (sh : Shape) (m : Mem) (s u : State) (i : Represents sh m s) (j : Repre
       (λ h. let a : o < s .objectCount = ltb-true o (s .objectCount) h in object-unique m o (s .objects o) (u .objects o) (i .objects o a) (j .objects o (omega (arith, objectCounts))))
       (λ h. let a : s .objectCount ≤ o = ltb-false o (s .objectCount) h in w .atRest .objects o a ∙ sym (v .atRest .objects o (omega (arith, objectCounts))))
 
-  -- a frame that no page has is free
+  -- a frame that no page has and no plan holds is free
   pages-same : (f : ℕ) → pagesWith s f ≡ pagesWith u f
   pages-same f = rw (tableCounts, tables-same)
 
-  frames-same : s .frames ≡ u .frames
-  frames-same = rising-unique (s .frames) (u .frames) (w .frames .rising) (v .frames .rising)
-      (λ f. omega (arith, w .frames .once f, v .frames .once f, pages-same f, ap (λ (n : ℕ). bit (ltb f n)) frameCounts))
-
   rows-same : s .book .rows ≡ u .book .rows
   rows-same = rows-unique m 0 (s .book .rows) (u .book .rows) (sym (i .book .used) ∙ j .book .used) (i .book .rows) (j .book .rows)
+
+  frames-same : s .frames ≡ u .frames
+  frames-same = rising-unique (s .frames) (u .frames) (w .frames .rising) (v .frames .rising)
+      (λ f. omega (arith, w .frames .once f, v .frames .once f, pages-same f, ap (λ (l : List Row). plansWith l f) rows-same, ap (λ (n : ℕ). bit (ltb f n)) frameCounts))
 
   -- THE REPRESENTATION IS A FUNCTION
   pub represents-unique : s ≡ u

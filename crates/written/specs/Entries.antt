@@ -7,14 +7,16 @@ use native.Mathlib.Omega.{arith}
 use lib.Dec.{eqb, ltb}
 use borrow.Author.Tests.{eq-eqb, eqb-true, eqb-false, lt-ltb, le-ltb, ltb-true, ltb-false, not-true}
 use Rattle.words.specs.Pick.{bool, both}
-use Rattle.model.specs.Base.{bit, occurs, sum}
-use Rattle.model.specs.State.{State}
+use Rattle.model.specs.Base.{bit, occurs, sum, nth}
+use Rattle.model.specs.State.{Row, State}
 use Rattle.model.specs.Tests.{bit-true, bit-small}
 use Rattle.model.specs.Sums.{sum-part}
 use Rattle.model.specs.Counting.{sum-next, runs-apart}
-use Rattle.model.specs.WellFormed.{isFrame, pagesWith, Frames}
-use Rattle.written.specs.Searches.{seek-is, seek-none}
-use Rattle.written.specs.Words.{entriesBefore, tableAt, pageAt, ownerOf}
+use Rattle.model.specs.WellFormed.{isFrame, pagesWith, framesIn, plansWith, Frames}
+use Rattle.layout.specs.Sizes.{planOwner}
+use Rattle.representation.specs.Represents.{linkOf}
+use Rattle.written.specs.Searches.{seek-is, seek-none, holder-is}
+use Rattle.written.specs.Words.{entriesBefore, tableAt, pageAt, ownerOf, ownerWord}
 
 -- ---- runs
 
@@ -64,22 +66,22 @@ hasFrame s f e = isFrame (s .tables (tableAt s e) .pages (pageAt s e) .frame) f
 has-frame : (s : State) (f b p : ℕ) → b < s .tableCount → p < s .tables b .limit → hasFrame s f (entriesBefore s b + p) ≡ isFrame (s .tables b .pages p .frame) f
 has-frame s f b p h i = rw (table-at s b p h i, page-at s b p h i)
 
-abbrev framesIn : State → ℕ → ℕ → ℕ
-framesIn s f b = sum (s .tables b .limit) λ p. bit (isFrame (s .tables b .pages p .frame) f)
+abbrev pagesIn : State → ℕ → ℕ → ℕ
+pagesIn s f b = sum (s .tables b .limit) λ p. bit (isFrame (s .tables b .pages p .frame) f)
 
-frames-in : (s : State) (f b p : ℕ) → p < s .tables b .limit → isFrame (s .tables b .pages p .frame) f ≡ true → 1 ≤ framesIn s f b
-frames-in s f b p i e = omega (arith, sum-part (s .tables b .limit) (λ p. bit (isFrame (s .tables b .pages p .frame) f)) p i, ap bit e)
+pages-in : (s : State) (f b p : ℕ) → p < s .tables b .limit → isFrame (s .tables b .pages p .frame) f ≡ true → 1 ≤ pagesIn s f b
+pages-in s f b p i e = omega (arith, sum-part (s .tables b .limit) (λ p. bit (isFrame (s .tables b .pages p .frame) f)) p i, ap bit e)
 
 -- a frame that a page has
 page-with : (s : State) (f b p : ℕ) → b < s .tableCount → p < s .tables b .limit → isFrame (s .tables b .pages p .frame) f ≡ true → 1 ≤ pagesWith s f
-page-with s f b p h i e = omega (arith, frames-in s f b p i e, sum-part (s .tableCount) (framesIn s f) b h)
+page-with s f b p h i e = omega (arith, pages-in s f b p i e, sum-part (s .tableCount) (pagesIn s f) b h)
 
 -- .. and that no other has
 page-one : (s : State) (f b p c q : ℕ) → b < s .tableCount → p < s .tables b .limit → c < s .tableCount → q < s .tables c .limit
     → isFrame (s .tables b .pages p .frame) f ≡ true → isFrame (s .tables c .pages q .frame) f ≡ true → pagesWith s f ≤ 1 → (b ≡ c) × (p ≡ q)
 page-one s f b p c q h i k l e d u =
     let same : b ≡ c = bool (eqb b c) (λ z. eqb-true b c z)
-    (λ z. absurd (omega (arith, frames-in s f b p i e, frames-in s f c q l d, sum-two (s .tableCount) (framesIn s f) b c h k (eqb-false b c z)))) in
+    (λ z. absurd (omega (arith, pages-in s f b p i e, pages-in s f c q l d, sum-two (s .tableCount) (pagesIn s f) b c h k (eqb-false b c z)))) in
     let j : q < s .tables b .limit = rw same l in
     let g : isFrame (s .tables b .pages q .frame) f ≡ true = rw same d in (
       same,
@@ -89,7 +91,7 @@ page-one s f b p c q h i k l e d u =
             ap bit e,
             ap bit g,
             sum-two (s .tables b .limit) (λ p. bit (isFrame (s .tables b .pages p .frame) f)) p q i j (eqb-false p q z),
-            sum-part (s .tableCount) (framesIn s f) b h,
+            sum-part (s .tableCount) (pagesIn s f) b h,
           ))),
     )
 
@@ -130,3 +132,25 @@ module _ (s : State) (w : Frames s) where
       let d : isFrame (s .tables (r .0) .pages (r .1) .frame) f ≡ true = sym (has-frame s f (r .0) (r .1) (r .2) (r .3)) ∙ (rw (r .4) at q) in
       absurd (omega (arith, w .once f, bit-small (ltb f (s .frameCount)), page-with s f (r .0) (r .1) (r .2) (r .3) d)))
       (λ q. q))
+
+  -- ---- the owner words
+
+  -- a frame that no plan holds
+  unplanned : (f : ℕ) → plansWith (s .book .rows) f ≡ 0 → ownerWord s f ≡ linkOf (ownerOf s f)
+  unplanned f z = rw (le-ltb 0 (plansWith (s .book .rows) f) (omega arith))
+
+  pub word-held : (b p f : ℕ) → b < s .tableCount → p < s .tables b .limit → s .tables b .pages p .frame ≡ some f → ownerWord s f ≡ suc (entriesBefore s b + p)
+  word-held b p f h i e =
+      let y : isFrame (s .tables b .pages p .frame) f ≡ true = rw e (eq-eqb f f refl) in
+      unplanned f (omega (arith, w .once f, bit-small (ltb f (s .frameCount)), page-with s f b p h i y)) ∙ ap linkOf (owner-held b p f h i e)
+
+  pub word-free : (f : ℕ) → 0 < occurs f (s .frames) → ownerWord s f ≡ 0
+  word-free f h = unplanned f (omega (arith, w .once f, bit-small (ltb f (s .frameCount)))) ∙ ap linkOf (owner-free f h)
+
+  -- of one that the row of rank k holds
+  pub word-planned : (f k : ℕ) (r : Row) → nth (s .book .rows) k ≡ some r → 0 < occurs f (framesIn (r .body)) → (f < s .frameCount) × (ownerWord s f ≡ planOwner + k)
+  word-planned f k r e h =
+      let d = holder-is f (s .book .rows) k r e h (omega (arith, w .once f, bit-small (ltb f (s .frameCount)))) in (
+        ltb-true f (s .frameCount) (bit-true (ltb f (s .frameCount)) (omega (arith, w .once f, d .1))),
+        rw (lt-ltb 0 (plansWith (s .book .rows) f) (omega (arith, d .1)), d .0),
+      )

@@ -8,29 +8,30 @@ use native.Mathlib.Omega.{arith}
 use lib.ListN.{length, getD}
 use lib.Dec.{eqb, ltb}
 use borrow.Author.Tests.{eq-eqb, ne-eqb, ltb-true, ltb-false}
-use Rattle.words.specs.Pick.{pick, bool, clash, both}
+use Rattle.words.specs.Pick.{pick, pick-has, bool, clash, both}
 use Rattle.words.specs.Words.{Small}
 use Rattle.codec.specs.Codec.{generationLimit}
 use Rattle.model.specs.Base.{bit, nth, occurs}
-use Rattle.model.specs.State.{till, Handle, Slot, Slot.absent, Slot.vacant, Slot.reserved, Slot.transferReserved, Slot.occupied, Page, Lifecycle, Lifecycle.active, Lifecycle.tearingDown, Lifecycle.retired, Stage, Stage.stillNew, Stage.nowActive, Stage.nowRetired, Entry, Entry.moved, Entry.copied, Body, Body.reservation, Body.claim, Body.parcel, Row, State, isAbsent, isVacant, generation, maxTables, maxFrames, maxObjects, maxRows, maxLimit, maxSlots, knownFlags}
+use Rattle.model.specs.State.{till, Handle, Slot, Slot.absent, Slot.vacant, Slot.reserved, Slot.transferReserved, Slot.occupied, Page, Lifecycle, Lifecycle.active, Lifecycle.tearingDown, Lifecycle.retired, Stage, Stage.stillNew, Stage.nowActive, Stage.nowRetired, Entry, Entry.moved, Entry.copied, Body, Body.reservation, Body.claim, Body.parcel, Body.plan, Row, State, isAbsent, isVacant, generation, maxTables, maxFrames, maxObjects, maxRows, maxLimit, maxSlots, knownFlags}
 use Rattle.model.specs.Storage.{busyOf}
+use Rattle.model.specs.Create.{maxPages}
 use Rattle.model.specs.Book.{find, movedOf}
 use Rattle.model.specs.Bounds.{slots-max, pages-max, batch-max, busy-small}
 use Rattle.model.specs.Tests.{bit-true, bit-small}
 use Rattle.model.specs.Counting.{bit-same, nth-occurs, sum-le, sum-ones, sum-occurs}
-use Rattle.model.specs.WellFormed.{All, HandleRange, SlotRange, EntryRange, LifeRange, BodyRange, RowRange, IdsRise, isAttached, isReservedBy, isMovingBy, WellFormed}
+use Rattle.model.specs.WellFormed.{All, HandleRange, SlotRange, EntryRange, LifeRange, BodyRange, RowRange, IdsRise, isAttached, isReservedBy, isMovingBy, framesIn, plansWith, WellFormed}
 use Rattle.layout.specs.declared.Extent.{Extent}
 use Rattle.layout.specs.Regions.{region, Inside}
 use Rattle.layout.specs.Layout.{Addr, Addr.reg, In, layout}
-use Rattle.layout.specs.Sizes.{pageSize, pagesMax, slotsMax, tablesMax, framesMax, batchMax}
+use Rattle.layout.specs.Sizes.{pageSize, pagesMax, slotsMax, tablesMax, framesMax, batchMax, planOwner}
 use Rattle.representation.specs.Represents.{linkOf, freeIn, stageWord}
 use Rattle.representation.specs.Told.{class-small}
 use Rattle.representation.specs.Unique.{shapeFor}
-use Rattle.written.specs.Searches.{seek-below, after, first-member, after-member, before-member, rankOf, rank-most, place-most, moved-most}
-use Rattle.written.specs.Words.{entriesBefore, rootWords, lifeWord, cursorWord, headWords, orderOf, pageWords, tableAt, pageAt, ownerOf, positionIn, slotWords, slotOf, cellWords, objectWords, bodyWords, slotItem, entryItem, handleItem, wordsOf, itemWords, blockWords, parts, partOf, wordAt}
+use Rattle.written.specs.Searches.{seek-below, after, first-member, after-member, before-member, rankOf, rank-most, holderOf, holder-most, place-most, moved-most}
+use Rattle.written.specs.Words.{entriesBefore, rootWords, lifeWord, cursorWord, headWords, orderOf, pageWords, tableAt, pageAt, ownerOf, ownerWord, positionIn, slotWords, slotOf, cellWords, objectWords, bodyWords, slotItem, entryItem, handleItem, planItem, wordsOf, itemWords, blockWords, parts, partOf, wordAt}
 use Rattle.written.specs.Spread.{spread-below}
-use Rattle.written.specs.Entries.{run-of, table-at, page-at, frame-low, free-low, free-most}
-use Rattle.written.specs.Rows.{all-at, range-of}
+use Rattle.written.specs.Entries.{run-of, table-at, page-at, frame-low, free-low, free-most, word-planned}
+use Rattle.written.specs.Rows.{all-at, range-of, plan-few}
 use Rattle.written.specs.Tables.{order-empty, order-detached, attached-low, slot-there}
 use Rattle.written.specs.Whole.{written, pages-between}
 
@@ -43,6 +44,15 @@ fit-get : (ws : List ℕ) (f : ℕ) → Fit ws → getD ws f 0 < 2 ^ 64
 fit-get [] f h = omega arith
 fit-get (x ∷ ws) zero h = h .0
 fit-get (x ∷ ws) (suc f) h = fit-get ws f (h .1)
+
+-- numbers that fit by what they all are, or by each
+all-wide : (P : ℕ → Type 0) (ws : List ℕ) → ((n : ℕ) → P n → n < 2 ^ 64) → All P ws → Fit ws
+all-wide P [] f h = tt
+all-wide P (x ∷ ws) f h = (f x (h .0), all-wide P ws f (h .1))
+
+all-in : (ws : List ℕ) → ((n : ℕ) → 0 < occurs n ws → n < 2 ^ 64) → Fit ws
+all-in [] f = tt
+all-in (x ∷ ws) f = (f x (omega (arith, bit-same x x refl)), all-in ws (λ n h. f n (omega arith)))
 
 -- each part's words fit in the part's region
 abbrev FitAll : List Extent → List (ℕ → ℕ → List ℕ) → Type 0
@@ -210,12 +220,17 @@ module _ (s : State) (w : WellFormed till s) where
   unfolding ownerOf
   owner-low f e q = seek-below (entriesBefore s (s .tableCount)) _ e q
 
-  owner-fits : (f : ℕ) → Fit (linkOf (ownerOf s f) ∷ [])
-  owner-fits f = go (ownerOf s f) refl
+  owner-fits : (f : ℕ) → Fit (ownerWord s f ∷ [])
+  owner-fits f = (
+    pick-has (λ (x : ℕ). x < 2 ^ 64) (ltb 0 (plansWith (s .book .rows) f)) (planOwner + holderOf f (s .book .rows)) (linkOf (ownerOf s f))
+        (λ e. omega (arith, holder-most f (s .book .rows), w .ranges .rowCount, row-few))
+        (λ e. go (ownerOf s f) refl),
+    tt,
+  )
     where
-      go : (x : Option ℕ) → ownerOf s f ≡ x → Fit (linkOf x ∷ [])
-      go none e = (omega arith, tt)
-      go (some k) e = (omega (arith, owner-low f k e, entries-few (s .tableCount) (omega arith)), tt)
+      go : (x : Option ℕ) → ownerOf s f ≡ x → linkOf x < 2 ^ 64
+      go none e = omega arith
+      go (some k) e = omega (arith, owner-low f k e, entries-few (s .tableCount) (omega arith))
 
   group-fits : (n g : ℕ) → n ≤ 4096 → Fit (freeIn s n g ∷ [])
   group-fits n g h = (omega (arith, sum-le n (λ j. occurs (g * n + j) (s .frames)) (λ j. 1) (λ j p. free-most s (w .frames) (g * n + j)), sum-ones n), tt)
@@ -232,6 +247,7 @@ module _ (s : State) (w : WellFormed till s) where
       go (some (reservation b ks)) e = omega (arith, place-most k ks, range-of s w i (reservation b ks) e .1 .1, batch-max)
       go (some (claim b es)) e = omega (arith, moved-most k es, range-of s w i (claim b es) e .1 .1, batch-max)
       go (some (parcel hs)) e = omega arith
+      go (some (plan b n v fs)) e = omega arith
 
   slot-fits : (b k : ℕ) → b < s .tableCount → Fit (slotOf s b k)
   slot-fits b k h = go (s .tables b .slots k) refl (w .ranges .tables b h .slots k)
@@ -276,18 +292,19 @@ module _ (s : State) (w : WellFormed till s) where
       let p : occurs k (movedOf es) ≡ bit (isMovingBy i (s .tables b .slots k)) = rw (eq-eqb b b refl) at q in
       omega (arith, slot-there s w b k (there-by (isMovingBy i) (s .tables b .slots k) refl (bit-true _ (omega arith))) .low, slots-max)
 
-  body-fits : (d : Body) → BodyRange s d → Fit (bodyWords d)
+  body-fits : (d : Body) → BodyRange till s d → Fit (bodyWords d)
   body-fits (reservation b ks) r = omega (arith, r .0, table-few, r .1 .1, batch-max)
   body-fits (claim b es) r = omega (arith, r .0, table-few, r .1 .1, batch-max)
   body-fits (parcel hs) r = omega (arith, r .0 .1, batch-max)
+  body-fits (plan b n v fs) r = omega (arith, r .table, table-few, r .held, plan-few s b n v fs r, r .count .1, batch-max, r .kept .epoch)
 
-  item-fits : (i : ℕ) (d : Body) → find i (s .book .rows) ≡ some d → BodyRange s d → (j : ℕ) → Fit (itemWords d j)
-  item-fits i (reservation b ks) e r j = go (nth ks j) refl
+  item-fits : (i : ℕ) (d : Body) → find i (s .book .rows) ≡ some d → BodyRange till s d → ((f : ℕ) → 0 < occurs f (framesIn d) → f < s .frameCount) → (j : ℕ) → Fit (itemWords d j)
+  item-fits i (reservation b ks) e r o j = go (nth ks j) refl
     where
       go : (x : Option ℕ) → nth ks j ≡ x → Fit (wordsOf slotItem x)
       go none q = tt
       go (some k) q = (omega (arith, reserved-low i b k ks e (nth-occurs ks j k q)), tt)
-  item-fits i (claim b es) e r j = go (nth es j) refl
+  item-fits i (claim b es) e r o j = go (nth es j) refl
     where
       go : (x : Option Entry) → nth es j ≡ x → Fit (wordsOf entryItem x)
       go none q = tt
@@ -295,11 +312,22 @@ module _ (s : State) (w : WellFormed till s) where
           let g = all-at (EntryRange s) es j (moved k h y) (r .2) q in
           omega (arith, moving-low i b k es e (nth-moved es j k h y q), handle-fits h (g .0), g .1)
       go (some (copied h)) q = omega (arith, handle-fits h (all-at (EntryRange s) es j (copied h) (r .2) q))
-  item-fits i (parcel hs) e r j = go (nth hs j) refl
+  item-fits i (parcel hs) e r o j = go (nth hs j) refl
     where
       go : (x : Option Handle) → nth hs j ≡ x → Fit (wordsOf handleItem x)
       go none q = tt
       go (some h) q = omega (arith, handle-fits h (all-at (HandleRange s) hs j h (r .1) q))
+  item-fits i (plan b n v fs) e r o j = go j
+    where
+      page : (k : ℕ) → getD (v .pages) k 0 < 2 ^ 64
+      page k = fit-get (v .pages) k (all-wide (λ p. p < maxPages till) (v .pages) (λ p h. omega (arith, pages-max)) (r .kept .pages))
+
+      frame : (k : ℕ) → getD fs k 0 < 2 ^ 64
+      frame k = fit-get fs k (all-in fs (λ f h. omega (arith, o f h, frame-few)))
+
+      go : (k : ℕ) → Fit (planItem v fs k)
+      go zero = (page 0, (frame 0, (omega (arith, r .kept .freeSlots, slots-max), tt)))
+      go (suc k) = (page (suc k), (frame (suc k), tt))
 
   row-fits : (n y : ℕ) → Fit (wordsOf (blockWords y) (nth (s .book .rows) n))
   row-fits n y = go (nth (s .book .rows) n) refl y
@@ -308,10 +336,10 @@ module _ (s : State) (w : WellFormed till s) where
       go none e y = tt
       go (some r) e zero =
           let f = row-found 1 (s .book .next) (s .book .rows) n r (w .ids .rise) e in
-          (omega (arith, f .2, w .ids .next), body-fits (r .body) (all-at (RowRange s) (s .book .rows) n r (w .ranges .rows) e))
+          (omega (arith, f .2, w .ids .next), body-fits (r .body) (all-at (RowRange till s) (s .book .rows) n r (w .ranges .rows) e))
       go (some r) e (suc j) =
           let f = row-found 1 (s .book .next) (s .book .rows) n r (w .ids .rise) e in
-          item-fits (r .id) (r .body) (f .0) (all-at (RowRange s) (s .book .rows) n r (w .ranges .rows) e) j
+          item-fits (r .id) (r .body) (f .0) (all-at (RowRange till s) (s .book .rows) n r (w .ranges .rows) e) (λ f h. word-planned s (w .frames) f n r e h .0) j
 
   -- ---- all of them
 

@@ -12,6 +12,7 @@ use Rattle.words.specs.Pick.{pick, bool, clash}
 use Rattle.model.specs.Base.{nth, occurs}
 use Rattle.model.specs.State.{Handle, Entry, Entry.moved, Entry.copied, Body, Row}
 use Rattle.model.specs.Book.{find, movedOf}
+use Rattle.model.specs.WellFormed.{framesIn, plansWith}
 use Rattle.model.specs.Counting.{bit-same}
 use Rattle.representation.specs.Represents.{Chain, Linked}
 
@@ -140,6 +141,26 @@ rank-found i (r ∷ rs) d e = bool (eqb (r .id) i)
 pub rank-most : (i : ℕ) (rs : List Row) → rankOf i rs ≤ length rs
 rank-most i [] = omega arith
 rank-most i (r ∷ rs) = bool (eqb (r .id) i) (λ e. rw e (omega arith)) (λ e. rw e (omega (arith, rank-most i rs)))
+
+-- the rank of the row that holds a frame
+abbrev pub holderOf : ℕ → List Row → ℕ
+holderOf f [] = 0
+holderOf f (r ∷ rs) = pick (eqb (occurs f (framesIn (r .body))) 0) (suc (holderOf f rs)) 0
+
+-- the only one is found
+pub holder-is : (f : ℕ) (rs : List Row) (k : ℕ) (r : Row) → nth rs k ≡ some r → 0 < occurs f (framesIn (r .body)) → plansWith rs f ≤ 1 → (holderOf f rs ≡ k) × (plansWith rs f ≡ 1)
+holder-is f [] k r e h u = let z : _≡_ {A = ℕ} 0 1 = cc in absurd (omega arith)
+holder-is f (x ∷ rs) zero r e h u =
+    let q : x ≡ r = cc in let i : 0 < occurs f (framesIn (x .body)) = rw q h in
+    (rw (ne-eqb (occurs f (framesIn (x .body))) 0 (λ z. omega arith)), omega arith)
+holder-is f (x ∷ rs) (suc k) r e h u =
+    let d = holder-is f rs k r e h (omega arith) in
+    let z : occurs f (framesIn (x .body)) ≡ 0 = omega (arith, d .1) in
+    (rw (eq-eqb (occurs f (framesIn (x .body))) 0 z) (ap suc (d .0)), omega (arith, d .1))
+
+pub holder-most : (f : ℕ) (rs : List Row) → holderOf f rs ≤ length rs
+holder-most f [] = omega arith
+holder-most f (r ∷ rs) = bool (eqb (occurs f (framesIn (r .body))) 0) (λ e. rw e (omega (arith, holder-most f rs))) (λ e. rw e (omega arith))
 
 pub place-most : (k : ℕ) (l : List ℕ) → placeOf k l ≤ length l
 place-most k [] = omega arith

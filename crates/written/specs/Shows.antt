@@ -7,9 +7,9 @@ use Rattle.model.specs.Base.{nth}
 use Rattle.model.specs.State.{State}
 use Rattle.layout.specs.Layout.{Addr, Mem, In, in-root, in-head, in-entry, in-owner, in-cell, in-object, in-index, in-rank, in-row, in-item, root, head, entry, owner, group, cell, object, index, rank, row, item}
 use Rattle.layout.specs.Sizes.{pageSize, batchMax, rootSize, headSize, entrySize, slotSize, objectSize, blockSize}
-use Rattle.representation.specs.Represents.{linkOf, freeIn}
+use Rattle.representation.specs.Represents.{freeIn}
 use Rattle.representation.specs.Unique.{shapeFor}
-use Rattle.written.specs.Words.{entriesBefore, rootWords, headWords, pageAt, pageWords, ownerOf, cellWords, objectWords, wordsOf, blockWords, wordAt}
+use Rattle.written.specs.Words.{entriesBefore, rootWords, headWords, pageAt, pageWords, ownerOf, ownerWord, cellWords, objectWords, wordsOf, blockWords, wordAt}
 use Rattle.written.specs.Entries.{table-at, page-at, entry-low}
 
 abbrev pub Shows : State → Mem → Type 0
@@ -31,7 +31,7 @@ module _ (s : State) (m : Mem) (shows : Shows s m) where
       ∙ ap (λ (c : ℕ). getD (pageWords (s .tables c) (pageAt s (entriesBefore s b + p))) f 0) (table-at s b p h i)
       ∙ ap (λ (q : ℕ). getD (pageWords (s .tables b) q) f 0) (page-at s b p h i)
 
-  pub at-owner : (f : ℕ) → f < s .frameCount → m (owner f) ≡ linkOf (ownerOf s f)
+  pub at-owner : (f : ℕ) → f < s .frameCount → m (owner f) ≡ ownerWord s f
   unfolding shapeFor wordAt
   at-owner f h = shows (owner f) (in-owner (shapeFor s) f h)
 

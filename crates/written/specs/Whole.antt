@@ -1,5 +1,5 @@
 -- EVERY WELL-FORMED STATE HAS WORDS: `written` gives them, and they represent it. Assumes nothing.
-use mathlib.Core.Path.{_≡_, refl, ap, _∙_}
+use mathlib.Core.Path.{_≡_, refl, _∙_}
 use mathlib.Core.List.{List}
 use Prim.Native.Nat.{ℕ, zero, suc, _*_, _≤_, _<_}
 use native.Mathlib.Omega.{arith}
@@ -11,11 +11,11 @@ use Rattle.layout.specs.Layout.{Mem, total, load}
 use Rattle.layout.specs.ShapeOf.{Permitted, Roots}
 use Rattle.layout.specs.Fields.{rootVersion, rootTables, rootFrames, rootObjects, rootRows, rootNextId, rootUsedRows, rootFreeFrames, rootPages, headFirstEntry, objectKoid, objectKind, objectClass, objectSupported, objectExportable, objectStage, objectActive, objectLimit}
 use Rattle.layout.specs.Sizes.{pagesMax}
-use Rattle.representation.specs.Represents.{linkOf, FramesAre, ObjectIs, BookIs, Represents, Rep}
+use Rattle.representation.specs.Represents.{FramesAre, ObjectIs, BookIs, Represents, Rep}
 use Rattle.representation.specs.Unique.{shapeFor}
 use Rattle.written.specs.Words.{entriesBefore, wordAt}
 use Rattle.written.specs.Spread.{spread, spread-length, spread-load}
-use Rattle.written.specs.Entries.{free-low, frame-low, owner-held, owner-free}
+use Rattle.written.specs.Entries.{free-low, frame-low, word-held, word-free}
 use Rattle.written.specs.Shows.{Shows, at-root, at-head, at-owner, at-sixteen, at-hundred, at-thousand, at-object, at-index, at-rank}
 use Rattle.written.specs.Rows.{rows-are}
 use Rattle.written.specs.Tables.{table-is, marks-are}
@@ -28,8 +28,8 @@ module _ (s : State) (w : WellFormed till s) (m : Mem) (shows : Shows s m) where
   frames-are : FramesAre m s
   frames-are = record {
     held = λ b p f h i e. let l : p < s .tables b .limit = omega (arith, w .ranges .tables b h .size) in
-        at-owner s m shows f (frame-low s (w .frames) b p f h l e) ∙ ap linkOf (owner-held s (w .frames) b p f h l e) ∙ rw (at-head s m shows b headFirstEntry h (omega arith));
-    free = λ f h. at-owner s m shows f (free-low s (w .frames) f h) ∙ ap linkOf (owner-free s (w .frames) f h);
+        at-owner s m shows f (frame-low s (w .frames) b p f h l e) ∙ word-held s (w .frames) b p f h l e ∙ rw (at-head s m shows b headFirstEntry h (omega arith));
+    free = λ f h. at-owner s m shows f (free-low s (w .frames) f h) ∙ word-free s (w .frames) f h;
     sixteens = at-sixteen s m shows;
     hundreds = at-hundred s m shows;
     thousands = at-thousand s m shows;

@@ -6,15 +6,15 @@ use Prim.Native.Nat.{ℕ, zero, suc, _+_, _-_, _*_}
 use lib.ListN.{length, getD}
 use lib.Dec.{ltb}
 use Rattle.model.specs.Base.{pick, bit, nth, orElse, sum}
-use Rattle.model.specs.State.{till, Handle, Slot, Slot.absent, Slot.vacant, Slot.reserved, Slot.transferReserved, Slot.occupied, Lifecycle, Lifecycle.active, Lifecycle.tearingDown, Lifecycle.retired, Table, Object, Entry, Entry.moved, Entry.copied, Body, Body.reservation, Body.claim, Body.parcel, Row, State}
+use Rattle.model.specs.State.{till, Handle, Slot, Slot.absent, Slot.vacant, Slot.reserved, Slot.transferReserved, Slot.occupied, Lifecycle, Lifecycle.active, Lifecycle.tearingDown, Lifecycle.retired, Table, Object, Entry, Entry.moved, Entry.copied, Body, Body.reservation, Body.claim, Body.parcel, Body.plan, StorageSnapshot, Row, State}
 use Rattle.model.specs.Storage.{busyOf}
-use Rattle.model.specs.WellFormed.{isFrame, isAttached}
+use Rattle.model.specs.WellFormed.{isFrame, isAttached, plansWith}
 use Rattle.model.specs.Book.{find}
 use Rattle.layout.specs.Layout.{Addr, Addr.reg}
-use Rattle.layout.specs.Values.{formatVersion, tagVacant, tagReserved, tagTransferReserved, tagOccupied, kindReservation, kindClaim, kindParcel, lifeActive, lifeTearingDown, lifeRetired, operationMove, operationCopy}
-use Rattle.layout.specs.Sizes.{pageSize}
+use Rattle.layout.specs.Values.{formatVersion, tagVacant, tagReserved, tagTransferReserved, tagOccupied, kindReservation, kindClaim, kindParcel, kindPlan, lifeActive, lifeTearingDown, lifeRetired, operationMove, operationCopy}
+use Rattle.layout.specs.Sizes.{pageSize, planOwner}
 use Rattle.representation.specs.Represents.{linkOf, freeIn, classWord, stageWord}
-use Rattle.written.specs.Searches.{seek, firstOf, after, before, placeOf, movedAt, rankOf}
+use Rattle.written.specs.Searches.{seek, firstOf, after, before, placeOf, movedAt, rankOf, holderOf}
 
 -- ---- header
 
@@ -67,6 +67,10 @@ pageAt s e = e - entriesBefore s (tableAt s e)
 unfoldable pub ownerOf : State → ℕ → Option ℕ
 ownerOf s f = seek (entriesBefore s (s .tableCount)) λ e. isFrame (s .tables (tableAt s e) .pages (pageAt s e) .frame) f
 
+-- the owner word of a frame: a plan holds it, or a page has it, or it is free; a row's place is its rank
+abbrev pub ownerWord : State → ℕ → ℕ
+ownerWord s f = pick (ltb 0 (plansWith (s .book .rows) f)) (planOwner + holderOf f (s .book .rows)) (linkOf (ownerOf s f))
+
 -- ---- slots
 
 -- the position of a slot in its row
@@ -75,6 +79,7 @@ positionIn k none = 0
 positionIn k (some (reservation b ks)) = placeOf k ks
 positionIn k (some (claim b es)) = movedAt k es
 positionIn k (some (parcel hs)) = 0
+positionIn k (some (plan b n w fs)) = 0
 
 -- slot k, by the free order and the rows; a row's place is its rank
 abbrev pub slotWords : List ℕ → List Row → ℕ → Slot → List ℕ
@@ -104,6 +109,7 @@ abbrev pub bodyWords : Body → List ℕ
 bodyWords (reservation b ks) = kindReservation ∷ b ∷ length ks ∷ []
 bodyWords (claim b es) = kindClaim ∷ b ∷ length es ∷ []
 bodyWords (parcel hs) = kindParcel ∷ 0 ∷ length hs ∷ []
+bodyWords (plan b n w fs) = kindPlan ∷ b ∷ length fs ∷ n ∷ w .epoch ∷ []
 
 abbrev pub slotItem : ℕ → List ℕ
 slotItem k = k ∷ []
@@ -115,6 +121,11 @@ entryItem (copied h) = operationCopy ∷ 0 ∷ h .object ∷ h .rights ∷ h .fl
 abbrev pub handleItem : Handle → List ℕ
 handleItem h = 0 ∷ 0 ∷ h .object ∷ h .rights ∷ h .flags ∷ []
 
+-- item j of a plan: a page and the frame for it, and in the first the free slots
+abbrev pub planItem : StorageSnapshot → List ℕ → ℕ → List ℕ
+planItem w fs zero = getD (w .pages) 0 0 ∷ getD fs 0 0 ∷ w .freeSlots ∷ []
+planItem w fs (suc j) = getD (w .pages) (suc j) 0 ∷ getD fs (suc j) 0 ∷ []
+
 -- the words of what may be missing
 abbrev pub wordsOf : {A : Type 0} → (A → List ℕ) → Option A → List ℕ
 wordsOf f none = []
@@ -124,6 +135,7 @@ abbrev pub itemWords : Body → ℕ → List ℕ
 itemWords (reservation b ks) j = wordsOf slotItem (nth ks j)
 itemWords (claim b es) j = wordsOf entryItem (nth es j)
 itemWords (parcel hs) j = wordsOf handleItem (nth hs j)
+itemWords (plan b n w fs) j = planItem w fs j
 
 -- a row's blocks: the row, then its items
 abbrev pub blockWords : ℕ → Row → List ℕ
@@ -142,7 +154,7 @@ parts s =
     -- 2 page entries
     ∷ (λ x y. pageWords (s .tables (tableAt s x)) (pageAt s x))
     -- 3 frame owners
-    ∷ (λ x y. linkOf (ownerOf s x) ∷ [])
+    ∷ (λ x y. ownerWord s x ∷ [])
     -- 4 to 6 free frames in each 16, 256 and 4,096
     ∷ (λ x y. freeIn s 16 x ∷ [])
     ∷ (λ x y. freeIn s 256 x ∷ [])
