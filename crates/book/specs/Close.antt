@@ -14,7 +14,7 @@ use Rattle.model.specs.Base.{nth}
 use Rattle.model.specs.State.{Body, Row, State}
 use Rattle.model.specs.Book.{dropId, dropRow}
 use Rattle.layout.specs.declared.Shape.{Shape}
-use Rattle.layout.specs.Layout.{Mem, total, root, index, rank, row, item, load, in-root, in-index, in-rank, Write.at, upds, load-writes}
+use Rattle.layout.specs.Layout.{Mem, total, root, owner, index, rank, row, item, load, in-root, in-index, in-rank, Write.at, upds, load-writes}
 use Rattle.layout.specs.Fields.{rootNextId, rootUsedRows, slotTag, slotPlace, slotPosition, rowId}
 use Rattle.representation.specs.Represents.{slotWord, isMarked, Represents}
 use Rattle.storage.specs.Order.{same?}
@@ -22,8 +22,8 @@ use Rattle.storage.specs.Kept.{body-kept}
 use Rattle.storage.specs.Reps.{Held}
 use Rattle.book.specs.Lists.{nth-below, drop-before, drop-after, drop-one}
 use Rattle.book.specs.Places.{Indexed, rank-one, RowIs, row-of, rows-all}
-use Rattle.book.specs.Whole.{Books, books-then, books-writes, slot-kept, book-held}
-use Rattle.book.specs.Ops.{lastOf, shiftW, closeW}
+use Rattle.book.specs.Whole.{Books, books-then, books-writes, book-pool, slot-kept, book-held}
+use Rattle.book.specs.Ops.{spare, lastOf, shiftW, closeW}
 use Rattle.book.specs.Find.{Fits, RowAt, indexed}
 use Rattle.book.specs.Swap.{mark-words, mark-kept}
 use Rattle.book.specs.Shift.{Shifted, shift-books, shifted}
@@ -103,6 +103,19 @@ module _ (ws : List ℕ) (sh : Shape) (s : State) (h : Held ws sh s) (f : Fits s
   left = let e : s .book .capacity ≡ sh .rows = sym (r .capacity) in
       rw e (close-left ws sh x (h .reps .shaped .room) (rw e at ix) (omega (arith, a .place, r .capacity)) (omega (arith, a .used, last-is)) (omega (arith, last-is, f .room, r .capacity)))
 
+  -- owners, rows and items keep their words, and the place is the next to open
+  pub owner-same : (g : ℕ) → load (closeW ws sh x) sh (owner g) ≡ load ws sh (owner g)
+  owner-same = book-pool (load ws sh) (load (closeW ws sh x) sh) (close-books ws sh x (h .reps .shaped .room) .only) .owners
+
+  pub close-rows : (z f : ℕ) → load (closeW ws sh x) sh (row z f) ≡ load ws sh (row z f)
+  close-rows = left .rows
+
+  pub close-items : (z j f : ℕ) → load (closeW ws sh x) sh (item z j f) ≡ load ws sh (item z j f)
+  close-items = left .items
+
+  pub close-spare : spare (load (closeW ws sh x) sh) ≡ x
+  close-spare = ap (λ (u : ℕ). load (closeW ws sh x) sh (index u)) (left .used) ∙ left .index-last
+
   -- a row in another place
   other : (z : ℕ) → z < s .book .capacity → (z ≡ x → ⊥) → load ws sh (rank z) ≡ load ws sh (rank x) → ⊥
   other z low ne e = ne (rank-one (load ws sh) (s .book .capacity) ix z x low (a .place) e)
@@ -110,7 +123,7 @@ module _ (ws : List ℕ) (sh : Shape) (s : State) (h : Held ws sh s) (f : Fits s
   moved-row : (j k : ℕ) (q : Row) → load (closeW ws sh x) sh (index j) ≡ load ws sh (index k) → RowIs (load ws sh) k q → RowIs (load (closeW ws sh x) sh) j q
   moved-row j k q e w = rw e (
     left .rows (load ws sh (index k)) rowId ∙ w .0,
-    body-kept (load ws sh) (load (closeW ws sh x) sh) (load ws sh (index k)) (left .items (load ws sh (index k))) (left .rows (load ws sh (index k))) (q .body) (w .1),
+    body-kept (load ws sh) (load (closeW ws sh x) sh) (load ws sh (index k)) (left .items (load ws sh (index k))) (left .rows (load ws sh (index k))) (λ g d. owner-same g) (q .body) (w .1),
   )
 
   closed-row : (j : ℕ) (q : Row) → nth (dropId i (s .book .rows)) j ≡ some q → RowIs (load (closeW ws sh x) sh) j q
@@ -198,7 +211,7 @@ module _ (ws : List ℕ) (sh : Shape) (s : State) (h : Held ws sh s) (f : Fits s
         named = rw e d;
         listed = rw e l;
         id = left .rows z rowId ∙ q .id;
-        body = body-kept (load ws sh) (load (closeW ws sh x) sh) z (left .items z) (left .rows z) c (q .body);
+        body = body-kept (load ws sh) (load (closeW ws sh x) sh) z (left .items z) (left .rows z) (λ g d. owner-same g) c (q .body);
       }
 
   -- a row with another id stands in another place

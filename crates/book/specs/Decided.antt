@@ -1,5 +1,5 @@
 -- Decisions by the number of a refusal, and what a represented state says of rows and ids. Assumes nothing.
-use mathlib.Core.Path.{_≡_, refl, ap}
+use mathlib.Core.Path.{_≡_, refl, ap, _∙_}
 use mathlib.Core.Bool.{true, false}
 use mathlib.Core.List.{List}
 use Prim.Native.Nat.{ℕ, zero, suc, _+_, _^_, _<_}
@@ -11,7 +11,7 @@ use Rattle.model.specs.State.{State, lastId}
 use Rattle.model.specs.Book.{freeRow}
 use Rattle.model.specs.Decision.{Decision, Decision.refusal}
 use Rattle.layout.specs.declared.Shape.{Shape}
-use Rattle.layout.specs.Layout.{index, load}
+use Rattle.layout.specs.Layout.{index, rank, load}
 use Rattle.representation.specs.Represents.{Rep}
 use Rattle.storage.specs.Reps.{Held}
 use Rattle.book.specs.Ops.{rowLeft, spare}
@@ -49,3 +49,10 @@ module _ (ws : List ℕ) (sh : Shape) (s : State) (h : Held ws sh s) (free : len
   spare-low = let r = h .reps .memory in
       let e : spare (load ws sh) ≡ load ws sh (index (length (s .book .rows))) = ap (λ (i : ℕ). load ws sh (index i)) (r .book .used) in
       omega (arith, r .book .places (length (s .book .rows)) free .0, r .capacity)
+
+  -- it is of no row in use
+  pub spare-out : (i : ℕ) → i < length (s .book .rows) → load ws sh (index i) ≡ spare (load ws sh) → ⊥
+  spare-out i l e = let r = h .reps .memory in
+      let d : load ws sh (index i) ≡ load ws sh (index (length (s .book .rows))) = e ∙ ap (λ (k : ℕ). load ws sh (index k)) (r .book .used) in
+      let q : load ws sh (rank (load ws sh (index i))) ≡ load ws sh (rank (load ws sh (index (length (s .book .rows))))) = ap (λ (k : ℕ). load ws sh (rank k)) d in
+      omega (arith, r .book .places i (omega arith) .1, r .book .places (length (s .book .rows)) free .1)

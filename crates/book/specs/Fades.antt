@@ -23,7 +23,7 @@ use Rattle.representation.specs.Told.{marked-full}
 use Rattle.storage.specs.Sight.{OnlyTable}
 use Rattle.storage.specs.Ops.{vacateW, occupyW}
 use Rattle.storage.specs.Turns.{Turns, vacate-turns, occupy-turns}
-use Rattle.storage.specs.Whole.{table-rows, other-slot}
+use Rattle.storage.specs.Whole.{table-rows, table-pool, other-slot}
 use Rattle.storage.specs.Reps.{Held, ready-of}
 use Rattle.book.specs.Find.{Fits, RowAt, row-kept}
 use Rattle.book.specs.Ops.{closeW}
@@ -105,7 +105,7 @@ module _ (ws : List ℕ) (sh : Shape) (s : State) (h : Held ws sh s) (b : ℕ) (
 -- ---- rows through an operation on a table
 
 pub row-turned : (m n : Mem) (s : State) (b : ℕ) (u : Table) → OnlyTable b m n → (x i : ℕ) (y : Body) → RowAt m s x i y → RowAt n (withTable s b u) x i y
-row-turned m n s b u o = row-kept m n s (withTable s b u) refl (table-rows b m n o)
+row-turned m n s b u o = row-kept m n s (withTable s b u) refl (table-rows b m n o) (table-pool b m n o .owners)
 
 -- ---- the book fits after each operation
 

@@ -13,7 +13,7 @@ use Rattle.model.specs.Book.{find}
 use Rattle.model.specs.WellFormed.{IdsRise, WellFormed}
 use Rattle.model.specs.Tests.{nth-some}
 use Rattle.layout.specs.declared.Shape.{Shape}
-use Rattle.layout.specs.Layout.{Mem, index, rank, row}
+use Rattle.layout.specs.Layout.{Mem, owner, index, rank, row}
 use Rattle.layout.specs.Fields.{rowId, rowKind}
 use Rattle.layout.specs.Sizes.{rowsMax}
 use Rattle.representation.specs.Represents.{BodyIs, Represents}
@@ -40,15 +40,15 @@ pub record RowAt (m : Mem) (s : State) (x i : ℕ) (b : Body) : Type 0 where
   pub id : m (row x rowId) ≡ i
   pub body : BodyIs m x b
 
--- it does so where the rows stay
-pub row-kept : (m n : Mem) (s u : State) → u .book ≡ s .book → RowsStay m n → (x i : ℕ) (b : Body) → RowAt m s x i b → RowAt n u x i b
-row-kept m n s u e o x i b a = record {
+-- it does so where the rows and the owners of frames stay
+pub row-kept : (m n : Mem) (s u : State) → u .book ≡ s .book → RowsStay m n → ((f : ℕ) → n (owner f) ≡ m (owner f)) → (x i : ℕ) (b : Body) → RowAt m s x i b → RowAt n u x i b
+row-kept m n s u e o own x i b a = record {
   place = rw e (a .place);
   used = rw (o .ranks x, e) (a .used);
   named = rw (o .ranks x) (o .places (m (rank x)) ∙ a .named);
   listed = rw (o .ranks x, e) (a .listed);
   id = o .rows x rowId ∙ a .id;
-  body = body-kept m n x (o .items x) (o .rows x) b (a .body);
+  body = body-kept m n x (o .items x) (o .rows x) (λ f d. own f) b (a .body);
 }
 
 pub indexed : (sh : Shape) (m : Mem) (s : State) → Represents sh m s → Indexed m (s .book .capacity)

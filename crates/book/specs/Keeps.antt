@@ -13,7 +13,7 @@ use Rattle.model.specs.Storage.{keep}
 use Rattle.model.specs.Change.{withTable, withObjects}
 use Rattle.invariant.specs.Pointwise.{given, filled}
 use Rattle.layout.specs.declared.Shape.{Shape}
-use Rattle.layout.specs.Layout.{item, load}
+use Rattle.layout.specs.Layout.{owner, item, load}
 use Rattle.representation.specs.Represents.{isMarked}
 use Rattle.storage.specs.Ops.{occupyW}
 use Rattle.storage.specs.Turns.{occupy-turns}
@@ -43,13 +43,13 @@ keeps-then sh ws s ws₁ s₁ ws₂ s₂ p q = record {
   fits = λ f. q .fits (p .fits f);
 }
 
--- OBJECTS CHANGED, while tables and rows keep their words
+-- OBJECTS CHANGED, while tables, rows and the owners of frames keep their words
 pub objects-keep : (sh : Shape) (ws : List ℕ) (s : State) (ws′ : List ℕ) (os : ℕ → Object) → Held ws′ sh (withObjects s os) → ((b : ℕ) → Stays (load ws sh) (load ws′ sh) b)
-    → RowsStay (load ws sh) (load ws′ sh) → Keeps sh ws s ws′ (withObjects s os)
-objects-keep sh ws s ws′ os h stays rows = record {
+    → RowsStay (load ws sh) (load ws′ sh) → ((f : ℕ) → load ws′ sh (owner f) ≡ load ws sh (owner f)) → Keeps sh ws s ws′ (withObjects s os)
+objects-keep sh ws s ws′ os h stays rows own = record {
   held = h;
   fades = fades-rows (load ws sh) s (load ws′ sh) (withObjects s os) refl refl (λ b. slot-kept (load ws sh) (load ws′ sh) b (stays b));
-  rows = row-kept (load ws sh) (load ws′ sh) s (withObjects s os) refl rows;
+  rows = row-kept (load ws sh) (load ws′ sh) s (withObjects s os) refl rows own;
   items = rows .items;
   fits = λ f. record { room = f .room; rise = f .rise };
 }

@@ -8,7 +8,7 @@ use native.Mathlib.Omega.{arith}
 use borrow.Author.Tests.{eqb-true, eq-eqb}
 use Rattle.words.specs.Pick.{clash}
 use Rattle.model.specs.Base.{bit, nth, occurs}
-use Rattle.model.specs.State.{Handle, Slot, Slot.absent, Slot.vacant, Slot.reserved, Slot.transferReserved, Slot.occupied, Entry, Entry.moved, Entry.copied, Body, Body.reservation, Body.claim, Body.parcel, State}
+use Rattle.model.specs.State.{Handle, Slot, Slot.absent, Slot.vacant, Slot.reserved, Slot.transferReserved, Slot.occupied, Entry, Entry.moved, Entry.copied, Body, Body.reservation, Body.claim, Body.parcel, Body.plan, StorageSnapshot, State}
 use Rattle.model.specs.Book.{movedOf}
 use Rattle.model.specs.WellFormed.{Marks, isReservedBy}
 use Rattle.model.specs.Tests.{nth-some, some-same}
@@ -182,13 +182,23 @@ module _ (sh : Shape) (m : Mem) (s : State) (r : Represents sh m s) (f : Fits s)
             let v = moves-is m x (slotWord m d k slotPosition) k (y .0) (item-of (EntryIs m x) es (a .body .3) (slotWord m d k slotPosition) (y .0) (y .1)) (g .3) (g .2) in
             (sym (g .1) ∙ a .body .1, (v .0, v .1, y .1 ∙ ap some (v .2)))
 
-  -- a parcel: no slot names it
+  -- no slot names a row that has none: a parcel, or a plan
+  unmarked : (y : Body) → RowAt m s x i y → ((t : Bool) (d k : ℕ) → inRow t d k (some y) ≡ 0) → Unnamed m s x
+  unmarked y a none-in d k l mk e = let p = its sh m s r f (both-marks s w) x i y a d k l mk e in omega (arith, p .2, none-in (p .0) d k)
+
   pub named-parcel : (hs : List Handle) → RowAt m s x i (parcel hs) → Unnamed m s x
-  named-parcel hs a d k l mk e = go (its sh m s r f (both-marks s w) x i (parcel hs) a d k l mk e)
+  named-parcel hs a = unmarked (parcel hs) a no-slot
     where
-      go : ((t : Bool) × (slotWord m d k slotTag ≡ tagOf t) × (inRow t d k (some (parcel hs)) ≡ 1)) → ⊥
-      go (true, z, q) = omega arith
-      go (false, z, q) = omega arith
+      no-slot : (t : Bool) (d k : ℕ) → inRow t d k (some (parcel hs)) ≡ 0
+      no-slot true d k = refl
+      no-slot false d k = refl
+
+  pub named-plan : (b n : ℕ) (v : StorageSnapshot) (fs : List ℕ) → RowAt m s x i (plan b n v fs) → Unnamed m s x
+  named-plan b n v fs a = unmarked (plan b n v fs) a no-slot
+    where
+      no-slot : (t : Bool) (d k : ℕ) → inRow t d k (some (plan b n v fs)) ≡ 0
+      no-slot true d k = refl
+      no-slot false d k = refl
 
 -- what the storage's operations ask of the row: its position j names slot k
 pub names-reservation : (m : Mem) (s : State) (x i b : ℕ) (ks : List ℕ) → RowAt m s x i (reservation b ks) → (j k : ℕ) → nth ks j ≡ some k → Names m s b k x j itemSlot

@@ -10,36 +10,57 @@ use lib.ListN.{length}
 use lib.Dec.{eqb}
 use borrow.Author.Tests.{eq-eqb, ne-eqb}
 use Rattle.model.specs.Base.{nth}
-use Rattle.model.specs.State.{Body, Body.reservation, Body.claim, Body.parcel, Row, State}
+use Rattle.model.specs.State.{Body, Body.reservation, Body.claim, Body.parcel, Body.plan, StorageSnapshot, Row, State}
 use Rattle.model.specs.Book.{addRow, spendId}
 use Rattle.invariant.specs.BookLemmas.{length-add}
 use Rattle.layout.specs.declared.Shape.{Shape}
-use Rattle.layout.specs.Layout.{Addr, Mem, root, index, rank, row, item, load, load-save, in-root, in-row, upds, Write.at, load-writes}
-use Rattle.layout.specs.Fields.{rootNextId, rootUsedRows, slotTag, slotPlace, slotPosition, rowId, rowKind, rowTable, rowLength, itemSlot}
-use Rattle.layout.specs.Values.{kindReservation, kindClaim, kindParcel}
-use Rattle.representation.specs.Represents.{slotWord, HandleIs, EntryIs, Items, BodyIs, Represents}
+use Rattle.layout.specs.Layout.{Addr, Mem, root, owner, index, rank, row, item, load, load-save, in-root, in-row, upds, Write.at, load-writes}
+use Rattle.layout.specs.Fields.{rootNextId, rootUsedRows, slotTag, slotPlace, slotPosition, rowId, rowKind, rowTable, rowLength, rowCount, rowEpoch, itemSlot, itemPage, itemFreeSlots}
+use Rattle.layout.specs.Values.{kindReservation, kindClaim, kindParcel, kindPlan}
+use Rattle.representation.specs.Represents.{slotWord, HandleIs, EntryIs, Items, HeldIs, BodyIs, Represents}
 use Rattle.storage.specs.Order.{same?}
 use Rattle.storage.specs.Ops.{up}
-use Rattle.storage.specs.Kept.{slots-kept, entries-kept, handles-kept, body-kept}
+use Rattle.storage.specs.Kept.{slots-kept, entries-kept, handles-kept, pages-kept, held-kept, body-kept}
 use Rattle.storage.specs.Reps.{Held}
 use Rattle.book.specs.Lists.{nth-below, nth-one, nth-front, nth-last}
 use Rattle.book.specs.Places.{RowIs, row-of, rows-all}
-use Rattle.book.specs.Whole.{Books, books-writes, books-save, slot-kept, book-held}
+use Rattle.book.specs.Whole.{Books, books-writes, books-save, book-pool, slot-kept, book-held}
 use Rattle.book.specs.Ops.{spare, openP, openW, spendW}
 use Rattle.book.specs.Find.{RowAt}
 use Rattle.book.specs.Swap.{mark-words, mark-kept}
+
+-- a plan of n slots to be: what the further words of its row, its items and the owner words of its frames say
+pub record Planned (m : Mem) (x n : ℕ) (w : StorageSnapshot) (fs : List ℕ) : Type 0 where
+  pub count : m (row x rowCount) ≡ n
+  pub epoch : m (row x rowEpoch) ≡ w .epoch
+  pub freeSlots : m (item x 0 itemFreeSlots) ≡ w .freeSlots
+  pub pages : Items (λ j p. m (item x j itemPage) ≡ p) 0 (w .pages)
+  pub held : Items (HeldIs m x) 0 fs
 
 -- the words of a row to be, and its items, which stand in place x already
 abbrev pub Opens : Mem → ℕ → ℕ → ℕ → ℕ → Body → Type 0
 Opens m x what b n (reservation c ks) = (what ≡ kindReservation) × (b ≡ c) × (n ≡ length ks) × Items (λ j k. m (item x j itemSlot) ≡ k) 0 ks
 Opens m x what b n (claim c es) = (what ≡ kindClaim) × (b ≡ c) × (n ≡ length es) × Items (EntryIs m x) 0 es
 Opens m x what b n (parcel hs) = (what ≡ kindParcel) × (n ≡ length hs) × Items (HandleIs m x) 0 hs
+Opens m x what b n (plan c k w fs) = (what ≡ kindPlan) × (b ≡ c) × (n ≡ length (w .pages)) × (n ≡ length fs) × Planned m x k w fs
 
-opens-body : (m n : Mem) (x what b c : ℕ) (y : Body) → ((j f : ℕ) → n (item x j f) ≡ m (item x j f)) → n (row x rowKind) ≡ what → n (row x rowTable) ≡ b → n (row x rowLength) ≡ c
-    → Opens m x what b c y → BodyIs n x y
-opens-body m n x what b c (reservation t ks) its e₁ e₂ e₃ p = (e₁ ∙ p .0, e₂ ∙ p .1, e₃ ∙ p .2, slots-kept m n x its 0 ks (p .3))
-opens-body m n x what b c (claim t es) its e₁ e₂ e₃ p = (e₁ ∙ p .0, e₂ ∙ p .1, e₃ ∙ p .2, entries-kept m n x its 0 es (p .3))
-opens-body m n x what b c (parcel hs) its e₁ e₂ e₃ p = (e₁ ∙ p .0, e₃ ∙ p .1, handles-kept m n x its 0 hs (p .2))
+module _ (m n : Mem) (x what b c : ℕ) (its : (j f : ℕ) → n (item x j f) ≡ m (item x j f)) (rws : (f : ℕ) → rowLength < f → n (row x f) ≡ m (row x f)) (own : (f : ℕ) → n (owner f) ≡ m (owner f))
+    (e₁ : n (row x rowKind) ≡ what) (e₂ : n (row x rowTable) ≡ b) (e₃ : n (row x rowLength) ≡ c) where
+  opens-body : (y : Body) → Opens m x what b c y → BodyIs n x y
+  opens-body (reservation t ks) p = (e₁ ∙ p .0, e₂ ∙ p .1, e₃ ∙ p .2, slots-kept m n x its 0 ks (p .3))
+  opens-body (claim t es) p = (e₁ ∙ p .0, e₂ ∙ p .1, e₃ ∙ p .2, entries-kept m n x its 0 es (p .3))
+  opens-body (parcel hs) p = (e₁ ∙ p .0, e₃ ∙ p .1, handles-kept m n x its 0 hs (p .2))
+  opens-body (plan t k w fs) p = let q = p .4 in record {
+    kind = e₁ ∙ p .0;
+    table = e₂ ∙ p .1;
+    count = rws rowCount (omega arith) ∙ q .count;
+    epoch = rws rowEpoch (omega arith) ∙ q .epoch;
+    freeSlots = its 0 itemFreeSlots ∙ q .freeSlots;
+    pageCount = e₃ ∙ p .2;
+    pages = pages-kept m n x its 0 (w .pages) (q .pages);
+    frameCount = e₃ ∙ p .3;
+    held = held-kept m n x its (λ f e. own f) 0 fs (q .held);
+  }
 
 module _ (ws : List ℕ) (sh : Shape) (s : State) (h : Held ws sh s) (free : length (s .book .rows) < s .book .capacity) (what b c : ℕ) where
   abbrev x : ℕ
@@ -88,6 +109,13 @@ module _ (ws : List ℕ) (sh : Shape) (s : State) (h : Held ws sh s) (free : len
   unfolding openP
   row-off z ne f = sees (row z f) ∙ rw (ne-eqb z (spare (load ws sh)) ne, and-false (eqb f 0), and-false (eqb f 1), and-false (eqb f 2), and-false (eqb f 3))
 
+  row-rest : (f : ℕ) → rowLength < f → load (openW ws sh what b c) sh (row (spare (load ws sh)) f) ≡ load ws sh (row (spare (load ws sh)) f)
+  unfolding openP
+  row-rest f l = sees (row x f) ∙ rw (ne-eqb f 0 (λ e. omega arith), ne-eqb f 1 (λ e. omega arith), ne-eqb f 2 (λ e. omega arith), ne-eqb f 3 (λ e. omega arith))
+
+  owner-same : (f : ℕ) → load (openW ws sh what b c) sh (owner f) ≡ load ws sh (owner f)
+  owner-same = book-pool (load ws sh) (load (openW ws sh what b c) sh) (books .only) .owners
+
   row-0 : load (openW ws sh what b c) sh (row (spare (load ws sh)) rowId) ≡ load ws sh (root rootNextId)
   unfolding openP
   row-0 = sees (row x rowId) ∙ rw (eq-eqb (spare (load ws sh)) (spare (load ws sh)) refl)
@@ -116,13 +144,17 @@ module _ (ws : List ℕ) (sh : Shape) (s : State) (h : Held ws sh s) (free : len
   apart : (z : ℕ) → load ws sh (rank z) < length (s .book .rows) → z ≡ spare (load ws sh) → ⊥
   apart z l q = let y : load ws sh (rank z) ≡ load ws sh (rank (spare (load ws sh))) = ap (λ (v : ℕ). load ws sh (rank v)) q in omega (arith, top)
 
+  -- the row's words then
+  opened-body : (y : Body) → Opens (load ws sh) (spare (load ws sh)) what b c y → BodyIs (load (openW ws sh what b c) sh) (spare (load ws sh)) y
+  opened-body = opens-body (load ws sh) (load (openW ws sh what b c) sh) (spare (load ws sh)) what b c (item-same (spare (load ws sh))) row-rest owner-same row-1 row-2 row-3
+
   opened-row : (y : Body) → Opens (load ws sh) (spare (load ws sh)) what b c y → (j : ℕ) (q : Row) → nth (addRow y s .book .rows) j ≡ some q → RowIs (load (openW ws sh what b c) sh) j q
   opened-row y p j q e = ⊎-elim
       (λ (z : j ≡ length (s .book .rows)).
       let d : record { id = s .book .next; body = y } ≡ q
       = nth-one (addRow y s .book .rows) j (record { id = s .book .next; body = y }) q (ap (nth (addRow y s .book .rows)) z ∙ nth-last (s .book .rows) (record { id = s .book .next; body = y })) e in
       let g : load (openW ws sh what b c) sh (index j) ≡ spare (load ws sh) = index-same j ∙ ap (λ (i : ℕ). load ws sh (index i)) z ∙ sym named in
-      rw (← d, g) (row-0 ∙ r .book .next, opens-body (load ws sh) (load (openW ws sh what b c) sh) (spare (load ws sh)) what b c y (item-same (spare (load ws sh))) row-1 row-2 row-3 p))
+      rw (← d, g) (row-0 ∙ r .book .next, opened-body y p))
       (λ (z : j ≡ length (s .book .rows) → ⊥).
       let l : j < length (s .book .rows) = let i = nth-below (addRow y s .book .rows) j q e in let k = length-add (s .book .rows) (record { id = s .book .next; body = y }) in omega arith in
       let e′ : nth (s .book .rows) j ≡ some q = sym (nth-front (s .book .rows) (record { id = s .book .next; body = y } ∷ []) j l) ∙ e in
@@ -130,7 +162,7 @@ module _ (ws : List ℕ) (sh : Shape) (s : State) (h : Held ws sh s) (free : len
       let ne : load ws sh (index j) ≡ spare (load ws sh) → ⊥ = apart (load ws sh (index j)) (let i = r .book .places j (omega (arith, free)) .1 in omega arith) in
       rw (index-same j) (
         row-off (load ws sh (index j)) ne rowId ∙ w .0,
-        body-kept (load ws sh) (load (openW ws sh what b c) sh) (load ws sh (index j)) (item-same (load ws sh (index j))) (row-off (load ws sh (index j)) ne) (q .body) (w .1),
+        body-kept (load ws sh) (load (openW ws sh what b c) sh) (load ws sh (index j)) (item-same (load ws sh (index j))) (row-off (load ws sh (index j)) ne) (λ f d. owner-same f) (q .body) (w .1),
       ))
       (same? j (length (s .book .rows)))
 
@@ -170,7 +202,7 @@ module _ (ws : List ℕ) (sh : Shape) (s : State) (h : Held ws sh s) (free : len
           named = rw e (index-same (length (s .book .rows)) ∙ sym named);
           listed = rw e (nth-last (s .book .rows) (record { id = s .book .next; body = y }));
           id = row-0 ∙ r .book .next;
-          body = opens-body (load ws sh) (load (openW ws sh what b c) sh) (spare (load ws sh)) what b c y (item-same (spare (load ws sh))) row-1 row-2 row-3 p;
+          body = opened-body y p;
         }
 
 -- AN ID IS SPENT
@@ -195,7 +227,7 @@ module _ (ws : List ℕ) (sh : Shape) (s : State) (h : Held ws sh s) where
         rows = rows-all (load (spendW ws sh) sh) (s .book .rows) (λ j y e. let w = row-of (load ws sh) (s .book .rows) (q .rows) j y e in
             rw (spend-sees (index j)) (
               spend-sees (row (load ws sh (index j)) rowId) ∙ w .0,
-              body-kept (load ws sh) (load (spendW ws sh) sh) (load ws sh (index j)) (λ i f. spend-sees (item (load ws sh (index j)) i f)) (λ f. spend-sees (row (load ws sh (index j)) f)) (y .body) (w .1),
+              body-kept (load ws sh) (load (spendW ws sh) sh) (load ws sh (index j)) (λ i f. spend-sees (item (load ws sh (index j)) i f)) (λ f. spend-sees (row (load ws sh (index j)) f)) (λ f d. spend-sees (owner f)) (y .body) (w .1),
             ));
         places = λ j l. rw (spend-sees (index j)) (q .places j l .0, spend-sees (rank (load ws sh (index j))) ∙ q .places j l .1);
         marks = λ d k l mk. let w = q .marks d k l mk in let z : ℕ = slotWord (load ws sh) d k slotPlace in

@@ -11,7 +11,7 @@ use Rattle.model.specs.State.{lastId}
 use Rattle.layout.specs.declared.Shape.{Shape}
 use Rattle.layout.specs.Layout.{Addr.reg, Mem, total, root, index, rank, row, item, load, save, same, same-is, isIn, length-save, load-save-any, Write, Write.at, writes}
 use Rattle.layout.specs.Fields.{rootNextId, rootUsedRows, rowId, rowKind, rowTable, rowLength, itemSlot, itemObject, itemRights, itemFlags}
-use Rattle.layout.specs.Values.{kindReservation}
+use Rattle.layout.specs.Values.{kindReservation, kindPlan}
 use Rattle.layout.specs.RegionNames.{regionRow}
 use Rattle.storage.specs.Ops.{up, vacateW}
 
@@ -50,6 +50,10 @@ kindLink what m sh id = pick (eqb (m (row (rowLink m sh id - 1) rowKind)) what) 
 -- the open reservation with an id: its place plus 1, 0 if there is none
 abbrev pub reservationLink : Mem → Shape → ℕ → ℕ
 reservationLink = kindLink kindReservation
+
+-- the plan with an id
+abbrev pub planLink : Mem → Shape → ℕ → ℕ
+planLink = kindLink kindPlan
 
 -- "Allocation": a row is left
 abbrev pub rowLeft : Mem → Shape → Bool

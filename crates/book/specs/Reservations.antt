@@ -45,7 +45,7 @@ module _ (ws : List ℕ) (sh : Shape) (s : State) (h : Held ws sh s) (w : WellFo
   fits = fits-of s w
 
   table : b < s .tableCount
-  table = found-range s (w .ranges .rows) i (reservation b ks) (at-find sh (load ws sh) s (h .reps .memory) fits x i (reservation b ks) a) .0
+  table = found-range s w i (reservation b ks) (at-find sh (load ws sh) s (h .reps .memory) fits x i (reservation b ks) a) .0
 
   once : (k : ℕ) → occurs k ks ≤ 1
   once = reserved-once sh (load ws sh) s (h .reps .memory) fits (w .marks) x i b ks a

@@ -12,10 +12,10 @@ use Rattle.model.specs.State.{Body, Row, State}
 use Rattle.model.specs.Book.{swapId, swapRow}
 use Rattle.invariant.specs.BookLemmas.{length-swap}
 use Rattle.layout.specs.declared.Shape.{Shape}
-use Rattle.layout.specs.Layout.{Mem, root, index, rank, row, item, load}
+use Rattle.layout.specs.Layout.{Mem, root, owner, index, rank, row, item, load}
 use Rattle.layout.specs.Fields.{rootNextId, rootUsedRows, slotTag, slotPlace, slotPosition, indexPlace, indexRank, rowId, rowTable, rowLength, itemOperation}
 use Rattle.layout.specs.Values.{tagTransferReserved, operationMove}
-use Rattle.layout.specs.RegionNames.{regionRoot, regionIndex, regionRow}
+use Rattle.layout.specs.RegionNames.{regionRoot, regionOwner, regionIndex, regionRow}
 use Rattle.representation.specs.Represents.{slotWord, BodyIs, isMarked, Represents}
 use Rattle.storage.specs.Order.{same?}
 use Rattle.storage.specs.Kept.{body-kept}
@@ -57,6 +57,9 @@ module _ (ws ws′ : List ℕ) (sh : Shape) (s : State) (h : Held ws sh s) (x : 
   root-same : (f : ℕ) → load ws′ sh (root f) ≡ load ws sh (root f)
   root-same f = p .rest regionRoot 0 0 f (λ q z. omega arith)
 
+  owner-same : (f : ℕ) → load ws′ sh (owner f) ≡ load ws sh (owner f)
+  owner-same f = p .rest regionOwner f 0 0 (λ q z. omega arith)
+
   row-off : (z : ℕ) → (z ≡ x → ⊥) → (f : ℕ) → load ws′ sh (row z f) ≡ load ws sh (row z f)
   row-off z ne f = p .rest regionRow z 0 f (λ q e. ne e)
 
@@ -69,7 +72,7 @@ module _ (ws ws′ : List ℕ) (sh : Shape) (s : State) (h : Held ws sh s) (x : 
   -- rows in other places
   rows-off : (i : ℕ) (q : Row) → (load ws sh (index i) ≡ x → ⊥) → RowIs (load ws sh) i q → RowIs (load ws′ sh) i q
   rows-off i q ne w = rw (index-same i)
-      (row-off (load ws sh (index i)) ne rowId ∙ w .0, body-kept (load ws sh) (load ws′ sh) (load ws sh (index i)) (item-off (load ws sh (index i)) ne) (row-off (load ws sh (index i)) ne) (q .body) (w .1))
+      (row-off (load ws sh (index i)) ne rowId ∙ w .0, body-kept (load ws sh) (load ws′ sh) (load ws sh (index i)) (item-off (load ws sh (index i)) ne) (row-off (load ws sh (index i)) ne) (λ f d. owner-same f) (q .body) (w .1))
 
   -- marks that name them
   mark-off : (b k t z j l : ℕ) → (z ≡ x → ⊥) → MarkAt (load ws sh) (s .book .capacity) l b k t z j → MarkAt (load ws′ sh) (s .book .capacity) l b k t z j

@@ -33,7 +33,7 @@ module _ (m n : Mem) (o : OnlyBook m n) where
   book-stays : (b : ℕ) → Stays m n b
   book-stays = all-stay m n off-head off-entry (λ fr j f. o .other regionCell fr j f (λ e. omega arith) (λ e. omega arith) (λ e. omega arith))
 
-  book-pool : PoolSame m n
+  pub book-pool : PoolSame m n
   book-pool = record {
     owners = λ g. o .other regionOwner g 0 0 (λ e. omega arith) (λ e. omega arith) (λ e. omega arith);
     groups = λ i l g. o .other (regionGroup16 + i) g 0 0 (λ e. omega arith) (λ e. omega arith) (λ e. omega arith);

@@ -4,7 +4,7 @@ ghost use mathlib.Core.Path.{_≡_};
 ghost use Prim.Native.Nat.{ℕ, _-_, min};
 ghost use Rattle.layout.specs.Layout.{load as loadAt};
 ghost use Rattle.layout.specs.Sizes.{batchMax};
-ghost use Rattle.book.specs.Ops.{linkFrom, likelyLink, rowLink, reservationLink, rowLeft, idRefusal, spare, openW, handleW, shiftW, closeW, shrinkW, vacateItemsW, spendW};
+ghost use Rattle.book.specs.Ops.{linkFrom, likelyLink, rowLink, kindLink, reservationLink, planLink, rowLeft, idRefusal, spare, openW, handleW, shiftW, closeW, shrinkW, vacateItemsW, spendW};
 use codec::ReservationId;
 use layout::Shape;
 use layout::field;
@@ -68,18 +68,32 @@ pub fn row_of(s: &[u64], sh: Shape, id: u64) -> u64
     link
 }
 
-// The place of the open reservation with an id, plus 1; 0 if there is none.
-pub fn reservation_of(s: &[u64], sh: Shape, id: ReservationId) -> u64
-    ensures { λ r. ⌜ r ≡ reservationLink (loadAt (now (s .entry)) sh) sh (id .0) ⌝ }
+// The place of the row of a kind with an id, plus 1; 0 if there is none.
+fn kind_of(s: &[u64], sh: Shape, id: ReservationId, what: u64) -> u64
+    ensures { λ r. ⌜ r ≡ kindLink what (loadAt (now (s .entry)) sh) sh (id .0) ⌝ }
 {
     let link = row_of(s, sh, id.0);
     if words::eq(
         layout::row_word(s, sh, words::dec(link), field::ROW_KIND),
-        value::KIND_RESERVATION,
+        what,
     ) {
         return link;
     }
     0
+}
+
+// So of the open reservation with an id.
+pub fn reservation_of(s: &[u64], sh: Shape, id: ReservationId) -> u64
+    ensures { λ r. ⌜ r ≡ reservationLink (loadAt (now (s .entry)) sh) sh (id .0) ⌝ }
+{
+    kind_of(s, sh, id, value::KIND_RESERVATION)
+}
+
+// And of the plan with an id.
+pub fn plan_of(s: &[u64], sh: Shape, id: ReservationId) -> u64
+    ensures { λ r. ⌜ r ≡ planLink (loadAt (now (s .entry)) sh) sh (id .0) ⌝ }
+{
+    kind_of(s, sh, id, value::KIND_PLAN)
 }
 
 // Whether a row is left.
@@ -110,7 +124,7 @@ pub fn spare_place(s: &[u64], sh: Shape) -> u64
     layout::index_word(s, sh, used)
 }
 
-// A row opens under the next id: 1 a reservation, 2 a claim of table b, 3 a parcel; n items, which stand in its place already.
+// A row opens under the next id: 1 a reservation, 2 a claim of table b, 3 a parcel, 4 a plan; n items, which stand in its place already, as a plan's further words do.
 pub fn open_row(s: &mut [u64], sh: Shape, what: u64, b: u64, n: u64)
     ensures words { λ _. ⌜ now (s .exit) ≡ openW (now (s .entry)) sh what b n ⌝ }
 {

@@ -13,8 +13,9 @@ use Rattle.model.specs.WellFormed.{Frames}
 use Rattle.model.specs.Tests.{apart}
 use Rattle.invariant.specs.Orders.{Sound}
 use Rattle.layout.specs.declared.Shape.{Shape}
-use Rattle.layout.specs.Layout.{Addr.reg, Mem, total, head, entry, load}
+use Rattle.layout.specs.Layout.{Addr.reg, Mem, total, head, entry, owner, load}
 use Rattle.layout.specs.Fields.{headFirstEntry, slotTag, slotPlace, slotPosition, rowId}
+use Rattle.layout.specs.Sizes.{planOwner}
 use Rattle.layout.specs.RegionNames.{regionRoot, regionHead, regionEntry, regionOwner, regionGroup16, regionGroup4096, regionCell}
 use Rattle.representation.specs.Represents.{slotWord, linkOf, TableIs, isMarked}
 use Rattle.storage.specs.Order.{same?}
@@ -23,7 +24,7 @@ use Rattle.storage.specs.Slots.{see, unsee}
 use Rattle.storage.specs.Kept.{all-stay, slot-kept, PoolSame, RowsStay, rows-stay, MarkIs, mark-kept}
 use Rattle.storage.specs.Reps.{Held}
 use Rattle.storage.specs.Ops.{up}
-use Rattle.frames.specs.Paged.{Has, OnlyPaged, own-alone, paged-first}
+use Rattle.frames.specs.Paged.{Has, OnlyPaged, own-alone, paged-first, paged-plans, owner-low}
 use Rattle.frames.specs.Whole.{paged, placed-paged, held-paged}
 use Rattle.frames.specs.Pool.{Pooled}
 use Rattle.frames.specs.Frames.{framesAre-given, frames-few}
@@ -33,10 +34,10 @@ use Rattle.frames.specs.Words.{pooled-between, OnlyPool, paged-pool, Ste
 -- ---- the pool's words are no table's
 
 module _ (f : ℕ) (m n : Mem) (o : OnlyPool f m n) where
-  pool-off : (k x y g : ℕ) → (k ≡ regionOwner → ⊥) → (regionGroup16 ≤ k → k ≤ regionGroup4096 → ⊥) → (k ≡ regionRoot → ⊥) → n (reg k x y g) ≡ m (reg k x y g)
+  pub pool-off : (k x y g : ℕ) → (k ≡ regionOwner → ⊥) → (regionGroup16 ≤ k → k ≤ regionGroup4096 → ⊥) → (k ≡ regionRoot → ⊥) → n (reg k x y g) ≡ m (reg k x y g)
   pool-off k x y g a b c = o (reg k x y g) (⊎-elim (λ i. a (i .0)) (⊎-elim (λ i. b (i .0) (i .1)) (λ i. c (i .0))))
 
-  pool-head : (b g : ℕ) → n (head b g) ≡ m (head b g)
+  pub pool-head : (b g : ℕ) → n (head b g) ≡ m (head b g)
   pool-head b g = pool-off regionHead b 0 g (λ e. omega arith) (λ e d. omega arith) (λ e. omega arith)
 
   pool-entry : (x g : ℕ) → n (entry x g) ≡ m (entry x g)
@@ -45,7 +46,7 @@ module _ (f : ℕ) (m n : Mem) (o : OnlyPool f m n) where
   pool-slot : (b k g : ℕ) → slotWord n b k g ≡ slotWord m b k g
   pool-slot b = slot-kept m n b (all-stay m n pool-head pool-entry (λ x j g. pool-off regionCell x j g (λ e. omega arith) (λ e d. omega arith) (λ e. omega arith)) b)
 
-  pool-rows : RowsStay m n
+  pub pool-rows : RowsStay m n
   pool-rows = rows-stay m n (λ k x y g l. pool-off k x y g (λ e. omega arith) (λ e d. omega arith) (λ e. omega arith))
 
   pub pool-look : (b : ℕ) → look n b ≡ look m b
@@ -85,12 +86,14 @@ module _ (ws ws₁ : List ℕ) (sh : Shape) (s : State) (h : Held ws sh s) (w : 
       let t : TableIs (load ws sh) b (s .tables b) = r .tables b lb in
       let has : Has (load ws sh) b f = (p, omega (arith, t .size), t .frame p lp ∙ ap linkOf was) in
       let below : f < s .frameCount = h .placed .frames b p f lb lp was in
+      let low : load ws sh (owner f) < planOwner
+      = omega (arith, r .frames .held b p f lb lp was, owner-low sh (load ws sh) s r (h .placed) (h .reps .shaped .limits) b p lb (omega (arith, h .placed .sound b lb .size))) in
       let ws₂ : List ℕ = giveFrameW ws₁ sh f in
       let st : Steps up ws₁ ws₂ sh f 0 = give-steps ws₁ sh room f (omega (arith, below, r .frameCount)) in
       let only : OnlyPaged b f (load ws sh) (load ws₂ sh) = paged-pool b f (load ws sh) (load ws₁ sh) (load ws₂ sh) o (st .only) in
       let pool : Pooled up (load ws sh) (load ws₂ sh) f 0 = pooled-between up (load ws sh) (load ws₁ sh) (load ws₂ sh) (load ws₂ sh) f 0 same (pool-same (load ws₂ sh)) (st .pool) in
       held-paged ws ws₂ sh s h b lb f (own-alone sh (load ws sh) s r (h .placed) b f lb has) (st .long ∙ long)
-      only u (pool-table f (load ws₁ sh) (load ws₂ sh) (st .only) b u now) lim (insert f (s .frames))
+      only u (pool-table f (load ws₁ sh) (load ws₂ sh) (st .only) b u now) lim (paged-plans b f (load ws sh) (load ws₂ sh) only low (length (s .book .rows))) (insert f (s .frames))
       (framesAre-given (load ws sh) (load ws₂ sh) s b p f u (paged-first b f (load ws sh) (load ws₂ sh) only) others sh r (h .placed) lb lp was
       (omega (arith, frames-few s w, r .frameCount, h .reps .shaped .limits .few-frames)) pool gone size)
       (placed-paged s b u (insert f (s .frames)) (h .placed) sound (λ q g i d. ⊎-elim

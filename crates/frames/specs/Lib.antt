@@ -6,3 +6,4 @@ pub mod Ops
 pub mod Words
 pub mod Lowest
 pub mod Done
+pub mod Apart

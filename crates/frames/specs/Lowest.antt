@@ -1,25 +1,26 @@
 -- The lowest free frame is found: the first of the list of free frames. Assumes nothing.
 use mathlib.Core.Path.{_≡_, refl, sym, ap, _∙_}
 use mathlib.Core.Bool.{true, false}
-use mathlib.Core.List.{List, _∷_}
+use mathlib.Core.List.{List, [], _∷_}
 use mathlib.Core.Option.{Option, none, some}
 use Prim.Native.Nat.{ℕ, suc, _+_, _*_, _/_, _≤_, _<_}
 use native.Mathlib.Omega.{arith}
 use native.Mathlib.Nat.{div-add-mod', mul-le-mul-right}
-use lib.Dec.{ltb}
-use borrow.Author.Tests.{eq-eqb, ne-eqb, eqb-true, lt-ltb}
-use Rattle.words.specs.Pick.{clash}
+use lib.Dec.{eqb, ltb}
+use borrow.Author.Tests.{eq-eqb, ne-eqb, eqb-true, lt-ltb, ltb-true, ltb-false}
+use Rattle.words.specs.Pick.{bool, clash}
 use Rattle.model.specs.Base.{bit, occurs, sum, isSome}
-use Rattle.model.specs.State.{Sizes, State}
-use Rattle.model.specs.WellFormed.{Rising, isFrame, Frames}
+use Rattle.model.specs.State.{Sizes, Body, Body.reservation, Body.claim, Body.parcel, Body.plan, Row, State}
+use Rattle.model.specs.WellFormed.{Rising, isFrame, pagesWith, framesIn, plansWith, Frames}
 use Rattle.model.specs.Sums.{sum-zero}
 use Rattle.model.specs.Tests.{bit-true}
 use Rattle.model.specs.Counting.{bit-same, sum-some}
 use Rattle.invariant.specs.Orders.{attached-below}
 use Rattle.layout.specs.declared.Shape.{Shape}
-use Rattle.layout.specs.Layout.{Mem, owner, group, load}
+use Rattle.layout.specs.Layout.{Mem, owner, group, index, load}
+use Rattle.layout.specs.Sizes.{planOwner}
 use Rattle.layout.specs.RegionNames.{regionOwner, regionGroup16}
-use Rattle.representation.specs.Represents.{FramesAre}
+use Rattle.representation.specs.Represents.{HeldIs, Items, BodyIs, RowsAre, Represents}
 use Rattle.representation.specs.Unique.{rising-above}
 use Rattle.storage.specs.Order.{occurs-head}
 use Rattle.storage.specs.Whole.{Placed}
@@ -73,24 +74,54 @@ frame-some : (x : Option ℕ) (f : ℕ) → isFrame x f ≡ true → x ≡ some 
 frame-some none f e = clash e refl
 frame-some (some g) f e = ap some (sym (eqb-true f g e))
 
-module _ {z : Sizes} (m : Mem) (s : State) (r : FramesAre m s) (pl : Placed z s) where
+-- the owner word of a frame that a plan holds names the plan's place
+pub held-owner : (m : Mem) (x j : ℕ) (fs : List ℕ) → Items (HeldIs m x) j fs → (f : ℕ) → 0 < occurs f fs → m (owner f) ≡ planOwner + x
+held-owner m x j [] p f h = absurd (omega arith)
+held-owner m x j (g ∷ fs) p f h = bool (eqb f g)
+    (λ e. rw (eqb-true f g e) (p .0 .1))
+    (λ e. let i : 0 < 0 + occurs f fs = rw e at h in held-owner m x (suc j) fs (p .1) f (omega arith))
+
+body-owner : (m : Mem) (x : ℕ) (b : Body) → BodyIs m x b → (f : ℕ) → 0 < occurs f (framesIn b) → m (owner f) ≡ planOwner + x
+body-owner m x (reservation b ks) p f h = absurd (omega arith)
+body-owner m x (claim b es) p f h = absurd (omega arith)
+body-owner m x (parcel hs) p f h = absurd (omega arith)
+body-owner m x (plan b n w fs) p f h = held-owner m x 0 fs (p .held) f h
+
+rows-owner : (m : Mem) (i : ℕ) (rs : List Row) → RowsAre m i rs → (f : ℕ) → 0 < plansWith rs f → 0 < m (owner f)
+rows-owner m i [] p f h = absurd (omega arith)
+rows-owner m i (r ∷ rs) p f h = bool (ltb 0 (occurs f (framesIn (r .body))))
+    (λ e. omega (arith, body-owner m (m (index i)) (r .body) (p .1) f (ltb-true 0 (occurs f (framesIn (r .body))) e)))
+    (λ e. rows-owner m (suc i) rs (p .2) f (omega (arith, ltb-false 0 (occurs f (framesIn (r .body))) e)))
+
+module _ {z : Sizes} (sh : Shape) (m : Mem) (s : State) (r : Represents sh m s) (pl : Placed z s) where
   -- a frame that a page has has an owner
   page-owner : (f b p : ℕ) → b < s .tableCount → isFrame (s .tables b .pages p .frame) f ≡ true → 0 < m (owner f)
   page-owner f b p l h =
       let e : s .tables b .pages p .frame ≡ some f = frame-some (s .tables b .pages p .frame) f h in
-      omega (arith, r .held b p f l (attached-below z (s .tables b) (s .tables b .free) (pl .sound b l) p (ap isSome {x = s .tables b .pages p .frame} e)) e)
+      omega (arith, r .frames .held b p f l (attached-below z (s .tables b) (s .tables b .free) (pl .sound b l) p (ap isSome {x = s .tables b .pages p .frame} e)) e)
 
-  -- so has every frame that is not free
-  pub owned-of : Frames s → (f : ℕ) → f < s .frameCount → occurs f (s .frames) ≡ 0 → 0 < m (owner f)
+  -- so has every frame that is not free: a page or a plan has it
+  owned-of : Frames s → (f : ℕ) → f < s .frameCount → occurs f (s .frames) ≡ 0 → 0 < m (owner f)
   owned-of w f l out =
       let one : bit (ltb f (s .frameCount)) ≡ 1 = ap bit (lt-ltb f (s .frameCount) l) in
-      let b = sum-some (s .tableCount) (λ c. sum (s .tables c .limit) λ p. bit (isFrame (s .tables c .pages p .frame) f)) (omega (arith, w .once f)) in
+      bool (ltb 0 (pagesWith s f))
+      (λ y. let b = sum-some (s .tableCount) (λ c. sum (s .tables c .limit) λ p. bit (isFrame (s .tables c .pages p .frame) f)) (ltb-true 0 (pagesWith s f) y) in
       let p = sum-some (s .tables (b .0) .limit) (λ p. bit (isFrame (s .tables (b .0) .pages p .frame) f)) (b .2) in
-      page-owner f (b .0) (p .0) (b .1) (bit-true (isFrame (s .tables (b .0) .pages (p .0) .frame) f) (p .2))
+      page-owner f (b .0) (p .0) (b .1) (bit-true (isFrame (s .tables (b .0) .pages (p .0) .frame) f) (p .2)))
+      (λ y. rows-owner m 0 (s .book .rows) (r .book .rows) f (omega (arith, w .once f, ltb-false 0 (pagesWith s f) y)))
+
+-- the free frames are some of the frames and rise, and every other frame has an owner
+pub record Owners (m : Mem) (s : State) : Type 0 where
+  pub rising : Rising (s .frames)
+  pub below : (f : ℕ) → 0 < occurs f (s .frames) → f < s .frameCount
+  pub owned : (f : ℕ) → f < s .frameCount → occurs f (s .frames) ≡ 0 → 0 < m (owner f)
+
+pub owners-of : (ws : List ℕ) (sh : Shape) (s : State) → Held ws sh s → Frames s → Owners (load ws sh) s
+owners-of ws sh s h w = record { rising = w .rising; below = free-below s w; owned = owned-of sh (load ws sh) s (h .reps .memory) (h .placed) w }
 
 -- THE LOWEST FREE FRAME of a state that words represent
-pub lowest-free : (ws : List ℕ) (sh : Shape) (s : State) → Held ws sh s → Frames s → (f : ℕ) (fs : List ℕ) → s .frames ≡ f ∷ fs → lowestAt (load ws sh) ≡ f
+pub lowest-free : (ws : List ℕ) (sh : Shape) (s : State) → Held ws sh s → Owners (load ws sh) s → (f : ℕ) (fs : List ℕ) → s .frames ≡ f ∷ fs → lowestAt (load ws sh) ≡ f
 lowest-free ws sh s h w f fs e = let r = h .reps .memory in
-    lowest-is (load ws sh) (s .frameCount) f fs (rw e at (counted-of (load ws sh) s (r .frames))) (rw e at (w .rising)) (free-below s w f (rw e (occurs-head f fs)))
+    lowest-is (load ws sh) (s .frameCount) f fs (rw e at (counted-of (load ws sh) s (r .frames))) (rw e at (w .rising)) (w .below f (rw e (occurs-head f fs)))
     (omega (arith, r .frameCount, h .reps .shaped .limits .few-frames))
-    (λ g l o. owned-of (load ws sh) s (r .frames) (h .placed) w g l (rw e o))
+    (λ g l o. w .owned g l (rw e o))

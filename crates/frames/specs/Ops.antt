@@ -26,19 +26,19 @@ poolP f o a b c n = at (owner f) o ∷ at (group 0 (f / 16)) a ∷ at (group 1 (
 abbrev pub stepP : (ℕ → ℕ) → Mem → ℕ → ℕ → List Write
 stepP step m f o = poolP f o (step (m (group 0 (f / 16)))) (step (m (group 1 (f / 256)))) (step (m (group 2 (f / 4096)))) (step (m (root rootFreeFrames)))
 
--- frame f is taken for page entry e
+-- frame f is taken, and o is its owner word
 unfoldable pub takeFrameW : List ℕ → Shape → ℕ → ℕ → List ℕ
-takeFrameW ws sh f e = writes ws sh (stepP down (load ws sh) f (up e))
+takeFrameW ws sh f o = writes ws sh (stepP down (load ws sh) f o)
 
 -- frame f is given back
 unfoldable pub giveFrameW : List ℕ → Shape → ℕ → List ℕ
 giveFrameW ws sh f = writes ws sh (stepP up (load ws sh) f 0)
 
 -- the code's stores
-pub take-is : (ws vs : List ℕ) (sh : Shape) (f e o a₀ b₀ c₀ n₀ a b c n : ℕ) → o ≡ up e → a₀ ≡ load ws sh (group 0 (f / 16)) → b₀ ≡ load ws sh (group 1 (f / 256))
-    → c₀ ≡ load ws sh (group 2 (f / 4096)) → n₀ ≡ load ws sh (root rootFreeFrames) → a ≡ a₀ - 1 → b ≡ b₀ - 1 → c ≡ c₀ - 1 → n ≡ n₀ - 1 → vs ≡ writes ws sh (poolP f o a b c n) → vs ≡ takeFrameW ws sh f e
+pub take-is : (ws vs : List ℕ) (sh : Shape) (f o a₀ b₀ c₀ n₀ a b c n : ℕ) → a₀ ≡ load ws sh (group 0 (f / 16)) → b₀ ≡ load ws sh (group 1 (f / 256))
+    → c₀ ≡ load ws sh (group 2 (f / 4096)) → n₀ ≡ load ws sh (root rootFreeFrames) → a ≡ a₀ - 1 → b ≡ b₀ - 1 → c ≡ c₀ - 1 → n ≡ n₀ - 1 → vs ≡ writes ws sh (poolP f o a b c n) → vs ≡ takeFrameW ws sh f o
 unfolding takeFrameW
-take-is ws vs sh f e o a₀ b₀ c₀ n₀ a b c n p p₀ p₁ p₂ p₃ q₀ q₁ q₂ q₃ w = rw (w, q₃, q₂, q₁, q₀, p₃, p₂, p₁, p₀, p)
+take-is ws vs sh f o a₀ b₀ c₀ n₀ a b c n p₀ p₁ p₂ p₃ q₀ q₁ q₂ q₃ w = rw (w, q₃, q₂, q₁, q₀, p₃, p₂, p₁, p₀)
 
 pub give-is : (ws vs : List ℕ) (sh : Shape) (f a₀ b₀ c₀ n₀ a b c n : ℕ) → a₀ ≡ load ws sh (group 0 (f / 16)) → b₀ ≡ load ws sh (group 1 (f / 256))
     → c₀ ≡ load ws sh (group 2 (f / 4096)) → n₀ ≡ load ws sh (root rootFreeFrames) → a ≡ up a₀ → b ≡ up b₀ → c ≡ up c₀ → n ≡ up n₀ → vs ≡ writes ws sh (poolP f 0 a b c n) → vs ≡ giveFrameW ws sh f

@@ -1,5 +1,5 @@
 -- A change of one table's pages, in the state: every other table, the objects and the rows are as they were. Assumes nothing.
-use mathlib.Core.Path.{_≡_, refl, sym, _∙_}
+use mathlib.Core.Path.{_≡_, refl, sym, ap, _∙_}
 use mathlib.Core.Logic.{_⊎_, inl, inr, ⊎-elim}
 use Prim.Native.Nat.{ℕ, suc, _+_, _-_, _≤_, _<_}
 use native.Mathlib.Omega.{arith}
@@ -9,12 +9,14 @@ use Rattle.model.specs.State.{till, State}
 use Rattle.model.specs.Counting.{sum-next, runs-apart}
 use Rattle.layout.specs.declared.Shape.{Shape}
 use Rattle.layout.specs.Layout.{Addr, Addr.reg, Mem, root, head, entry, owner, cell, same, same-is, Write.at, upd}
+use Rattle.layout.specs.ShapeOf.{Permitted}
 use Rattle.layout.specs.Fields.{rootFreeFrames, headPageLimit, headCursor, headPages, headFirstDetached, headFirstEntry, entryFrame, slotPlace, rowId}
+use Rattle.layout.specs.Sizes.{planOwner}
 use Rattle.layout.specs.RegionNames.{regionRoot, regionHead, regionEntry, regionOwner, regionGroup16, regionGroup4096, regionCell, regionObject}
 use Rattle.representation.specs.Represents.{entryAt, slotWord, TableIs, Represents}
 use Rattle.representation.specs.Told.{link-some}
 use Rattle.storage.specs.Sight.{OnlyTable}
-use Rattle.storage.specs.Kept.{Stays, slot-kept, sound-kept, RowsStay, rows-stay}
+use Rattle.storage.specs.Kept.{Stays, slot-kept, sound-kept, RowsStay, rows-stay, PlansStay}
 use Rattle.storage.specs.Whole.{Placed}
 
 -- a page of table b has the frame x
@@ -73,6 +75,11 @@ module _ (b fr : ℕ) (m n : Mem) (o : OnlyPaged b fr m n) where
   pub paged-rows : RowsStay m n
   paged-rows = rows-stay m n (λ k x y f l. paged-high k x y f (omega arith))
 
+  -- the owner words that name rows, where the frame's is below them: its frame is free or a page's
+  pub paged-plans : m (owner fr) < planOwner → (c : ℕ) → PlansStay m n c
+  paged-plans low c i l f e = o (owner f) (outside m b fr regionOwner f 0 0 (λ d q. omega arith) (λ d q s t. omega arith) (λ d q s. omega arith)
+      (λ d (q : f ≡ fr). let y : m (owner f) ≡ m (owner fr) = ap (λ (x : ℕ). m (owner x)) q in omega arith) (λ d q. omega arith) (λ d q. omega arith))
+
   -- a change of the table as it stands in n, whose frames are fr and those that it had
   pub paged-table : (l : Mem) → OnlyTable b n l → n (head b headPages) ≤ m (head b headPageLimit) → ((x : ℕ) → Has n b x → (x ≡ fr) ⊎ Has m b x) → OnlyPaged b fr m l
   paged-table l t s h (reg k x y f) i = t (reg k x y f) (⊎-elim
@@ -96,6 +103,10 @@ module _ (sh : Shape) (m : Mem) (s : State) (r : Represents sh m s) (pl : Placed
   -- and they are entries
   pub entry-below : (b p : ℕ) → b < s .tableCount → p < s .tables b .limit → entryAt m b p < sh .pages
   entry-below b p l h = omega (arith, r .first b l, r .pageCount, sum-next (s .tableCount) (λ x. s .tables x .limit) b l)
+
+  -- so that their owner words are below those that name rows
+  pub owner-low : Permitted sh → (b p : ℕ) → b < s .tableCount → p < s .tables b .limit → suc (entryAt m b p) < planOwner
+  owner-low lim b p l h = omega (arith, entry-below b p l h, lim .few-pages, lim .few-tables)
 
   -- a frame of table b, by the words
   pub has-owner : (b x : ℕ) → b < s .tableCount → (h : Has m b x) → m (owner x) ≡ suc (entryAt m b (h .0))

@@ -20,7 +20,7 @@ use Rattle.layout.specs.ShapeOf.{roots-kept}
 use Rattle.layout.specs.Fields.{rootNextId, rootUsedRows, slotTag, slotPlace, slotPosition}
 use Rattle.layout.specs.RegionNames.{regionObject}
 use Rattle.representation.specs.Represents.{slotWord, TableIs, FramesAre, isMarked, Represents}
-use Rattle.storage.specs.Kept.{object-kept, MarkIs, mark-kept, book-kept}
+use Rattle.storage.specs.Kept.{object-kept, PlansStay, MarkIs, mark-kept, book-kept}
 use Rattle.storage.specs.Whole.{Placed, put-like}
 use Rattle.storage.specs.Reps.{Held}
 use Rattle.frames.specs.Paged.{OnlyPaged, Alone, paged-root, paged-first, paged-high, paged-rows, other-slot, other-table}
@@ -35,7 +35,8 @@ abbrev pub paged : State → ℕ → Table → List ℕ → State
 paged s b u fs = withFrames (withTable s b u) fs
 
 module _ (sh : Shape) (m : Mem) (s : State) (r : Represents sh m s) (pl : Placed till s) (b : ℕ) (lb : b < s .tableCount) (fr : ℕ) (alone : Alone m s b fr)
-    (n : Mem) (o : OnlyPaged b fr m n) (u : Table) (now : TableIs n b u) (lim : u .limit ≡ s .tables b .limit) where
+    (n : Mem) (o : OnlyPaged b fr m n) (u : Table) (now : TableIs n b u) (lim : u .limit ≡ s .tables b .limit)
+    (plans : PlansStay m n (length (s .book .rows))) where
   -- THE STATE WITH THE TABLE AND THE FREE FRAMES: the marks of table b are the operation's to show
   pub with-paged : (fs : List ℕ) → FramesAre n (paged s b u fs) → ((k : ℕ) → isMarked (u .slots k) ≡ true → MarkIs n s b k) → Represents sh n (paged s b u fs)
   with-paged fs frames marked = record {
@@ -52,7 +53,7 @@ module _ (sh : Shape) (m : Mem) (s : State) (r : Represents sh m s) (pl : Placed
         (λ e. rw e (other-table sh m s r pl b lb fr alone n o c l (eqb-false c b e)));
     frames = frames;
     objects = λ x l. object-kept m n x (s .objects x) (λ f. paged-high b fr m n o regionObject x 0 f (omega arith)) (r .objects x l);
-    book = book-kept m n (paged-rows b fr m n o) s (paged s b u fs) refl (paged-root b fr m n o rootNextId (λ e. omega arith)) (paged-root b fr m n o rootUsedRows (λ e. omega arith))
+    book = book-kept m n (paged-rows b fr m n o) s (paged s b u fs) refl (paged-root b fr m n o rootNextId (λ e. omega arith)) (paged-root b fr m n o rootUsedRows (λ e. omega arith)) plans
         (λ c k l h. bool (eqb c b)
         (λ e. rw (eqb-true c b e) (marked k (rw e at h)))
         (λ e. let w : (f : ℕ) → slotWord n c k f ≡ slotWord m c k f = other-slot sh m s r pl b lb fr alone n o c l (eqb-false c b e) k in
@@ -80,7 +81,7 @@ placed-paged s b u fs p o h = record {
 -- WORDS that represent a state come to represent the state with the table and the free frames
 module _ (ws ws′ : List ℕ) (sh : Shape) (s : State) (h : Held ws sh s) (b : ℕ) (lb : b < s .tableCount) (fr : ℕ) (alone : Alone (load ws sh) s b fr)
     (long : length ws′ ≡ length ws) (o : OnlyPaged b fr (load ws sh) (load ws′ sh)) (u : Table) (now : TableIs (load ws′ sh) b u) (lim : u .limit ≡ s .tables b .limit)
-    (fs : List ℕ) (frames : FramesAre (load ws′ sh) (paged s b u fs)) (pl : Placed till (paged s b u fs)) where
+    (plans : PlansStay (load ws sh) (load ws′ sh) (length (s .book .rows))) (fs : List ℕ) (frames : FramesAre (load ws′ sh) (paged s b u fs)) (pl : Placed till (paged s b u fs)) where
   held-by : Represents sh (load ws′ sh) (paged s b u fs) → Held ws′ sh (paged s b u fs)
   held-by i = record {
     reps = record {
@@ -95,10 +96,10 @@ module _ (ws ws′ : List ℕ) (sh : Shape) (s : State) (h : Held ws sh s) (b : 
   }
 
   pub held-paged : ((k : ℕ) → isMarked (u .slots k) ≡ true → MarkIs (load ws′ sh) s b k) → Held ws′ sh (paged s b u fs)
-  held-paged marked = held-by (with-paged sh (load ws sh) s (h .reps .memory) (h .placed) b lb fr alone (load ws′ sh) o u now lim fs frames marked)
+  held-paged marked = held-by (with-paged sh (load ws sh) s (h .reps .memory) (h .placed) b lb fr alone (load ws′ sh) o u now lim plans fs frames marked)
 
   -- marks that were there, on slots whose words stay
   pub held-paged-marks : ((k : ℕ) → isMarked (u .slots k) ≡ true
       → (isMarked (s .tables b .slots k) ≡ true) × (slotWord (load ws′ sh) b k slotTag ≡ slotWord (load ws sh) b k slotTag) × (slotWord (load ws′ sh) b k slotPlace ≡ slotWord (load ws sh) b k slotPlace)
       × (slotWord (load ws′ sh) b k slotPosition ≡ slotWord (load ws sh) b k slotPosition)) → Held ws′ sh (paged s b u fs)
-  held-paged-marks marked = held-by (with-paged-marks sh (load ws sh) s (h .reps .memory) (h .placed) b lb fr alone (load ws′ sh) o u now lim fs frames marked)
+  held-paged-marks marked = held-by (with-paged-marks sh (load ws sh) s (h .reps .memory) (h .placed) b lb fr alone (load ws′ sh) o u now lim plans fs frames marked)

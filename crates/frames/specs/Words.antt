@@ -84,17 +84,16 @@ pub record Steps (step : ℕ → ℕ) (ws ws′ : List ℕ) (sh : Shape) (f o : 
   pub pool : Pooled step (load ws sh) (load ws′ sh) f o
 
 module _ (ws : List ℕ) (sh : Shape) (room : total sh ≤ length ws) (f : ℕ) (l : f < sh .frames) where
-  -- TAKEN for page entry e
-  pub take-steps : (e : ℕ) → e < 0xffff_ffff_ffff_ffff → Steps down ws (takeFrameW ws sh f e) sh f (suc e)
+  -- TAKEN, with the owner word o
+  pub take-steps : (o : ℕ) → Steps down ws (takeFrameW ws sh f o) sh f o
   unfolding takeFrameW
-  take-steps e h =
-      let w = load-writes ws sh room (stepP down (load ws sh) f (up e)) (plan-in down (load ws sh) f (up e) sh l) in
-      let d : suc e ≡ up e = omega arith in
-      rw d (record {
-        long = length-writes ws sh (stepP down (load ws sh) f (up e));
-        only = rw w (only-plan down (load ws sh) f (up e));
-        pool = rw w (pooled-plan down (load ws sh) f (up e));
-      })
+  take-steps o =
+      let w = load-writes ws sh room (stepP down (load ws sh) f o) (plan-in down (load ws sh) f o sh l) in
+      record {
+        long = length-writes ws sh (stepP down (load ws sh) f o);
+        only = rw w (only-plan down (load ws sh) f o);
+        pool = rw w (pooled-plan down (load ws sh) f o);
+      }
 
   -- GIVEN BACK
   pub give-steps : Steps up ws (giveFrameW ws sh f) sh f 0

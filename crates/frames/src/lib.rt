@@ -1,4 +1,4 @@
-// The pool of frames over the state's words: the lowest free frame, a frame taken for a page, a frame given back.
+// The pool of frames over the state's words: the lowest free frame, a frame taken for a page or for a plan, a frame given back.
 ghost use mathlib.Core.Path.{_≡_};
 ghost use Prim.Native.Nat.{_+_, _≤_};
 ghost use Rattle.layout.specs.Layout.{load as loadAt, writes};
@@ -55,11 +55,10 @@ fn put_pool(s: &mut [u64], sh: Shape, f: u64, o: u64, a: u64, b: u64, c: u64, n:
     layout::put_root(s, sh, field::ROOT_FREE_FRAMES, n);
 }
 
-// Frame f is taken for page entry e.
-pub fn take_frame(s: &mut [u64], sh: Shape, f: u64, e: u64)
-    ensures words { λ _. ⌜ now (s .exit) ≡ takeFrameW (now (s .entry)) sh f e ⌝ }
+// Frame f is taken, and o is its owner word.
+pub fn take_frame(s: &mut [u64], sh: Shape, f: u64, o: u64)
+    ensures words { λ _. ⌜ now (s .exit) ≡ takeFrameW (now (s .entry)) sh f o ⌝ }
 {
-    let o = words::inc(e);
     let a = words::dec(layout::load(s, sh, layout::region::REGION_GROUP_16, f / 16, 0, 0));
     let b = words::dec(layout::load(s, sh, layout::region::REGION_GROUP_256, f / 256, 0, 0));
     let c = words::dec(layout::load(s, sh, layout::region::REGION_GROUP_4096, f / 4096, 0, 0));

@@ -1,4 +1,4 @@
--- A page is attached in the lowest free frame: the words come to represent the model's state after it. Assumes nothing.
+-- A page is attached in a free frame: the words come to represent the model's state after it. Assumes nothing.
 use mathlib.Core.Path.{_≡_, refl, sym, ap, _∙_}
 use mathlib.Core.Bool.{true, _&&_}
 use mathlib.Core.Logic.{_⊎_}
@@ -36,7 +36,7 @@ use Rattle.frames.specs.Ops.{stepP, takeFrameW}
 use Rattle.storage.specs.Kept.{PoolSame}
 use Rattle.storage.specs.Whole.{Placed}
 use Rattle.storage.specs.Reps.{Held, ready-of}
-use Rattle.frames.specs.Paged.{OnlyPaged, has-owner, free-alone, paged-first, paged-rows}
+use Rattle.frames.specs.Paged.{OnlyPaged, has-owner, free-alone, paged-first, paged-rows, paged-plans}
 use Rattle.frames.specs.Whole.{paged, placed-paged, held-paged-marks}
 use Rattle.frames.specs.Pool.{Pooled, down, Taken}
 use Rattle.frames.specs.Frames.{framesAre-taken, taken-there, free-below, some-is}
@@ -95,7 +95,8 @@ module _ (ws : List ℕ) (sh : Shape) (s : State) (h : Held ws sh s) (b : ℕ) (
 
   steps : Steps down (joinedW ws sh b p f) (attachW ws sh b p f) sh f (suc (entryAt (load ws sh) b p))
   unfolding attachW
-  steps = rw (entry-is) (take-steps (joinedW ws sh b p f) sh (omega (arith, length-joined ws sh b p f, h .reps .shaped .room)) f (ripe .frame) (entryAt (load ws sh) b p) entry-low)
+  steps = let d : up (entryAt (load ws sh) b p) ≡ suc (entryAt (load ws sh) b p) = omega (arith, entry-low) in
+      rw (entry-is, d) (take-steps (joinedW ws sh b p f) sh (omega (arith, length-joined ws sh b p f, h .reps .shaped .room)) f (ripe .frame) (suc (entryAt (load ws sh) b p)))
 
   only₁ : OnlyPaged b f (load ws sh) (load (joinedW ws sh b p f) sh)
   only₁ = rw (load-joined ws sh b (s .tables b) p f ripe) (only-joined ws sh b (s .tables b) p f ripe)
@@ -173,4 +174,5 @@ module _ (ws : List ℕ) (sh : Shape) (s : State) (h : Held ws sh s) (b : ℕ) (
   -- ATTACH
   pub attach-held : Held (attachW ws sh b p f) sh (withFrames (withTable s b (attach till (s .tables b) p f)) fs)
   attach-held = held-paged-marks ws (attachW ws sh b p f) sh s h b l f (free-alone sh (load ws sh) s (h .reps .memory) (h .placed) b f free-here)
-      (length-attach ws sh b p f) only (attach till (s .tables b) p f) table-is (unfold attach in refl) fs frames-are placed marks
+      (length-attach ws sh b p f) only (attach till (s .tables b) p f) table-is (unfold attach in refl)
+      (paged-plans b f (load ws sh) (load (attachW ws sh b p f) sh) only (omega (arith, h .reps .memory .frames .free f free-here)) (length (s .book .rows))) fs frames-are placed marks

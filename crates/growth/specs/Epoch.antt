@@ -20,6 +20,7 @@ use Rattle.layout.specs.Sizes.{pageSize}
 use Rattle.representation.specs.Represents.{wordIn, frameOf, slotWord, TableIs, FramesAre}
 use Rattle.storage.specs.Sight.{Spot, Spot.hd, Spot.pg, Spot.sl, look, Put.toHead, put₁}
 use Rattle.storage.specs.Slots.{Seen, see, unsee}
+use Rattle.storage.specs.Kept.{owners-plans}
 use Rattle.storage.specs.Whole.{fit-of, put-like}
 use Rattle.storage.specs.Reps.{Held}
 use Rattle.frames.specs.Paged.{Alone, paged-write}
@@ -98,7 +99,7 @@ module _ (ws : List ℕ) (sh : Shape) (s : State) (h : Held ws sh s) (b : ℕ) (
   pub advance-held : Held (advanceW ws sh b) sh (withTable s b (advance (s .tables b)))
   advance-held = held-paged-marks ws (advanceW ws sh b) sh s h b l (s .frameCount) alone (length-advance ws sh b)
       (rw load-advance (paged-write b (s .frameCount) (load ws sh) (load ws sh) (λ a i. refl) (head b headEpoch) x (inr (inl (refl, refl, omega arith, omega arith)))))
-      (advance (s .tables b)) (rw load-advance table-is) refl (s .frames) (rw load-advance frames-are)
+      (advance (s .tables b)) (rw load-advance table-is) refl (rw load-advance (owners-plans (load ws sh) n (λ f. refl) (length (s .book .rows)))) (s .frames) (rw load-advance frames-are)
       (placed-paged s b (advance (s .tables b)) (s .frames) (h .placed)
       (let o = h .placed .sound b l in recast till (s .tables b) (s .tables b .free) o (s .tables b .mask) (s .tables b .life) ((s .tables b .epoch + 1) % 2 ^ 64) (s .tables b .free) (mod-lt (s .tables b .epoch + 1) (omega arith)))
       (λ p f i e. h .placed .frames b p f l i e))

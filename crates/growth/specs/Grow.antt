@@ -10,29 +10,33 @@ use lib.ListN.{length, drop, length-take}
 use lib.Dec.{eqb, ltb}
 use borrow.Author.Tests.{ne-eqb, eqb-true, le-ltb}
 use Rattle.words.specs.Pick.{bool}
-use Rattle.model.specs.Base.{put, bit, occurs, without}
+use Rattle.model.specs.Base.{put, bit, occurs, without, insert, insertAll}
 use Rattle.model.specs.State.{Sizes, till, Table, State, maxBatch}
 use Rattle.model.specs.Storage.{slotsOf, pagesFrom, pagesFor, attach, attachAll, grow, advance}
 use Rattle.model.specs.Change.{withTable, withFrames}
-use Rattle.model.specs.WellFormed.{isAttached, Frames}
+use Rattle.model.specs.WellFormed.{isAttached, Rising, Frames}
 use Rattle.model.specs.Tests.{apart, bit-small, same, also-some}
 use Rattle.model.specs.Sums.{without-none}
+use Rattle.model.specs.Counting.{bit-same}
 use Rattle.model.specs.Bounds.{pages-max, batch-max}
 use Rattle.invariant.specs.Pages.{Sane, till-sane}
 use Rattle.invariant.specs.Orders.{Sound, Room, attach-sound}
 use Rattle.invariant.specs.Frames.{Grows, pages-grow, reserve-length, attachAll-owned, rising-tail}
+use Rattle.invariant.specs.StorageViews.{occurs-inserted, rising-inserted}
 use Rattle.layout.specs.declared.Shape.{Shape}
-use Rattle.layout.specs.Layout.{Addr.reg, Mem, head, entry, load}
-use Rattle.layout.specs.Fields.{headPages, headFirstDetached, entryNext}
+use Rattle.layout.specs.Layout.{Addr.reg, Mem, head, entry, item, load}
+use Rattle.layout.specs.Fields.{headPages, headFirstDetached, entryNext, itemPage, itemFrame}
 use Rattle.layout.specs.Sizes.{lastPage, batchMax}
-use Rattle.layout.specs.RegionNames.{regionObject}
-use Rattle.representation.specs.Represents.{entryAt, Linked, TableIs}
+use Rattle.layout.specs.RegionNames.{regionObject, regionRow}
+use Rattle.representation.specs.Represents.{entryAt, Linked, TableIs, Items}
+use Rattle.storage.specs.Kept.{items-kept}
 use Rattle.storage.specs.Reps.{Held}
 use Rattle.frames.specs.Paged.{paged-high}
 use Rattle.frames.specs.Whole.{paged}
+use Rattle.frames.specs.Pool.{Taken, length-insert}
 use Rattle.frames.specs.Frames.{frames-taken, taken-first}
-use Rattle.frames.specs.Lowest.{lowest-free}
-use Rattle.growth.specs.Words.{pageAt, attachW, attachNextW, attachAllW, advanceW, growW}
+use Rattle.frames.specs.Lowest.{owners-of, lowest-free}
+use Rattle.growth.specs.Words.{pageAt, attachW, eachW, attachNextW, attachAllW, attachItemW, attachInW, advanceW, agedW, growW, growInW}
 use Rattle.growth.specs.Attach.{only, attach-held}
 use Rattle.growth.specs.Epoch.{advance-held}
 
@@ -86,6 +90,12 @@ module _ (z : Sizes) (sane : Sane z) where
   pub grow-enough : (t : Table) → Sound z t (t .free) → (k : ℕ) → k ≤ batchMax → (ps fs : List ℕ) → pagesFor z t k ≡ some ps → length ps ≤ length fs → k ≤ length (grow z ps fs t .free)
   grow-enough t o k n ps fs e l = omega (arith, reserve-length z sane t (t .free) o k (omega (arith, batch-max)) ps fs e l, length-take k (grow z ps fs t .free))
 
+-- ---- lists of frames
+
+pub length-inserted : (fs gs : List ℕ) → length (insertAll fs gs) ≡ length fs + length gs
+length-inserted [] gs = omega arith
+length-inserted (f ∷ fs) gs = omega (arith, length-inserted fs (insert f gs), length-insert f gs)
+
 -- ---- states
 
 pub paged-twice : (s : State) (b : ℕ) (u v : Table) (fs gs : List ℕ) → paged (paged s b u fs) b v gs ≡ paged s b v gs
@@ -130,7 +140,7 @@ module _ (sh : Shape) (b : ℕ) where
   next-is ws s h l w p f fs first room e =
       let found : pageAt (load ws sh (head b headFirstDetached)) (load ws sh (head b headPages)) ≡ p = page-found (load ws sh) b (s .tables b) (h .reps .memory .tables b l) ∙ sym e in
       let low : min p lastPage ≡ p = omega (arith, room .within, h .placed .sound b l .limit, pages-max) in
-      rw (found, low, lowest-free ws sh s h w f fs first)
+      rw (found, low, lowest-free ws sh s h (owners-of ws sh s h w) f fs first)
 
   next-held : (ws : List ℕ) (s : State) → Held ws sh s → b < s .tableCount → Frames s → (p f : ℕ) (fs : List ℕ) → s .frames ≡ f ∷ fs → Room (s .tables b) p
       → p ≡ nextPage (s .tables b .detached) (s .tables b .size) → Held (attachNextW ws sh b) sh (paged s b (attach till (s .tables b) p f) fs)
@@ -177,20 +187,87 @@ module _ (sh : Shape) (b : ℕ) where
       → Held (attachAllW ws sh b (length ps)) sh (paged s b (attachAll till ps (s .frames) (s .tables b)) (drop (length ps) (s .frames)))
   all-held ps ws s h l w g k = all-both ps ws s h l w g k .0
 
+  -- the epoch advances after the pages
+  pub aged-held : (ps fs gs : List ℕ) (ws : List ℕ) (s : State) → b < s .tableCount → Held ws sh (paged s b (attachAll till ps fs (s .tables b)) gs)
+      → Held (agedW ws sh b (length ps)) sh (paged s b (grow till ps fs (s .tables b)) gs)
+  unfolding agedW
+  aged-held [] fs gs ws s l i = i
+  aged-held (p ∷ ps) fs gs ws s l i =
+      let u : Table = attachAll till (p ∷ ps) fs (s .tables b) in
+      let j = advance-held ws sh (paged s b u gs) i b l in
+      let d : eqb (length (p ∷ ps)) 0 ≡ false = ne-eqb (length (p ∷ ps)) 0 (λ y. omega arith) in
+      let j′ : Held (advanceW ws sh b) sh (paged (paged s b u gs) b (advance u) gs)
+      = subst (λ (x : Table). Held (advanceW ws sh b) sh (paged (paged s b u gs) b (advance x) gs)) (paged-table s b u gs) j in
+      rw d (subst (λ (x : State). Held (advanceW ws sh b) sh x) (paged-twice s b u (advance u) gs gs) j′)
+
   -- GROW
   pub grow-held : (ws : List ℕ) (s : State) → Held ws sh s → b < s .tableCount → Frames s → (k : ℕ) (ps : List ℕ) → pagesFor till (s .tables b) k ≡ some ps → length ps ≤ length (s .frames)
       → Held (growW ws sh b (length ps)) sh (withFrames (withTable s b (grow till ps (s .frames) (s .tables b))) (drop (length ps) (s .frames)))
   unfolding growW
-  grow-held ws s h l w k ps e n = go ps (all-held ps ws s h l w (plan-follows till till-sane (s .tables b) (s .tables b .free) (h .placed .sound b l) k ps e) n)
-    where
-      go : (ps : List ℕ) → Held (attachAllW ws sh b (length ps)) sh (paged s b (attachAll till ps (s .frames) (s .tables b)) (drop (length ps) (s .frames)))
-          → Held (growW ws sh b (length ps)) sh (paged s b (grow till ps (s .frames) (s .tables b)) (drop (length ps) (s .frames)))
-      go [] i = i
-      go (p ∷ ps) i =
-          let u : Table = attachAll till (p ∷ ps) (s .frames) (s .tables b) in
-          let fs : List ℕ = drop (length (p ∷ ps)) (s .frames) in
-          let j = advance-held (attachAllW ws sh b (length (p ∷ ps))) sh (paged s b u fs) i b l in
-          let d : eqb (length (p ∷ ps)) 0 ≡ false = ne-eqb (length (p ∷ ps)) 0 (λ y. omega arith) in
-          let j′ : Held (advanceW (attachAllW ws sh b (length (p ∷ ps))) sh b) sh (paged (paged s b u fs) b (advance u) fs)
-          = subst (λ (x : Table). Held (advanceW (attachAllW ws sh b (length (p ∷ ps))) sh b) sh (paged (paged s b u fs) b (advance x) fs)) (paged-table s b u fs) j in
-          rw d (subst (λ (x : State). Held (advanceW (attachAllW ws sh b (length (p ∷ ps))) sh b) sh x) (paged-twice s b u (advance u) fs fs) j′)
+  grow-held ws s h l w k ps e n = aged-held ps (s .frames) (drop (length ps) (s .frames)) (attachAllW ws sh b (length ps)) s l
+      (all-held ps ws s h l w (plan-follows till till-sane (s .tables b) (s .tables b .free) (h .placed .sound b l) k ps e) n)
+
+  -- ---- pages in given frames
+
+  -- items that name them
+  abbrev pub PagesAt : List ℕ → ℕ → ℕ → List ℕ → Type 0
+  PagesAt ws x = Items (λ j p. load ws sh (item x j itemPage) ≡ p)
+
+  abbrev pub FramesAt : List ℕ → ℕ → ℕ → List ℕ → Type 0
+  FramesAt ws x = Items (λ j f. load ws sh (item x j itemFrame) ≡ f)
+
+  -- a free frame leaves the list
+  inserted-taken : (f : ℕ) (fs gs : List ℕ) → ((g : ℕ) → occurs g (f ∷ fs) + occurs g gs ≤ 1) → Taken f (insertAll fs gs) (insertAll (f ∷ fs) gs)
+  inserted-taken f fs gs once = record {
+    more = λ x. omega (arith, occurs-inserted (f ∷ fs) gs x, occurs-inserted fs gs x);
+    long = omega (arith, length-inserted (f ∷ fs) gs, length-inserted fs gs);
+    gone = omega (arith, occurs-inserted fs gs f, once f, bit-same f f refl);
+  }
+
+  -- one page
+  module _ (ws : List ℕ) (s : State) (h : Held ws sh s) (l : b < s .tableCount) (w : Frames s) (p f : ℕ) (fs : List ℕ) (taken : Taken f fs (s .frames)) (room : Room (s .tables b) p)
+      (e : p ≡ nextPage (s .tables b .detached) (s .tables b .size)) (x j : ℕ) (at-page : load ws sh (item x j itemPage) ≡ p) (at-frame : load ws sh (item x j itemFrame) ≡ f) where
+    item-is : attachItemW sh b x j ws ≡ attachW ws sh b p f
+    unfolding attachItemW
+    item-is = let low : min p lastPage ≡ p = omega (arith, room .within, h .placed .sound b l .limit, pages-max) in rw (at-page, at-frame, low)
+
+    item-held : Held (attachItemW sh b x j ws) sh (paged s b (attach till (s .tables b) p f) fs)
+    item-held = let n = next-turn (s .tables b .detached) (s .tables b .size) p e in rw item-is (attach-held ws sh s h b l w p f fs taken room (n .0) (n .1))
+
+    item-kept : Kept sh ws (attachItemW sh b x j ws)
+    item-kept = let n = next-turn (s .tables b .detached) (s .tables b .size) p e in
+        rw item-is (paged-high b f (load ws sh) (load (attachW ws sh b p f) sh) (only ws sh s h b l w p f fs taken room (n .0) (n .1)))
+
+  -- THE PAGES of a plan, each in the next of the frames fs, which are free beside gs
+  in-held : (ps fs gs ws : List ℕ) (s : State) (x j : ℕ) → Held ws sh s → b < s .tableCount → Frames s → Follows till (s .tables b) ps → length fs ≡ length ps → PagesAt ws x j ps → FramesAt ws x j fs
+      → s .frames ≡ insertAll fs gs → Rising gs → ((g : ℕ) → occurs g fs + occurs g gs ≤ 1) → Held (attachInW sh b x j (length ps) ws) sh (paged s b (attachAll till ps fs (s .tables b)) gs)
+  unfolding eachW
+  in-held [] [] gs ws s x j h l w g k at fr e r once = rw (← e, paged-same s b) h
+  in-held [] (f ∷ fs) gs ws s x j h l w g k at fr e r once = absurd (omega arith)
+  in-held (p ∷ ps) [] gs ws s x j h l w g k at fr e r once = absurd (omega arith)
+  in-held (p ∷ ps) (f ∷ fs) gs ws s x j h l w g k at fr e r once =
+      let few : (y : ℕ) → occurs y fs + occurs y gs ≤ 1 = λ y. omega (arith, once y) in
+      let taken : Taken f (insertAll fs gs) (s .frames) = rw e (inserted-taken f fs gs once) in
+      let u : Table = attach till (s .tables b) p f in
+      let s₁ : State = paged s b u (insertAll fs gs) in
+      let t₁ : s₁ .tables b ≡ u = paged-table s b u (insertAll fs gs) in
+      let ws₁ : List ℕ = attachItemW sh b x j ws in
+      let kept = item-kept ws s h l w p f (insertAll fs gs) taken (g .1) (g .0) x j (at .0) (fr .0) in
+      let i = in-held ps fs gs ws₁ s₁ x (suc j) (item-held ws s h l w p f (insertAll fs gs) taken (g .1) (g .0) x j (at .0) (fr .0)) l
+      (frames-taken s b u l w f (insertAll fs gs) taken (rising-inserted fs gs few r)
+      (λ y. attachAll-owned till (p ∷ []) (f ∷ []) (s .tables b) (omega arith) (g .1, λ v. tt) y ∙ omega arith))
+      (rw t₁ (g .2 f)) (omega arith)
+      (items-kept (λ i q. load ws sh (item x i itemPage) ≡ q) (λ i q. load ws₁ sh (item x i itemPage) ≡ q) (λ i q d. kept regionRow x (suc i) itemPage (omega arith) ∙ d) (suc j) ps (at .1))
+      (items-kept (λ i q. load ws sh (item x i itemFrame) ≡ q) (λ i q. load ws₁ sh (item x i itemFrame) ≡ q) (λ i q d. kept regionRow x (suc i) itemFrame (omega arith) ∙ d) (suc j) fs (fr .1))
+      refl r few in
+      let c : Held (attachInW sh b x (suc j) (length ps) ws₁) sh (paged s₁ b (attachAll till ps fs u) gs)
+      = subst (λ (v : Table). Held (attachInW sh b x (suc j) (length ps) ws₁) sh (paged s₁ b (attachAll till ps fs v) gs)) t₁ i in
+      subst (λ (v : State). Held (attachInW sh b x (suc j) (length ps) ws₁) sh v) (paged-twice s b u (attachAll till ps fs u) (insertAll fs gs) gs) c
+
+  -- GROW in given frames
+  pub grow-in-held : (ws : List ℕ) (s : State) → Held ws sh s → b < s .tableCount → Frames s → (k : ℕ) (ps fs gs : List ℕ) → pagesFor till (s .tables b) k ≡ some ps → length fs ≡ length ps
+      → (x : ℕ) → PagesAt ws x 0 ps → FramesAt ws x 0 fs → s .frames ≡ insertAll fs gs → Rising gs → ((g : ℕ) → occurs g fs + occurs g gs ≤ 1)
+      → Held (growInW ws sh b x (length ps)) sh (withFrames (withTable s b (grow till ps fs (s .tables b))) gs)
+  unfolding growInW
+  grow-in-held ws s h l w k ps fs gs e n x at fr free r once = aged-held ps fs gs (attachInW sh b x 0 (length ps) ws) s l
+      (in-held ps fs gs ws s x 0 h l w (plan-follows till till-sane (s .tables b) (s .tables b .free) (h .placed .sound b l) k ps e) n at fr free r once)

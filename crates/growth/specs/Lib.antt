@@ -7,5 +7,6 @@ pub mod Attach
 pub mod Late
 pub mod Code
 pub mod Plan
+pub mod Next
 pub mod Epoch
 pub mod Grow

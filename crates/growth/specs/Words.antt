@@ -1,5 +1,5 @@
 -- Growth over words: what each operation stores. Assumes nothing.
-use mathlib.Core.Bool.{Bool, _&&_}
+use mathlib.Core.Bool.{Bool, true, false, _&&_}
 use mathlib.Core.List.{List, [], _∷_}
 use Prim.Native.Nat.{ℕ, zero, suc, _+_, _-_, _*_, _%_, _^_, min}
 use lib.Dec.{eqb, ltb}
@@ -8,9 +8,9 @@ use Rattle.codec.specs.Codec.{nextGeneration}
 use Rattle.model.specs.State.{till}
 use Rattle.model.specs.Storage.{slotsOf}
 use Rattle.layout.specs.declared.Shape.{Shape}
-use Rattle.layout.specs.Layout.{Mem, head, entry, cell, load, save, Write, Write.at, writes}
+use Rattle.layout.specs.Layout.{Mem, head, entry, cell, item, load, save, Write, Write.at, writes}
 use Rattle.layout.specs.Turns.{turns}
-use Rattle.layout.specs.Fields.{headPageLimit, headEpoch, headPages, headFirstFree, headFreeSlots, headFirstDetached, headFirstEntry, entryFrame, entryHigh, entryBusy, entryNext, slotTag, slotGeneration, slotNextFree, slotPreviousFree}
+use Rattle.layout.specs.Fields.{headPageLimit, headEpoch, headPages, headFirstFree, headFreeSlots, headFirstDetached, headFirstEntry, entryFrame, entryHigh, entryBusy, entryNext, slotTag, slotGeneration, slotNextFree, slotPreviousFree, itemPage, itemFrame}
 use Rattle.layout.specs.Values.{tagVacant}
 use Rattle.layout.specs.Sizes.{pageSize, lastPage, slotsMax, batchMax, number32Max}
 use Rattle.representation.specs.Represents.{entryAt}
@@ -73,7 +73,7 @@ joinedW ws sh b p f =
 
 -- ATTACH: and page p's entry has the frame
 unfoldable pub attachW : List ℕ → Shape → ℕ → ℕ → ℕ → List ℕ
-attachW ws sh b p f = takeFrameW (joinedW ws sh b p f) sh f (min (load ws sh (head b headFirstEntry)) number32Max + p)
+attachW ws sh b p f = takeFrameW (joinedW ws sh b p f) sh f (up (min (load ws sh (head b headFirstEntry)) number32Max + p))
 
 -- ---- the plan of pages
 
@@ -107,7 +107,34 @@ countFrom m e limit (suc fuel) k d n c =
 unfoldable pub pagesNeeded : Mem → ℕ → ℕ → ℕ
 pagesNeeded m b k = countFrom m (m (head b headFirstEntry)) (m (head b headPageLimit)) batchMax (k - m (head b headFreeSlots)) (m (head b headFirstDetached)) (m (head b headPages)) 0
 
+-- the next k pages, of the table whose first entry is e, from the link d of the first detached one and n pages on
+abbrev pub nextPages : Mem → ℕ → ℕ → ℕ → ℕ → List ℕ
+nextPages m e d n zero = []
+nextPages m e d n (suc k) = pageAt d n ∷ nextPages m e (linkAfter m e d) (sizeAfter d n) k
+
+-- into the items from j on of the row in place x
+unfoldable pub pagesW : List ℕ → Shape → ℕ → ℕ → ℕ → ℕ → ℕ → ℕ → List ℕ
+pagesW ws sh e x j d n zero = ws
+pagesW ws sh e x j d n (suc k) = pagesW (save ws sh (item x j itemPage) (pageAt d n)) sh e x (suc j) (linkAfter (load ws sh) e d) (sizeAfter d n) k
+
+-- so of table b
+unfoldable pub listPagesW : List ℕ → Shape → ℕ → ℕ → ℕ → List ℕ
+listPagesW ws sh b x k = let m : Mem = load ws sh in pagesW ws sh (m (head b headFirstEntry)) x 0 (m (head b headFirstDetached)) (m (head b headPages)) k
+
+-- whether they are those that the items from j on name
+unfoldable pub samePages : Mem → ℕ → ℕ → ℕ → ℕ → ℕ → ℕ → Bool
+samePages m e x j d n zero = true
+samePages m e x j d n (suc k) = pick (eqb (m (item x j itemPage)) (pageAt d n)) (samePages m e x (suc j) (linkAfter m e d) (sizeAfter d n) k) false
+
+unfoldable pub pagesSame : Mem → ℕ → ℕ → ℕ → Bool
+pagesSame m b x k = samePages m (m (head b headFirstEntry)) x 0 (m (head b headFirstDetached)) (m (head b headPages)) k
+
 -- ---- growth
+
+-- n turns of a step, from number j on
+unfoldable pub eachW : (ℕ → List ℕ → List ℕ) → ℕ → ℕ → List ℕ → List ℕ
+eachW step j zero ws = ws
+eachW step j (suc n) ws = eachW step (suc j) n (step j ws)
 
 -- the next page, in the lowest free frame
 unfoldable pub attachNextW : List ℕ → Shape → ℕ → List ℕ
@@ -118,10 +145,26 @@ unfoldable pub attachAllW : List ℕ → Shape → ℕ → ℕ → List ℕ
 attachAllW ws sh b zero = ws
 attachAllW ws sh b (suc n) = attachNextW (attachAllW ws sh b n) sh b
 
+-- the page that item j of the row in place x names, in the frame that it names
+unfoldable pub attachItemW : Shape → ℕ → ℕ → ℕ → List ℕ → List ℕ
+attachItemW sh b x j ws = attachW ws sh b (min (load ws sh (item x j itemPage)) lastPage) (load ws sh (item x j itemFrame))
+
+-- so of n items from j on
+abbrev pub attachInW : Shape → ℕ → ℕ → ℕ → ℕ → List ℕ → List ℕ
+attachInW sh b x = eachW (attachItemW sh b x)
+
 -- "The epoch wraps from 2^64 - 1 to 0"
 unfoldable pub advanceW : List ℕ → Shape → ℕ → List ℕ
 advanceW ws sh b = save ws sh (head b headEpoch) ((load ws sh (head b headEpoch) + 1) % 2 ^ 64)
 
--- GROW by n pages: the epoch advances once
+-- once for n pages, and not for none
+unfoldable pub agedW : List ℕ → Shape → ℕ → ℕ → List ℕ
+agedW ws sh b n = pick (eqb n 0) ws (advanceW ws sh b)
+
+-- GROW by n pages, in the lowest free frames
 unfoldable pub growW : List ℕ → Shape → ℕ → ℕ → List ℕ
-growW ws sh b n = pick (eqb n 0) (attachAllW ws sh b n) (advanceW (attachAllW ws sh b n) sh b)
+growW ws sh b n = agedW (attachAllW ws sh b n) sh b n
+
+-- and by those of n items of the row in place x, in the frames of the items
+unfoldable pub growInW : List ℕ → Shape → ℕ → ℕ → ℕ → List ℕ
+growInW ws sh b x n = agedW (attachInW sh b x 0 n ws) sh b n

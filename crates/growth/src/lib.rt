@@ -1,11 +1,11 @@
-// Growth of a table: pages are attached in free frames, as many as a batch of slots needs.
+// Growth of a table: pages are attached in free frames, as many as a batch of slots needs. The pages that a table gets next, listed in a row, and whether they are those of a row.
 ghost use mathlib.Core.Path.{_≡_};
 ghost use Prim.Native.Nat.{_+_, _-_, _*_};
 ghost use Rattle.layout.specs.Layout.{load as loadAt, writes, head};
 ghost use Rattle.storage.specs.Ops.{up};
 ghost use Rattle.head.specs.Head.{attachedBy, drawnBy, emptyBy};
 ghost use Rattle.growth.specs.Late.{freshFrom, detachedFrom, ownP};
-ghost use Rattle.growth.specs.Words.{nextWord, prevWord, cellsP, builtW, joinedW, attachW, pageAt, linkAfter, sizeAfter, isFull, pagesNeeded, attachNextW, attachAllW, advanceW, growW};
+ghost use Rattle.growth.specs.Words.{nextWord, prevWord, cellsP, builtW, joinedW, attachW, pageAt, linkAfter, sizeAfter, isFull, pagesNeeded, pagesW, listPagesW, pagesSame, attachNextW, attachAllW, attachItemW, attachInW, advanceW, agedW, growW, growInW};
 use head::TableHead;
 use layout::Shape;
 use layout::field;
@@ -133,7 +133,7 @@ pub fn attach_page(s: &mut [u64], sh: Shape, b: u64, p: u32, f: u64)
         size::NUMBER_32_MAX,
     );
     join_page(s, sh, b, p, f);
-    frames::take_frame(s, sh, f, e + (p as u64));
+    frames::take_frame(s, sh, f, words::inc(e + (p as u64)));
 }
 
 // The page that a table gets next: the first detached one, by its link, or else the n-th.
@@ -205,6 +205,52 @@ pub fn pages_needed(s: &[u64], sh: Shape, b: u64, k: u64) -> u64
     c
 }
 
+// k pages of the table whose first entry is e, from the link d of the first detached one and n pages on, into the items of the row in place x.
+fn put_pages(s: &mut [u64], sh: Shape, e: u64, x: u64, d: u64, n: u64, k: u64)
+    ensures words { λ _. ⌜ now (s .exit) ≡ pagesW (now (s .entry)) sh e x 0 d n k ⌝ }
+{
+    let mut link: u64 = d;
+    let mut size: u64 = n;
+    let mut j: u64 = 0;
+    while j < k {
+        let p = page_at(link, size);
+        size = size_after(link, size);
+        link = link_after(s, sh, e, link);
+        layout::put_item(s, sh, x, j, field::ITEM_PAGE, p);
+        j += 1;
+    }
+}
+
+// The next k pages of table b into the items of the row in place x.
+pub fn list_pages(s: &mut [u64], sh: Shape, b: u64, x: u64, k: u64)
+    ensures words { λ _. ⌜ now (s .exit) ≡ listPagesW (now (s .entry)) sh b x k ⌝ }
+{
+    let e = layout::head_word(s, sh, b, field::HEAD_FIRST_ENTRY);
+    let d = layout::head_word(s, sh, b, field::HEAD_FIRST_DETACHED);
+    let n = layout::head_word(s, sh, b, field::HEAD_PAGES);
+    put_pages(s, sh, e, x, d, n, k);
+}
+
+// Whether the next k pages of table b are those that the items of the row in place x name.
+pub fn pages_same(s: &[u64], sh: Shape, b: u64, x: u64, k: u64) -> bool
+    ensures { λ r. ⌜ r ≡ pagesSame (loadAt (now (s .entry)) sh) b x k ⌝ }
+{
+    let e = layout::head_word(s, sh, b, field::HEAD_FIRST_ENTRY);
+    let mut d = layout::head_word(s, sh, b, field::HEAD_FIRST_DETACHED);
+    let mut n = layout::head_word(s, sh, b, field::HEAD_PAGES);
+    let mut j: u64 = 0;
+    while j < k {
+        let p = page_at(d, n);
+        if words::ne(layout::item_word(s, sh, x, j, field::ITEM_PAGE), p) {
+            return false;
+        }
+        n = size_after(d, n);
+        d = link_after(s, sh, e, d);
+        j += 1;
+    }
+    true
+}
+
 // Attaches the next page in the lowest free frame.
 fn attach_next(s: &mut [u64], sh: Shape, b: u64)
     ensures { λ _. ⌜ now (s .exit) ≡ attachNextW (now (s .entry)) sh b ⌝ }
@@ -227,6 +273,29 @@ fn attach_all(s: &mut [u64], sh: Shape, b: u64, n: u64)
     }
 }
 
+// Attaches the page that item j of the row in place x names, in the free frame that it names.
+fn attach_item(s: &mut [u64], sh: Shape, b: u64, x: u64, j: u64)
+    ensures { λ _. ⌜ now (s .exit) ≡ attachItemW sh b x j (now (s .entry)) ⌝ }
+{
+    let p = words::smaller(
+        layout::item_word(s, sh, x, j, field::ITEM_PAGE),
+        size::LAST_PAGE,
+    );
+    let f = layout::item_word(s, sh, x, j, field::ITEM_FRAME);
+    attach_page(s, sh, b, p as u32, f);
+}
+
+// So those of its first n items.
+fn attach_in(s: &mut [u64], sh: Shape, b: u64, x: u64, n: u64)
+    ensures { λ _. ⌜ now (s .exit) ≡ attachInW sh b x 0 n (now (s .entry)) ⌝ }
+{
+    let mut j: u64 = 0;
+    while j < n {
+        attach_item(s, sh, b, x, j);
+        j += 1;
+    }
+}
+
 // The table's epoch advances.
 pub fn advance_epoch(s: &mut [u64], sh: Shape, b: u64)
     ensures words { λ _. ⌜ now (s .exit) ≡ advanceW (now (s .entry)) sh b ⌝ }
@@ -236,12 +305,27 @@ pub fn advance_epoch(s: &mut [u64], sh: Shape, b: u64)
     head::store_epoch(s, sh, b, t);
 }
 
+// It does so once where n pages were attached, and not for none.
+fn advance_for(s: &mut [u64], sh: Shape, b: u64, n: u64)
+    ensures { λ _. ⌜ now (s .exit) ≡ agedW (now (s .entry)) sh b n ⌝ }
+{
+    if words::ne(n, 0) {
+        advance_epoch(s, sh, b);
+    }
+}
+
 // Table b grows by n pages: detached ones first, then new ones, each in the lowest free frame.
 pub fn grow(s: &mut [u64], sh: Shape, b: u64, n: u64)
     ensures words { λ _. ⌜ now (s .exit) ≡ growW (now (s .entry)) sh b n ⌝ }
 {
     attach_all(s, sh, b, n);
-    if words::ne(n, 0) {
-        advance_epoch(s, sh, b);
-    }
+    advance_for(s, sh, b, n);
+}
+
+// Table b grows by the pages of the first n items of the row in place x, each in the free frame of its item.
+pub fn grow_in(s: &mut [u64], sh: Shape, b: u64, x: u64, n: u64)
+    ensures words { λ _. ⌜ now (s .exit) ≡ growInW (now (s .entry)) sh b x n ⌝ }
+{
+    attach_in(s, sh, b, x, n);
+    advance_for(s, sh, b, n);
 }

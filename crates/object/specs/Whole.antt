@@ -16,7 +16,7 @@ use Rattle.layout.specs.ShapeOf.{roots-kept}
 use Rattle.layout.specs.Fields.{rootNextId, rootUsedRows, rootFreeFrames, headFirstEntry, slotTag, slotPlace, slotPosition, rowId}
 use Rattle.layout.specs.RegionNames.{regionRoot, regionHead, regionEntry, regionOwner, regionGroup16, regionCell, regionObject}
 use Rattle.representation.specs.Represents.{entryAt, slotWord, ObjectIs, Represents}
-use Rattle.storage.specs.Kept.{Stays, all-stay, slot-kept, table-kept, PoolSame, frames-kept, object-kept, RowsStay, rows-stay, mark-kept, book-kept}
+use Rattle.storage.specs.Kept.{Stays, all-stay, slot-kept, table-kept, PoolSame, frames-kept, object-kept, RowsStay, rows-stay, mark-kept, book-kept, owners-plans}
 use Rattle.storage.specs.Reps.{Held}
 
 -- n differs from m in the record of object o alone
@@ -53,7 +53,7 @@ module _ (o : ℕ) (m n : Mem) (only : OnlyObject o m n) where
     objects = λ i l. bool (eqb i o)
         (λ e. rw (e, eqb-true i o e) is)
         (λ e. rw e (object-kept m n i (s .objects i) (λ f. only regionObject i 0 f (λ z. eqb-false i o e)) (r .objects i l)));
-    book = book-kept m n object-rows s (withObjects s (put (s .objects) o x)) refl (only regionRoot 0 0 rootNextId (λ e. omega arith)) (only regionRoot 0 0 rootUsedRows (λ e. omega arith))
+    book = book-kept m n object-rows s (withObjects s (put (s .objects) o x)) refl (only regionRoot 0 0 rootNextId (λ e. omega arith)) (only regionRoot 0 0 rootUsedRows (λ e. omega arith)) (owners-plans m n (object-pool .owners) (length (s .book .rows)))
         (λ b k l h. let w : (f : ℕ) → slotWord n b k f ≡ slotWord m b k f = slot-kept m n b (object-stays b) k in
         mark-kept m n object-rows s b k (w slotTag) (w slotPlace) (w slotPosition) (r .book .marks b k l h)) (r .book);
   }

@@ -10,14 +10,14 @@ use lib.Dec.{ltb}
 use borrow.Author.Tests.{ltb-true}
 use Rattle.words.specs.Pick.{bool}
 use Rattle.model.specs.Base.{occurs}
-use Rattle.model.specs.State.{till, Handle, Slot.reserved, Slot.transferReserved, Table, Object, Entry, Entry.moved, Entry.copied, Body, Body.reservation, Body.claim, Body.parcel, Row, State}
+use Rattle.model.specs.State.{till, Handle, Slot.reserved, Slot.transferReserved, Table, Object, Entry, Entry.moved, Entry.copied, Body, Body.reservation, Body.claim, Body.parcel, Body.plan, Row, State}
 use Rattle.invariant.specs.Orders.{Sound}
 use Rattle.layout.specs.Layout.{Addr.reg, Mem, root, head, entry, owner, group, cell, object, index, rank, row, item}
-use Rattle.layout.specs.Fields.{rootNextId, rootUsedRows, rootFreeFrames, headPageLimit, headMask, headLifecycle, headCursor, headEpoch, headPages, headFirstFree, headFreeSlots, headFirstEmpty, headFirstDetached, headFirstEntry, entryFrame, entryHigh, entryBusy, entryNext, entryPrevious, slotTag, slotGeneration, slotNextFree, slotPreviousFree, slotPlace, slotPosition, slotObject, slotRights, slotFlags, objectKoid, objectKind, objectClass, objectSupported, objectExportable, objectStage, objectActive, objectLimit, indexPlace, indexRank, rowId, rowKind, rowTable, rowLength, itemSlot, itemOperation, itemMoved, itemObject, itemRights, itemFlags, itemGranted}
+use Rattle.layout.specs.Fields.{rootNextId, rootUsedRows, rootFreeFrames, headPageLimit, headMask, headLifecycle, headCursor, headEpoch, headPages, headFirstFree, headFreeSlots, headFirstEmpty, headFirstDetached, headFirstEntry, entryFrame, entryHigh, entryBusy, entryNext, entryPrevious, slotTag, slotGeneration, slotNextFree, slotPreviousFree, slotPlace, slotPosition, slotObject, slotRights, slotFlags, objectKoid, objectKind, objectClass, objectSupported, objectExportable, objectStage, objectActive, objectLimit, indexPlace, indexRank, rowId, rowKind, rowTable, rowLength, rowCount, rowEpoch, itemSlot, itemOperation, itemMoved, itemObject, itemRights, itemFlags, itemGranted, itemPage, itemFrame, itemFreeSlots}
 use Rattle.layout.specs.Values.{tagTransferReserved, operationMove}
-use Rattle.layout.specs.Sizes.{pageSize}
+use Rattle.layout.specs.Sizes.{pageSize, planOwner}
 use Rattle.layout.specs.RegionNames.{regionIndex, regionRow}
-use Rattle.representation.specs.Represents.{entryAt, wordIn, frameOf, slotWord, tagged, slotFrom, slotIn, TableIs, FramesAre, ObjectIs, HandleIs, EntryIs, Items, BodyIs, RowsAre, isMarked, BookIs}
+use Rattle.representation.specs.Represents.{entryAt, wordIn, frameOf, slotWord, tagged, slotFrom, slotIn, TableIs, FramesAre, ObjectIs, HandleIs, EntryIs, Items, HeldIs, BodyIs, RowsAre, isMarked, BookIs}
 use Rattle.storage.specs.Order.{chain-frame, linked-frame}
 use Rattle.storage.specs.Sight.{frame-is}
 use Rattle.storage.specs.Slots.{empty-below, detached-below}
@@ -141,6 +141,10 @@ object-kept m n o x e q = record {
 
 -- ---- one place keeps its row
 
+-- the owner words that name place x stay: those of the frames that a plan there holds
+abbrev pub HoldsStay : Mem → Mem → ℕ → Type 0
+HoldsStay m n x = (f : ℕ) → m (owner f) ≡ planOwner + x → n (owner f) ≡ m (owner f)
+
 pub items-kept : {A : Type 0} (P Q : ℕ → A → Type 0) → ((j : ℕ) (y : A) → P j y → Q j y) → (j : ℕ) (ys : List A) → Items P j ys → Items Q j ys
 items-kept P Q f j [] p = tt
 items-kept P Q f j (y ∷ ys) p = (f j y (p .0), items-kept P Q f (suc j) ys (p .1))
@@ -163,10 +167,28 @@ module _ (m n : Mem) (x : ℕ) (its : (j f : ℕ) → n (item x j f) ≡ m (item
   pub handles-kept : (j : ℕ) (hs : List Handle) → Items (HandleIs m x) j hs → Items (HandleIs n x) j hs
   handles-kept = items-kept (HandleIs m x) (HandleIs n x) handle-kept
 
-  pub body-kept : ((f : ℕ) → n (row x f) ≡ m (row x f)) → (b : Body) → BodyIs m x b → BodyIs n x b
-  body-kept rws (reservation b ks) p = (rws rowKind ∙ p .0, rws rowTable ∙ p .1, rws rowLength ∙ p .2, slots-kept 0 ks (p .3))
-  body-kept rws (claim b es) p = (rws rowKind ∙ p .0, rws rowTable ∙ p .1, rws rowLength ∙ p .2, entries-kept 0 es (p .3))
-  body-kept rws (parcel hs) p = (rws rowKind ∙ p .0, rws rowLength ∙ p .1, handles-kept 0 hs (p .2))
+  -- the pages of a plan, and its frames
+  pub pages-kept : (j : ℕ) (ps : List ℕ) → Items (λ j p. m (item x j itemPage) ≡ p) j ps → Items (λ j p. n (item x j itemPage) ≡ p) j ps
+  pages-kept = items-kept (λ j p. m (item x j itemPage) ≡ p) (λ j p. n (item x j itemPage) ≡ p) (λ j p q. its j itemPage ∙ q)
+
+  pub held-kept : HoldsStay m n x → (j : ℕ) (fs : List ℕ) → Items (HeldIs m x) j fs → Items (HeldIs n x) j fs
+  held-kept own = items-kept (HeldIs m x) (HeldIs n x) (λ j f q. (its j itemFrame ∙ q .0, own f (q .1) ∙ q .1))
+
+  pub body-kept : ((f : ℕ) → n (row x f) ≡ m (row x f)) → HoldsStay m n x → (b : Body) → BodyIs m x b → BodyIs n x b
+  body-kept rws own (reservation b ks) p = (rws rowKind ∙ p .0, rws rowTable ∙ p .1, rws rowLength ∙ p .2, slots-kept 0 ks (p .3))
+  body-kept rws own (claim b es) p = (rws rowKind ∙ p .0, rws rowTable ∙ p .1, rws rowLength ∙ p .2, entries-kept 0 es (p .3))
+  body-kept rws own (parcel hs) p = (rws rowKind ∙ p .0, rws rowLength ∙ p .1, handles-kept 0 hs (p .2))
+  body-kept rws own (plan b c w fs) p = record {
+    kind = rws rowKind ∙ p .kind;
+    table = rws rowTable ∙ p .table;
+    count = rws rowCount ∙ p .count;
+    epoch = rws rowEpoch ∙ p .epoch;
+    freeSlots = its 0 itemFreeSlots ∙ p .freeSlots;
+    pageCount = rws rowLength ∙ p .pageCount;
+    pages = pages-kept 0 (w .pages) (p .pages);
+    frameCount = rws rowLength ∙ p .frameCount;
+    held = held-kept own 0 fs (p .held);
+  }
 
 -- ---- the book
 
@@ -177,7 +199,15 @@ pub record RowsStay (m n : Mem) : Type 0 where
   pub rows : (r f : ℕ) → n (row r f) ≡ m (row r f)
   pub items : (r j f : ℕ) → n (item r j f) ≡ m (item r j f)
 
--- they are the regions above the objects
+-- the owner words that name the places of the first c rows stay
+abbrev pub PlansStay : Mem → Mem → ℕ → Type 0
+PlansStay m n c = (i : ℕ) → i < c → HoldsStay m n (m (index i))
+
+-- they do where all owner words do
+pub owners-plans : (m n : Mem) → ((f : ℕ) → n (owner f) ≡ m (owner f)) → (c : ℕ) → PlansStay m n c
+owners-plans m n o c i l f e = o f
+
+-- rows and index are the regions above the objects
 pub rows-stay : (m n : Mem) → ((k x y f : ℕ) → regionIndex ≤ k → n (reg k x y f) ≡ m (reg k x y f)) → RowsStay m n
 rows-stay m n o = record {
   places = λ i. o regionIndex i 0 indexPlace (omega arith);
@@ -207,18 +237,19 @@ module _ (m n : Mem) (o : RowsStay m n) where
       go a₀ a₂ a₃ c₀ c₂ c₃ q₀ q₂ q₃ p =
           rw (q₀, q₂, q₃) (p .0, rw (o .ranks a₂) (p .1), rw (o .rows a₂ rowLength) (p .2), o .rows a₂ rowTable ∙ p .3, o .items a₂ a₃ (a₀ - 1) ∙ p .4, λ e. o .items a₂ a₃ itemOperation ∙ p .5 e)
 
-  rows-kept : (i : ℕ) (rs : List Row) → RowsAre m i rs → RowsAre n i rs
-  rows-kept i [] p = tt
-  rows-kept i (r ∷ rs) p = let x : ℕ = m (index i) in
-      rw (o .places i) (o .rows (m (index i)) rowId ∙ p .0, body-kept m n (m (index i)) (o .items x) (o .rows x) (r .body) (p .1), rows-kept (suc i) rs (p .2))
+  rows-kept : (c : ℕ) → PlansStay m n c → (i : ℕ) (rs : List Row) → i + length rs ≤ c → RowsAre m i rs → RowsAre n i rs
+  rows-kept c own i [] l p = tt
+  rows-kept c own i (r ∷ rs) l p = let x : ℕ = m (index i) in
+      rw (o .places i)
+      (o .rows (m (index i)) rowId ∙ p .0, body-kept m n (m (index i)) (o .items x) (o .rows x) (own i (omega arith)) (r .body) (p .1), rows-kept c own (suc i) rs (omega arith) (p .2))
 
   -- THE BOOK of a state with the same rows: the marks are the operation's to show
   pub book-kept : (s u : State) → u .book ≡ s .book → n (root rootNextId) ≡ m (root rootNextId) → n (root rootUsedRows) ≡ m (root rootUsedRows)
-      → ((b k : ℕ) → b < u .tableCount → isMarked (u .tables b .slots k) ≡ true → MarkIs n s b k) → BookIs m s → BookIs n u
-  book-kept s u e next used marks q = record {
+      → PlansStay m n (length (s .book .rows)) → ((b k : ℕ) → b < u .tableCount → isMarked (u .tables b .slots k) ≡ true → MarkIs n s b k) → BookIs m s → BookIs n u
+  book-kept s u e next used own marks q = record {
     next = rw e (next ∙ q .next);
     used = rw e (used ∙ q .used);
-    rows = rw e (rows-kept 0 (s .book .rows) (q .rows));
+    rows = rw e (rows-kept (length (s .book .rows)) own 0 (s .book .rows) (omega arith) (q .rows));
     places = λ i h. rw (e, o .places i) (q .places i (rw e at h) .0, o .ranks (m (index i)) ∙ q .places i (rw e at h) .1);
     marks = λ b k l h. rw e (marks b k l h);
   }

@@ -5,6 +5,7 @@ use mathlib.Core.Logic.{⊎-elim}
 use mathlib.Core.Option.{Option, some}
 use Prim.Native.Nat.{ℕ, suc, _+_, _-_, _<_}
 use native.Mathlib.Omega.{arith}
+use lib.ListN.{length}
 use lib.Dec.{eqb, ltb}
 use borrow.Author.Tests.{eqb-true, eqb-false, ltb-true}
 use Rattle.words.specs.Pick.{bool}
@@ -25,7 +26,7 @@ use Rattle.layout.specs.RegionNames.{regionRoot, regionHead, regionEntry, regio
 use Rattle.representation.specs.Represents.{entryAt, slotWord, TableIs, isMarked, Represents}
 use Rattle.representation.specs.Told.{link-some}
 use Rattle.storage.specs.Sight.{Fit, OnlyTable}
-use Rattle.storage.specs.Kept.{Stays, slot-kept, sound-kept, PoolSame, frames-kept, object-kept, RowsStay, rows-stay, MarkIs, mark-kept, book-kept}
+use Rattle.storage.specs.Kept.{Stays, slot-kept, sound-kept, PoolSame, frames-kept, object-kept, RowsStay, owners-plans, rows-stay, MarkIs, mark-kept, book-kept}
 
 -- every table's storage is sound and in frames that there are
 pub record Placed (z : Sizes) (s : State) : Type 0 where
@@ -147,7 +148,7 @@ module _ (sh : Shape) (m : Mem) (s : State) (r : Represents sh m s) (pl : Placed
     frames = frames-kept m n s (withTable s b u) (table-pool b m n o) off-first refl refl
         (λ c p f l h e. (l, rw (put-like (λ t. t .size) (s .tables) b u (al .size) c) at h, sym (put-like (λ t. t .pages p .frame) (s .tables) b u (al .frame p) c) ∙ e)) (r .frames);
     objects = λ x l. object-kept m n x (s .objects x) (λ f. off-table b m n o regionObject x 0 f (λ e. omega arith) (λ e. omega arith) (λ e. omega arith)) (r .objects x l);
-    book = book-kept m n (table-rows b m n o) s (withTable s b u) refl (off-root rootNextId) (off-root rootUsedRows)
+    book = book-kept m n (table-rows b m n o) s (withTable s b u) refl (off-root rootNextId) (off-root rootUsedRows) (owners-plans m n (table-pool b m n o .owners) (length (s .book .rows)))
         (λ c k l h. bool (eqb c b)
         (λ e. rw (eqb-true c b e) (marked k (rw e at h)))
         (λ e. let w : (f : ℕ) → slotWord n c k f ≡ slotWord m c k f = other-slot sh m s r pl b lb n o c l (eqb-false c b e) k in

@@ -3,10 +3,6 @@ use borrow.Author.Needs.{needs}
 use Rattle.frames.proofs.take_frame.Statement.{statement}
 use Rattle.frames.proofs.take_frame.Tie as tie
 
--- src/lib.rt:61:9
-inc-requires : tie.Need-inc-requires
-inc-requires c κs = tt
-
 -- src/lib.rt:62:24
 load-requires : tie.Need-load-requires
 load-requires c κs = tt
@@ -49,13 +45,12 @@ same-length c = search needs
 
 -- src/lib.rt:58:1
 returns : tie.Need-returns
-returns c = take-is (c .before .before .before .before .before .before .before .before .before .before .before .before .before .before .before .before .before .before .args .s .now) _ (c .before .before .before .before .before .before .before .before .before .before .before .before .before .before .before .before .before .before .args .sh) (c .before .before .before .before .before .before .before .before .before .before .before .before .before .before .before .before .before .before .args .f) (c .before .before .before .before .before .before .before .before .before .before .before .before .before .before .before .before .before .before .args .e) _ _ _ _ _ _ _ _ _ (c .before .before .before .before .before .before .before .before .before .before .before .before .before .before .before .before .inc .ensures) (c .before .before .before .before .before .before .before .before .before .before .before .before .before .before .load .ensures) (c .before .before .before .before .before .before .before .before .before .before .before .load2 .ensures) (c .before .before .before .before .before .before .before .before .load3 .ensures) (c .before .before .before .before .before .root-word .ensures) (c .before .before .before .before .before .before .before .before .before .before .before .before .before .dec .ensures) (c .before .before .before .before .before .before .before .before .before .before .dec2 .ensures) (c .before .before .before .before .before .before .before .dec3 .ensures) (c .before .before .before .before .dec4 .ensures) (c .before .before .put-pool .ensures)
+returns c = take-is (c .before .before .before .before .before .before .before .before .before .before .before .before .before .before .before .before .before .args .s .now) _ (c .before .before .before .before .before .before .before .before .before .before .before .before .before .before .before .before .before .args .sh) (c .before .before .before .before .before .before .before .before .before .before .before .before .before .before .before .before .before .args .f) (c .before .before .before .before .before .before .before .before .before .before .before .before .before .before .before .before .before .args .o) _ _ _ _ _ _ _ _ (c .before .before .before .before .before .before .before .before .before .before .before .before .before .before .load .ensures) (c .before .before .before .before .before .before .before .before .before .before .before .load2 .ensures) (c .before .before .before .before .before .before .before .before .load3 .ensures) (c .before .before .before .before .before .root-word .ensures) (c .before .before .before .before .before .before .before .before .before .before .before .before .before .dec .ensures) (c .before .before .before .before .before .before .before .before .before .before .dec2 .ensures) (c .before .before .before .before .before .before .before .dec3 .ensures) (c .before .before .before .before .dec4 .ensures) (c .before .before .put-pool .ensures)
 
 pub take-frame-spec : {M : Type 1} → statement M
 take-frame-spec =
     tie.close
     (tie.spec
-    inc-requires
     load-requires
     dec-requires
     load-requires-2
