@@ -7,18 +7,18 @@ use native.Mathlib.Omega.{arith}
 use lib.ListN.{length}
 use lib.Dec.{eqb}
 use borrow.Author.Tests.{eq-eqb, eqb-true, le-leb}
+use Rattle.words.specs.Pick.{clash}
 use Rattle.words.specs.All.{all-at, all-yes}
-use Rattle.model.specs.State.{till, Body, Body.reservation, Body.claim, Body.parcel, Row, State, maxBatch}
+use Rattle.model.specs.State.{till, Body, Body.reservation, Body.claim, Body.parcel, Body.plan, Row, State, maxBatch}
 use Rattle.model.specs.Sums.{sum-part}
 use Rattle.model.specs.WellFormed.{All, BodyRange, RowRange, handleCount, WellFormed}
 use Rattle.layout.specs.declared.Shape.{Shape}
-use Rattle.layout.specs.Layout.{Mem, total, object, index, row, load}
-use Rattle.layout.specs.Fields.{objectActive, rowLength}
-use Rattle.layout.specs.Sizes.{batchMax}
+use Rattle.layout.specs.Layout.{Mem, total, object, index, load}
+use Rattle.layout.specs.Fields.{objectActive}
 use Rattle.representation.specs.Represents.{BodyIs, RowsAre, Represents}
 use Rattle.counts.specs.Found.{handles, countsB}
 use Rattle.counts.specs.Code.{countsIn}
-use Rattle.counts.specs.Handles.{Bounds, handles-are}
+use Rattle.counts.specs.Handles.{FewHandles, Bounds, handles-are}
 
 -- ---- in the words' terms
 
@@ -49,13 +49,14 @@ module _ (sh : Shape) (m : Mem) (s : State) (r : Represents sh m s) (n : Bounds 
 -- ---- the bounds hold in a well-formed state
 
 module _ (m : Mem) (s : State) where
-  body-bound : (x : ℕ) (y : Body) → BodyIs m x y → BodyRange s y → m (row x rowLength) ≤ batchMax
+  body-bound : (x : ℕ) (y : Body) → BodyIs m x y → BodyRange till s y → FewHandles m x
   unfolding maxBatch
-  body-bound x (reservation b ks) p q = omega (arith, p .2, q .1 .1)
-  body-bound x (claim b es) p q = omega (arith, p .2, q .1 .1)
-  body-bound x (parcel hs) p q = omega (arith, p .1, q .0 .1)
+  body-bound x (reservation b ks) p q h = omega (arith, p .2, q .1 .1)
+  body-bound x (claim b es) p q h = omega (arith, p .2, q .1 .1)
+  body-bound x (parcel hs) p q h = omega (arith, p .1, q .0 .1)
+  body-bound x (plan b n w fs) p q h = clash h (rw (p .kind))
 
-  rows-bound : (i : ℕ) (rs : List Row) → RowsAre m i rs → All (RowRange s) rs → (k : ℕ) → k < length rs → m (row (m (index (i + k))) rowLength) ≤ batchMax
+  rows-bound : (i : ℕ) (rs : List Row) → RowsAre m i rs → All (RowRange till s) rs → (k : ℕ) → k < length rs → FewHandles m (m (index (i + k)))
   rows-bound i [] p q k l = absurd (omega arith)
   rows-bound i (r ∷ rs) p q zero l = let e : i + 0 ≡ i = omega arith in rw e (body-bound (m (index i)) (r .body) (p .1) (q .0))
   rows-bound i (r ∷ rs) p q (suc k) l = let e : i + suc k ≡ suc i + k = omega arith in rw e (rows-bound (suc i) rs (p .2) (q .1) k (omega arith))

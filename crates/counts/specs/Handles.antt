@@ -1,5 +1,6 @@
 -- In a represented state the handles that the words hold are the model's. Assumes nothing.
 use mathlib.Core.Path.{_≡_, refl, sym, ap, _∙_}
+use mathlib.Core.Bool.{true}
 use mathlib.Core.List.{List, [], _∷_, map}
 use Prim.Native.Nat.{ℕ, zero, suc, _+_, _*_, _/_, _%_, _≤_, _<_, min}
 use native.Mathlib.Omega.{arith}
@@ -9,18 +10,18 @@ use borrow.Author.Tests.{ne-eqb, lt-ltb, le-ltb, ltb-true, ltb-false}
 use Rattle.words.specs.Pick.{bool}
 use Rattle.words.specs.Pick.{pick, eqb-sym}
 use Rattle.model.specs.Base.{bit, occurs, sum}
-use Rattle.model.specs.State.{till, Handle, Entry, Entry.moved, Entry.copied, Body, Body.reservation, Body.claim, Body.parcel, Row, State, maxSlots}
+use Rattle.model.specs.State.{till, Handle, Entry, Entry.moved, Entry.copied, Body, Body.reservation, Body.claim, Body.parcel, Body.plan, Row, State, maxSlots}
 use Rattle.model.specs.Storage.{slotsOf}
 use Rattle.model.specs.Sums.{sum-equal, sum-zero}
 use Rattle.model.specs.WellFormed.{inSlot, heldBy, handlesIn, inHandles, inRows, handleCount}
 use Rattle.model.specs.Counting.{occurs-append, sum-append, sum-front, sum-cut}
 use Rattle.layout.specs.declared.Shape.{Shape}
 use Rattle.layout.specs.Layout.{Mem, root, head, entry, cell, object, index, row, item}
-use Rattle.layout.specs.Fields.{rootUsedRows, headPages, headFirstEntry, entryFrame, slotTag, slotGeneration, slotObject, slotRights, slotFlags, rowLength, itemObject}
+use Rattle.layout.specs.Fields.{rootUsedRows, headPages, headFirstEntry, entryFrame, slotTag, slotGeneration, slotObject, slotRights, slotFlags, rowKind, rowLength, itemObject}
 use Rattle.layout.specs.Sizes.{pageSize, batchMax}
 use Rattle.layout.specs.Values.{tagOccupied}
 use Rattle.representation.specs.Represents.{entryAt, tagged, slotFrom, slotIn, HandleIs, EntryIs, Items, BodyIs, RowsAre, Represents}
-use Rattle.counts.specs.Found.{gather, onLink, inCell, inPage, inTable, inRow, inBook, handles}
+use Rattle.counts.specs.Found.{gather, onLink, inCell, inPage, inTable, holdsHandles, inRow, inBook, handles}
 
 -- ---- sums
 
@@ -33,6 +34,10 @@ sum-pages : (w n : ℕ) (f : ℕ → ℕ) → sum (n * w) f ≡ (sum n λ p. sum
 sum-pages w zero f = let e : 0 * w ≡ 0 = omega arith in rw e
 sum-pages w (suc n) f = let e : suc n * w ≡ n * w + w = omega arith in
     ap (λ (i : ℕ). sum i f) e ∙ sum-append (n * w) w f ∙ ap (λ (x : ℕ). x + (sum w λ j. f (n * w + j))) (sum-pages w n f)
+
+-- a claim or a parcel in place x has at most batchMax items
+abbrev pub FewHandles : Mem → ℕ → Type 0
+FewHandles m x = holdsHandles (m (row x rowKind)) ≡ true → m (row x rowLength) ≤ batchMax
 
 -- ---- slots
 
@@ -121,16 +126,17 @@ module _ (m : Mem) (o : ℕ) where
   map-id [] = refl
   map-id (h ∷ hs) = ap (λ (l : List Handle). h ∷ l) (map-id hs)
 
-  body-hit : (x : ℕ) (y : Body) → BodyIs m x y → m (row x rowLength) ≤ batchMax → occurs o (inRow m x) ≡ inHandles o (handlesIn y)
+  body-hit : (x : ℕ) (y : Body) → BodyIs m x y → FewHandles m x → occurs o (inRow m x) ≡ inHandles o (handlesIn y)
   body-hit x (reservation b ks) p l = rw (p .0)
-  body-hit x (claim b es) p l = rw (p .0) (list-hit (EntryIs m x) heldBy x (λ j a q. held j a q) es (p .3) (p .2) l)
+  body-hit x (claim b es) p l = rw (p .0) (list-hit (EntryIs m x) heldBy x (λ j a q. held j a q) es (p .3) (p .2) (l (rw (p .0))))
     where
       held : (j : ℕ) (a : Entry) → EntryIs m x j a → m (item x j itemObject) ≡ heldBy a .object
       held j (moved k h r) q = q .2 .0
       held j (copied h) q = q .1 .0
-  body-hit x (parcel hs) p l = rw (p .0) (list-hit (HandleIs m x) (λ h. h) x (λ j a q. q .0) hs (p .2) (p .1) l ∙ ap (inHandles o) (map-id hs))
+  body-hit x (parcel hs) p l = rw (p .0) (list-hit (HandleIs m x) (λ h. h) x (λ j a q. q .0) hs (p .2) (p .1) (l (rw (p .0))) ∙ ap (inHandles o) (map-id hs))
+  body-hit x (plan b n w fs) p l = rw (p .kind)
 
-  rows-hit : (i : ℕ) (rs : List Row) → RowsAre m i rs → ((k : ℕ) → k < length rs → m (row (m (index (i + k))) rowLength) ≤ batchMax)
+  rows-hit : (i : ℕ) (rs : List Row) → RowsAre m i rs → ((k : ℕ) → k < length rs → FewHandles m (m (index (i + k))))
       → (sum (length rs) λ k. occurs o (inRow m (m (index (i + k))))) ≡ inRows o rs
   rows-hit i [] p b = refl
   rows-hit i (r ∷ rs) p b =
@@ -149,7 +155,7 @@ module _ (m : Mem) (o : ℕ) where
 pub record Bounds (sh : Shape) (m : Mem) : Type 0 where
   pub pages : (b : ℕ) → b < sh .tables → m (head b headPages) ≤ sh .pages
   pub rows : m (root rootUsedRows) ≤ sh .rows
-  pub items : (i : ℕ) → i < m (root rootUsedRows) → m (row (m (index i)) rowLength) ≤ batchMax
+  pub items : (i : ℕ) → i < m (root rootUsedRows) → FewHandles m (m (index i))
 
 -- THE HANDLES ARE THE MODEL'S
 pub handles-are : (sh : Shape) (m : Mem) (s : State) → Represents sh m s → Bounds sh m → (o : ℕ) → handles m sh o ≡ handleCount s o

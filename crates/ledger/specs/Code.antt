@@ -1,22 +1,26 @@
 -- What the code's branches say, in the terms of the tests. Assumes nothing.
 use mathlib.Core.Path.{_≡_, refl, sym, ap, _∙_}
 use mathlib.Core.Bool.{Bool, true, false, _&&_}
-use Prim.Native.Nat.{ℕ, _+_, _-_, _%_, _≤_, _<_}
+use Prim.Native.Nat.{ℕ, suc, _+_, _-_, _%_, _≤_, _<_}
 use native.Mathlib.Omega.{arith}
 use native.Mathlib.Numerals.{add-one}
 use lib.Dec.{eqb}
-use borrow.Author.Tests.{eq-eqb, ne-eqb, lt-ltb, le-leb, lt-leb}
+use borrow.Author.Tests.{eq-eqb, ne-eqb, eqb-true, eqb-false, lt-ltb, le-leb, lt-leb}
 use Rattle.words.specs.Pick.{bool, clash}
-use Rattle.words.specs.All.{all}
+use Rattle.words.specs.All.{all, all-stop}
+use Rattle.model.specs.State.{till}
+use Rattle.model.specs.Storage.{slotsOf}
 use Rattle.layout.specs.declared.Shape.{Shape}
-use Rattle.layout.specs.Layout.{Mem, root, cell, index, rank, row, item}
-use Rattle.layout.specs.Fields.{rootNextId, rootUsedRows, rowId, rowKind, rowTable, rowLength, itemSlot, itemOperation, itemMoved}
-use Rattle.layout.specs.Values.{tagReserved, tagTransferReserved, kindReservation, kindClaim, kindParcel}
-use Rattle.layout.specs.Sizes.{pageSize, batchMax}
+use Rattle.layout.specs.Layout.{Mem, root, owner, cell, index, rank, row, item}
+use Rattle.layout.specs.Fields.{rootNextId, rootUsedRows, rowId, rowKind, rowTable, rowLength, rowCount, itemSlot, itemOperation, itemMoved, itemPage, itemFrame, itemFreeSlots}
+use Rattle.layout.specs.Values.{tagReserved, tagTransferReserved, kindReservation, kindClaim, kindParcel, kindPlan}
+use Rattle.layout.specs.Sizes.{pageSize, pagesMax, slotsMax, batchMax, planOwner}
 use Rattle.representation.specs.Represents.{wordIn, frameOf, slotWord}
 use Rattle.storage.specs.Code.{word-some}
+use Rattle.structure.specs.Code.{counted, counted-no, counted-yes}
 use Rattle.ledger.specs.Items.{refused, placeB, PlaceOk, place-is, namesB, Names, names-is, handleB, HandleOk, handle-is, claimB, itemB}
-use Rattle.ledger.specs.Ledger.{openB, OpenOk, open-is, open-yes, rowB, RowOk, row-is, before, rankB, hitB, markB, MarkOk, mark-is, mark-yes, bookB}
+use Rattle.ledger.specs.Plans.{wantAt, lowAt, heldB, HeldOk, held-is, held-yes, itemHeldB, pagesB, planB, PlanOk, plan-is, heldIn, heldTo, heldFrames}
+use Rattle.ledger.specs.Ledger.{openB, OpenOk, open-is, listB, ListOk, list-is, bodyB, rowB, RowOk, row-is, before, rankB, hitB, markB, MarkOk, mark-is, mark-yes, bookB}
 
 module _ (m : Mem) (sh : Shape) where
   pub place-no : (i : ℕ) → (PlaceOk m sh i → ⊥) → false ≡ placeB m sh i
@@ -27,6 +31,15 @@ module _ (m : Mem) (sh : Shape) where
 
   pub open-no : (w b : ℕ) → (w ≡ kindParcel → ⊥) → (OpenOk m sh b → ⊥) → false ≡ openB m sh w b
   open-no w b d n = refused (openB m sh w b) (λ e. open-is m sh w b e d) n
+
+  pub list-no : (x w n : ℕ) → (ListOk m sh x w n → ⊥) → false ≡ listB m sh x w n
+  list-no x w n d = refused (listB m sh x w n) (list-is m sh x w n) d
+
+  pub held-no : (x j want low : ℕ) → (HeldOk m sh x j want low → ⊥) → false ≡ heldB m sh x j want low
+  held-no x j want low n = refused (heldB m sh x j want low) (held-is m sh x j want low) n
+
+  pub plan-no : (x n : ℕ) → (PlanOk m sh x n → ⊥) → false ≡ planB m sh x n
+  plan-no x n d = refused (planB m sh x n) (plan-is m sh x n) d
 
   pub row-no : (x last : ℕ) → (RowOk m sh x last → ⊥) → false ≡ rowB m sh x last
   row-no x last n = refused (rowB m sh x last) (row-is m sh x last) n
@@ -102,34 +115,109 @@ and-yes : (c : Bool) → (c && true) ≡ c
 and-yes true = refl
 and-yes false = refl
 
-pub row-last : (m : Mem) (sh : Shape) (x last w b n : ℕ) (r : Bool) → last < m (row x rowId) → m (row x rowId) < m (root rootNextId) → w ≡ m (row x rowKind) → b ≡ m (row x rowTable) → n ≡ m (row x rowLength)
-    → kindReservation ≤ w → w ≤ kindParcel → 1 ≤ n → n ≤ batchMax → openB m sh w b ≡ true → r ≡ all n (itemB m sh w b x) → r ≡ rowB m sh x last
-unfolding rowB
-row-last m sh x last w b n r h₀ h₁ ew eb en h₂ h₃ h₄ h₅ o q =
-    rw (lt-ltb last (m (row x rowId)) h₀, lt-ltb (m (row x rowId)) (m (root rootNextId)) h₁, ← ew, ← eb, ← en, le-leb 1 w h₂, le-leb w 3 h₃, le-leb 1 n h₄, le-leb n batchMax h₅, o) (q ∙ sym (and-yes (all n (itemB m sh w b x))))
+module _ (m : Mem) (sh : Shape) (x w b n : ℕ) (eb : b ≡ m (row x rowTable)) (some : 1 ≤ n) where
+  pub list-shut : (r : Bool) → r ≡ openB m sh w b → r ≡ false → false ≡ listB m sh x w n
+  unfolding listB
+  list-shut r q e = rw (le-leb 1 n some, ← eb, sym q ∙ e)
 
-pub row-shut : (m : Mem) (sh : Shape) (x last w b : ℕ) (r : Bool) → w ≡ m (row x rowKind) → b ≡ m (row x rowTable) → r ≡ openB m sh w b → r ≡ false → false ≡ rowB m sh x last
-row-shut m sh x last w b r ew eb q e = refused (rowB m sh x last) (row-is m sh x last)
-    (λ g. clash (open-yes m sh (m (row x rowKind)) (m (row x rowTable)) (g .opens)) (ap (λ (v : ℕ). openB m sh v (m (row x rowTable))) (sym ew) ∙ ap (openB m sh w) (sym eb) ∙ sym q ∙ e))
+  pub list-last : (o r : Bool) → o ≡ openB m sh w b → o ≡ true → r ≡ all n (itemB m sh w b x) → r ≡ listB m sh x w n
+  unfolding listB
+  list-last o r p d q = rw (le-leb 1 n some, ← eb, sym p ∙ d) (q ∙ sym (and-yes (all n (itemB m sh w b x))))
+
+-- a plan's item, all but its frame's owner tested
+pub held-last : (m : Mem) (sh : Shape) (x j want low f o : ℕ) (r : Bool) → 1 ≤ want → m (item x j itemPage) < pagesMax → f ≡ m (item x j itemFrame) → low ≤ f → f < sh .frames
+    → o ≡ m (owner f) → planOwner ≤ o → r ≡ eqb (o - planOwner) x → r ≡ heldB m sh x j want low
+held-last m sh x j want low f o r hw hp ef hl hf eo ho q = bool r
+    (λ e. let y = eqb-true (o - planOwner) x (sym q ∙ e) in
+    e ∙ sym (held-yes m sh x j want low (record { wanted = hw; page = hp; above = omega arith; frame = omega arith; owner = ap (λ (g : ℕ). m (owner g)) (sym ef) ∙ omega arith })))
+    (λ e. e ∙ held-no m sh x j want low (λ h. eqb-false (o - planOwner) x (sym q ∙ e) (omega (arith, ap (λ (g : ℕ). m (owner g)) ef, h .owner))))
+
+-- the loop over a plan's items
+module _ (m : Mem) (sh : Shape) (x n : ℕ) where
+  pub pages-stop : (j want low : ℕ) (t : Bool) → j < n → want ≡ wantAt m x j → low ≡ lowAt m x j → t ≡ heldB m sh x j want low → t ≡ false → false ≡ pagesB m sh x n
+  unfolding pagesB
+  pages-stop j want low t h ew el q e =
+      let y : itemHeldB m sh x j ≡ false = rw (← ew, ← el) (sym q ∙ e) in rw (all-stop n (itemHeldB m sh x) j h y)
+
+  pub item-held : (j want low : ℕ) (t : Bool) → want ≡ wantAt m x j → low ≡ lowAt m x j → t ≡ heldB m sh x j want low → t ≡ true → itemHeldB m sh x j ≡ true
+  item-held j want low t ew el q e = rw (← ew, ← el) (sym q ∙ e)
+
+  pub want-next : (j want p k v : ℕ) → want ≡ wantAt m x j → p ≡ m (item x j itemPage) → k ≡ slotsOf till p → v ≡ want - k → v ≡ wantAt m x (j + 1)
+  want-next j want p k v ew ep ek ev = rw add-one (ev ∙ omega (arith, ew, ek, ap (λ (q : ℕ). slotsOf till q) ep))
+
+  pub low-next : (j f : ℕ) → f ≡ m (item x j itemFrame) → f + 1 ≡ lowAt m x (j + 1)
+  low-next j f e = let z : j + 1 ≡ suc j = omega arith in rw z (omega arith)
+
+  pub pages-end : (j want : ℕ) (r : Bool) → all j (itemHeldB m sh x) ≡ true → want ≡ wantAt m x j → j ≡ n → r ≡ eqb want 0 → r ≡ pagesB m sh x n
+  unfolding pagesB
+  pages-end j want r a ew e q =
+      let b : all n (itemHeldB m sh x) ≡ true = rw e at a in let c : want ≡ wantAt m x n = rw e at ew in rw (b, ← c) q
+
+pub plan-last : (m : Mem) (sh : Shape) (x n : ℕ) (r : Bool) → m (row x rowTable) < sh .tables → 1 ≤ m (row x rowCount) → m (row x rowCount) ≤ batchMax → m (item x 0 itemFreeSlots) ≤ slotsMax
+    → r ≡ pagesB m sh x n → r ≡ planB m sh x n
+unfolding planB
+plan-last m sh x n r h₀ h₁ h₂ h₃ q =
+    rw (lt-ltb (m (row x rowTable)) (sh .tables) h₀, le-leb 1 (m (row x rowCount)) h₁, le-leb (m (row x rowCount)) batchMax h₂, le-leb (m (item x 0 itemFreeSlots)) slotsMax h₃) (q ∙ sym (and-yes (pagesB m sh x n)))
+
+-- a row, by what it is
+module _ (m : Mem) (sh : Shape) (x last w n : ℕ) (r : Bool) (above : last < m (row x rowId)) (below : m (row x rowId) < m (root rootNextId)) (ew : w ≡ m (row x rowKind)) (en : n ≡ m (row x rowLength))
+    (kind : kindReservation ≤ w) (known : w ≤ kindPlan) (few : n ≤ batchMax) where
+  row-body : r ≡ bodyB m sh x w n → r ≡ rowB m sh x last
+  unfolding rowB
+  row-body q =
+      rw (lt-ltb last (m (row x rowId)) above, lt-ltb (m (row x rowId)) (m (root rootNextId)) below, ← ew, ← en, le-leb 1 w kind, le-leb w kindPlan known, le-leb n batchMax few) (q ∙ sym (and-yes (bodyB m sh x w n)))
+
+  pub row-plan : w ≡ kindPlan → r ≡ planB m sh x n → r ≡ rowB m sh x last
+  unfolding bodyB
+  row-plan e q = row-body (rw (eq-eqb w kindPlan e) q)
+
+  pub row-list : (w ≡ kindPlan → ⊥) → r ≡ listB m sh x w n → r ≡ rowB m sh x last
+  unfolding bodyB
+  row-list e q = row-body (rw (ne-eqb w kindPlan e) q)
+
+-- the frames that a row holds
+module _ (m : Mem) (x w : ℕ) (ew : w ≡ m (row x rowKind)) where
+  pub held-none : (w ≡ kindPlan → ⊥) → 0 ≡ heldIn m x
+  held-none e = rw (← ew, ne-eqb w kindPlan e)
+
+  pub held-some : (n : ℕ) → w ≡ kindPlan → n ≡ m (row x rowLength) → n ≡ heldIn m x
+  held-some n e en = rw (← ew, eq-eqb w kindPlan e) en
 
 -- a row, by its rank
 pub rank-is : (m : Mem) (sh : Shape) (i x last : ℕ) (r : Bool) → x ≡ m (index i) → last ≡ before m i → r ≡ rowB m sh x last → r ≡ rankB m sh i
 rank-is m sh i x last r ex el q = q ∙ ap (λ (y : ℕ). rowB m sh y last) ex ∙ ap (rowB m sh (m (index i))) el
 
--- the book
+-- the loop over the rows
 module _ (m : Mem) (sh : Shape) where
-  pub book-used : sh .rows < m (root rootUsedRows) → false ≡ bookB m sh
+  -- a row that passes holds no more frames than it has entries
+  pub held-few : (x last h : ℕ) (t : Bool) → t ≡ rowB m sh x last → t ≡ true → h ≡ heldIn m x → h ≤ batchMax
+  held-few x last h t q e eh = let o = row-is m sh x last (sym q ∙ e) in bool (eqb (m (row x rowKind)) kindPlan)
+      (λ d. let y : h ≡ m (row x rowLength) = rw d at eh in omega (arith, o .few-items))
+      (λ d. let y : h ≡ 0 = rw d at eh in omega arith)
+
+  pub rows-stop : (n i z : ℕ) → i < n → rankB m sh i ≡ false → 0 ≡ counted (all n (rankB m sh)) z
+  rows-stop n i z h e = counted-no (all n (rankB m sh)) z (all-stop n (rankB m sh) i h e)
+
+  pub rows-end : (n i held : ℕ) → all i (rankB m sh) ≡ true → held ≡ heldTo m i → i ≡ n → held + 1 ≡ counted (all n (rankB m sh)) (heldTo m n)
+  rows-end n i held a c e =
+      let b : all n (rankB m sh) ≡ true = rw e at a in let d : held ≡ heldTo m n = rw e at c in
+      counted-yes (all n (rankB m sh)) (heldTo m n) (held + 1) b (omega arith)
+
+-- the book
+module _ (m : Mem) (sh : Shape) (z : ℕ) where
+  pub book-used : sh .rows < m (root rootUsedRows) → 0 ≡ counted (bookB m sh) z
   unfolding bookB
   book-used h = rw (lt-leb (m (root rootUsedRows)) (sh .rows) h)
 
-  pub book-next : m (root rootUsedRows) ≤ sh .rows → m (root rootNextId) < 1 → false ≡ bookB m sh
+  pub book-next : m (root rootUsedRows) ≤ sh .rows → m (root rootNextId) < 1 → 0 ≡ counted (bookB m sh) z
   unfolding bookB
   book-next h g = rw (le-leb (m (root rootUsedRows)) (sh .rows) h, lt-leb 1 (m (root rootNextId)) g)
 
-  pub book-places : (a : Bool) → m (root rootUsedRows) ≤ sh .rows → 1 ≤ m (root rootNextId) → a ≡ all (sh .rows) (placeB m sh) → a ≡ false → false ≡ bookB m sh
+  pub book-places : (a : Bool) → m (root rootUsedRows) ≤ sh .rows → 1 ≤ m (root rootNextId) → a ≡ all (sh .rows) (placeB m sh) → a ≡ false → 0 ≡ counted (bookB m sh) z
   unfolding bookB
   book-places a h g q e = rw (le-leb (m (root rootUsedRows)) (sh .rows) h, le-leb 1 (m (root rootNextId)) g, ← q, e)
 
-  pub book-last : (a r : Bool) → m (root rootUsedRows) ≤ sh .rows → 1 ≤ m (root rootNextId) → a ≡ all (sh .rows) (placeB m sh) → a ≡ true → r ≡ all (m (root rootUsedRows)) (rankB m sh) → r ≡ bookB m sh
-  unfolding bookB
-  book-last a r h g q e p = rw (le-leb (m (root rootUsedRows)) (sh .rows) h, le-leb 1 (m (root rootNextId)) g, ← q, e) p
+pub book-last : (m : Mem) (sh : Shape) (a : Bool) (n r : ℕ) → n ≡ m (root rootUsedRows) → m (root rootUsedRows) ≤ sh .rows → 1 ≤ m (root rootNextId) → a ≡ all (sh .rows) (placeB m sh) → a ≡ true
+    → r ≡ counted (all n (rankB m sh)) (heldTo m n) → r ≡ counted (bookB m sh) (heldFrames m)
+unfolding bookB
+book-last m sh a n r en h g q e p = rw (le-leb (m (root rootUsedRows)) (sh .rows) h, le-leb 1 (m (root rootNextId)) g, ← q, e, ← en) p

@@ -8,24 +8,28 @@ use native.Mathlib.Omega.{arith}
 use lib.Dec.{eqb, ltb}
 use borrow.Author.Tests.{eq-eqb, eqb-true, eqb-false}
 use Rattle.words.specs.Pick.{bool, clash, both, both-is}
-use Rattle.model.specs.Base.{bit, pick}
+use Rattle.model.specs.Base.{bit, pick, occurs}
 use Rattle.model.specs.State.{till, Lifecycle, Lifecycle.active, Lifecycle.tearingDown, Lifecycle.retired, Row, State, isActive, maxBatch, knownFlags}
+use Rattle.model.specs.Create.{maxPages}
+use Rattle.model.specs.Bounds.{slots-max, pages-max, batch-max}
 use Rattle.model.specs.Book.{find, opensIn, anyOpen}
-use Rattle.model.specs.WellFormed.{HandleRange, EntryRange, All, BodyRange, RowRange, IdsRise, WellFormed}
+use Rattle.model.specs.WellFormed.{HandleRange, EntryRange, All, JustEnough, Rising, PlanRange, BodyRange, RowRange, framesIn, plansWith, IdsRise, WellFormed}
 use Rattle.model.specs.Tests.{same, bit-true}
 use Rattle.invariant.specs.Marks.{inRow, isBy, both-marks}
 use Rattle.invariant.specs.BookLemmas.{ids-order}
 use Rattle.layout.specs.declared.Shape.{Shape}
 use Rattle.layout.specs.Layout.{Mem, root, head, index, rank, row, item}
-use Rattle.layout.specs.Fields.{rootNextId, rootUsedRows, headLifecycle, headCursor, slotTag, slotPlace, slotPosition, rowId, rowKind, rowTable, rowLength, itemSlot, itemOperation, itemMoved}
-use Rattle.layout.specs.Values.{tagTransferReserved, tagOccupied, kindReservation, kindClaim, kindParcel, lifeActive, operationMove}
+use Rattle.layout.specs.Fields.{rootNextId, rootUsedRows, headLifecycle, headCursor, slotTag, slotPlace, slotPosition, rowId, rowKind, rowTable, rowLength, rowCount, itemSlot, itemOperation, itemMoved, itemPage, itemFrame}
+use Rattle.layout.specs.Values.{tagTransferReserved, tagOccupied, kindReservation, kindClaim, kindParcel, kindPlan, lifeActive, operationMove}
 use Rattle.layout.specs.Sizes.{pageSize, batchMax}
-use Rattle.representation.specs.Represents.{wordIn, frameOf, slotWord, slotIn, LifeIs, isMarked, Items, EntryIs, BodyIs, RowsAre, Represents}
+use Rattle.representation.specs.Represents.{wordIn, frameOf, slotWord, slotIn, LifeIs, isMarked, Items, EntryIs, HeldIs, PlanIs, BodyIs, RowsAre, Represents}
 use Rattle.representation.specs.Told.{tagOf}
+use Rattle.structure.specs.Complete.{planned-below}
 use Rattle.ledger.specs.Items.{HandleOk, Names}
+use Rattle.ledger.specs.Plans.{wantAt, lowAt, PlanOk, want-less}
 use Rattle.ledger.specs.Ledger.{before, hitB, RowOk, MarkOk, MarksOk, Ledger, ledgerB, ledger-yes}
-use Rattle.ledger.specs.View.{from, handleAt, entryBy, itemAt, bodyBy, bodyAt, rowAt, rowsFrom, rowsView, length-from, rows-are-view}
-use Rattle.ledger.specs.Found.{tally-has, tally-two, hits, in-body, find-split, is-by, marked-is}
+use Rattle.ledger.specs.View.{from, handleAt, entryBy, itemAt, snapshotAt, framesAt, bodyBy, bodyAt, rowAt, rowsFrom, rowsView, length-from, rows-are-view}
+use Rattle.ledger.specs.Found.{tally-has, tally-two, occurs-from, hits, in-body, find-split, is-by, marked-is}
 use Rattle.ledger.specs.Shown.{idAt, ranked, one-id, one-place}
 
 -- ---- elements of the view
@@ -55,6 +59,12 @@ module _ (m : Mem) where
   rows-at P i (suc n) p r a b = bool (eqb r i)
       (λ e. rw (eqb-true r i e) (p .0))
       (λ e. let y = eqb-false r i e in rows-at P (suc i) n (p .1) r (omega arith) (omega arith))
+
+  plans-at : (f i n r : ℕ) → i ≤ r → r < i + n → occurs f (framesIn (bodyAt m (m (index r)))) ≤ plansWith (rowsFrom m i n) f
+  plans-at f i zero r a b = absurd (omega arith)
+  plans-at f i (suc n) r a b = bool (eqb r i)
+      (λ e. rw (eqb-true r i e) (omega arith))
+      (λ e. omega (arith, plans-at f (suc i) n r (omega (arith, eqb-false r i e)) (omega arith)))
 
   ids-at : (lo i n next : ℕ) → IdsRise lo (rowsFrom m i n) next → before m i < lo → (r : ℕ) → i ≤ r → r < i + n → (before m r < idAt m r) × (idAt m r < next)
   ids-at lo i zero next p h r a b = absurd (omega arith)
@@ -113,16 +123,43 @@ record Single (m : Mem) (sh : Shape) (t : Bool) (b k x j : ℕ) : Type 0 where
 
 -- ---- what the ranges of a body are in words
 
-record Fits (m : Mem) (sh : Shape) (x : ℕ) : Type 0 where
-  pub kind : 1 ≤ m (row x rowKind)
-  pub known : m (row x rowKind) ≤ kindParcel
+-- of a row that is no plan
+record Lists (m : Mem) (sh : Shape) (x : ℕ) : Type 0 where
   pub some-item : 1 ≤ m (row x rowLength)
-  pub few-items : m (row x rowLength) ≤ batchMax
   pub table : (m (row x rowKind) ≡ kindParcel → ⊥) → m (row x rowTable) < sh .tables
   pub handle : (m (row x rowKind) ≡ kindReservation → ⊥) → (j : ℕ) → j < m (row x rowLength) → HandleOk m sh x j
   pub operation : m (row x rowKind) ≡ kindClaim → (j : ℕ) → j < m (row x rowLength) → m (item x j itemOperation) ≤ 1
 
-module _ (m : Mem) (sh : Shape) (s : State) (tables : sh .tables ≡ s .tableCount) (objects : sh .objects ≡ s .objectCount) (x : ℕ) where
+record Fits (m : Mem) (sh : Shape) (x : ℕ) : Type 0 where
+  pub kind : 1 ≤ m (row x rowKind)
+  pub known : m (row x rowKind) ≤ kindPlan
+  pub few-items : m (row x rowLength) ≤ batchMax
+  pub lists : (m (row x rowKind) ≡ kindPlan → ⊥) → Lists m sh x
+  pub plans : m (row x rowKind) ≡ kindPlan → PlanOk m sh x (m (row x rowLength))
+
+-- a plan's pages and frames, from item j on
+module _ (m : Mem) (x : ℕ) where
+  enough-at : (j n : ℕ) → JustEnough till (wantAt m x j) (from (λ i. m (item x i itemPage)) j n) → ((i : ℕ) → j ≤ i → i < j + n → 1 ≤ wantAt m x i) × (wantAt m x (j + n) ≡ 0)
+  enough-at j zero h = let z : j + 0 ≡ j = omega arith in (λ i a b. absurd (omega arith), rw z h)
+  enough-at j (suc n) h =
+      let r = enough-at (suc j) n (h .1) in let z : j + suc n ≡ suc j + n = omega arith in (
+        λ i a b. bool (eqb i j) (λ e. rw (eqb-true i j e) (h .0)) (λ e. r .0 i (omega (arith, eqb-false i j e)) (omega arith)),
+        rw z (r .1),
+      )
+
+  rising-at : (j n : ℕ) → Rising (from (λ i. m (item x i itemFrame)) j n) → (i : ℕ) → j ≤ i → suc i < j + n → m (item x i itemFrame) < m (item x (suc i) itemFrame)
+  rising-at j zero h i a b = absurd (omega arith)
+  rising-at j (suc zero) h i a b = absurd (omega arith)
+  rising-at j (suc (suc n)) h i a b = bool (eqb i j)
+      (λ e. rw (eqb-true i j e) (h .0))
+      (λ e. rising-at (suc j) (suc n) (h .1) i (omega (arith, eqb-false i j e)) (omega arith))
+
+  low-at : (n : ℕ) → Rising (from (λ i. m (item x i itemFrame)) 0 n) → (j : ℕ) → j < n → lowAt m x j ≤ m (item x j itemFrame)
+  low-at n h zero l = omega arith
+  low-at n h (suc j) l = rising-at 0 n h j (omega arith) (omega arith)
+
+module _ (m : Mem) (sh : Shape) (s : State) (tables : sh .tables ≡ s .tableCount) (objects : sh .objects ≡ s .objectCount) (x : ℕ)
+    (below : (f : ℕ) → 0 < occurs f (framesIn (bodyAt m x)) → f < sh .frames) where
   handle-fits : (j : ℕ) → HandleRange s (handleAt m x j) → HandleOk m sh x j
   unfolding knownFlags
   handle-fits j h = record { object = omega (arith, h .object); flags = h .flags }
@@ -135,36 +172,80 @@ module _ (m : Mem) (sh : Shape) (s : State) (tables : sh .tables ≡ s .tableCou
   entry-known j zero e i = omega arith
   entry-known j (suc o) e i = omega (arith, i .0)
 
-  fits : (v : ℕ) → m (row x rowKind) ≡ v → BodyIs m x (bodyBy m x v) → BodyRange s (bodyBy m x v) → Fits m sh x
+  plan-fits : m (row x rowKind) ≡ kindPlan → PlanIs m x (m (row x rowTable)) (m (row x rowCount)) (snapshotAt m x) (framesAt m x)
+      → PlanRange till s (m (row x rowTable)) (m (row x rowCount)) (snapshotAt m x) (framesAt m x) → PlanOk m sh x (m (row x rowLength))
+  plan-fits e i g =
+      let n : ℕ = m (row x rowLength) in let w = enough-at m x 0 n (g .kept .enough) in
+      let frame : (j : ℕ) → j < m (row x rowLength) → 0 < occurs (m (item x j itemFrame)) (framesAt m x) = λ j h.
+      omega (
+        arith,
+        occurs-from (m (item x j itemFrame)) (λ k. m (item x k itemFrame)) 0 (m (row x rowLength)),
+        tally-has (λ k. eqb (m (item x j itemFrame)) (m (item x k itemFrame))) 0 (m (row x rowLength)) j (omega arith) (omega arith) (same (m (item x j itemFrame))),
+      ) in
+      let z : 0 + m (row x rowLength) ≡ m (row x rowLength) = omega arith in
+      record {
+        table = omega (arith, g .table);
+        some-count = g .count .0;
+        few-count = omega (arith, g .count .1, batch-max);
+        free = omega (arith, g .kept .freeSlots, slots-max);
+        items = λ j h. record {
+          wanted = w .0 j (omega arith) (omega arith);
+          page = omega (arith, pages-max, elements-at (λ k. m (item x k itemPage)) (λ p. p < maxPages till) 0 (m (row x rowLength)) (g .kept .pages) j (omega arith) (omega arith));
+          above = low-at m x (m (row x rowLength)) (g .rising) j h;
+          frame = below (m (item x j itemFrame)) (rw e (frame j h));
+          owner = items-at (λ k. m (item x k itemFrame)) (HeldIs m x) 0 (m (row x rowLength)) (i .held) j (omega arith) (omega arith) .1;
+        };
+        enough = rw z at (w .1);
+      }
+
+  fits : (v : ℕ) → m (row x rowKind) ≡ v → BodyIs m x (bodyBy m x v) → BodyRange till s (bodyBy m x v) → Fits m sh x
   unfolding maxBatch
   fits zero e i g = absurd (omega (arith, i .0))
   fits (suc zero) e i g = let n = length-from (λ j. m (item x j itemSlot)) 0 (m (row x rowLength)) in record {
     kind = omega arith;
     known = omega arith;
-    some-item = omega (arith, g .1 .0);
     few-items = omega (arith, g .1 .1);
-    table = λ z. omega (arith, g .0);
-    handle = λ z. absurd (z e);
-    operation = λ z. absurd (omega arith);
+    lists = λ y. record {
+      some-item = omega (arith, g .1 .0);
+      table = λ z. omega (arith, g .0);
+      handle = λ z. absurd (z e);
+      operation = λ z. absurd (omega arith);
+    };
+    plans = λ z. absurd (omega arith);
   }
   fits (suc (suc zero)) e i g = let n = length-from (itemAt m x) 0 (m (row x rowLength)) in record {
     kind = omega arith;
     known = omega arith;
-    some-item = omega (arith, g .1 .0);
     few-items = omega (arith, g .1 .1);
-    table = λ z. omega (arith, g .0);
-    handle = λ z j h. entry-fits j (m (item x j itemOperation)) (elements-at (itemAt m x) (EntryRange s) 0 (m (row x rowLength)) (g .2) j (omega arith) (omega arith));
-    operation = λ z j h. entry-known j (m (item x j itemOperation)) refl (items-at (itemAt m x) (EntryIs m x) 0 (m (row x rowLength)) (i .3) j (omega arith) (omega arith));
+    lists = λ y. record {
+      some-item = omega (arith, g .1 .0);
+      table = λ z. omega (arith, g .0);
+      handle = λ z j h. entry-fits j (m (item x j itemOperation)) (elements-at (itemAt m x) (EntryRange s) 0 (m (row x rowLength)) (g .2) j (omega arith) (omega arith));
+      operation = λ z j h. entry-known j (m (item x j itemOperation)) refl (items-at (itemAt m x) (EntryIs m x) 0 (m (row x rowLength)) (i .3) j (omega arith) (omega arith));
+    };
+    plans = λ z. absurd (omega arith);
   }
-  fits (suc (suc (suc v))) e i g = let n = length-from (handleAt m x) 0 (m (row x rowLength)) in let three = i .0 in record {
+  fits (suc (suc (suc zero))) e i g = let n = length-from (handleAt m x) 0 (m (row x rowLength)) in record {
     kind = omega arith;
     known = omega arith;
-    some-item = omega (arith, g .0 .0);
     few-items = omega (arith, g .0 .1);
-    table = λ z. absurd (z three);
-    handle = λ z j h. handle-fits j (elements-at (handleAt m x) (HandleRange s) 0 (m (row x rowLength)) (g .1) j (omega arith) (omega arith));
-    operation = λ z. absurd (omega arith);
+    lists = λ y. record {
+      some-item = omega (arith, g .0 .0);
+      table = λ z. absurd (z e);
+      handle = λ z j h. handle-fits j (elements-at (handleAt m x) (HandleRange s) 0 (m (row x rowLength)) (g .1) j (omega arith) (omega arith));
+      operation = λ z. absurd (omega arith);
+    };
+    plans = λ z. absurd (omega arith);
   }
+  fits (suc (suc (suc (suc zero)))) e i g =
+      let p : PlanOk m sh x (m (row x rowLength)) = plan-fits e i g in record {
+        kind = omega arith;
+        known = omega arith;
+        few-items = omega (arith, want-less m x (m (row x rowLength)) (λ j h. (p .items j h .wanted, p .items j h .page)), p .few-count);
+        lists = λ z. absurd (z e);
+        plans = λ z. p;
+      }
+  fits (suc (suc (suc (suc (suc v))))) e i g = absurd (omega (arith, i .0))
 
 opens-there : (m : Mem) (x v : ℕ) → m (row x rowKind) ≡ v → kindReservation ≤ v → v ≤ kindClaim → opensIn (m (row x rowTable)) (bodyBy m x v) ≡ true
 opens-there m x zero e a b = absurd (omega arith)
@@ -189,12 +270,12 @@ module _ (sh : Shape) (m : Mem) (s : State) (p : Represents sh m s) (w : WellFor
   body-here : (r : ℕ) → r < m (root rootUsedRows) → BodyIs m (m (index r)) (bodyAt m (m (index r)))
   body-here r h = bodies-at m 0 (m (root rootUsedRows)) rows-here r (omega arith) (omega arith)
 
-  ranges-here : All (RowRange s) (rowsFrom m 0 (m (root rootUsedRows)))
+  ranges-here : All (RowRange till s) (rowsFrom m 0 (m (root rootUsedRows)))
   unfolding rowsView
-  ranges-here = subst (All (RowRange s)) view (w .ranges .rows)
+  ranges-here = subst (All (RowRange till s)) view (w .ranges .rows)
 
-  range-here : (r : ℕ) → r < m (root rootUsedRows) → BodyRange s (bodyAt m (m (index r)))
-  range-here r h = rows-at m (RowRange s) 0 (m (root rootUsedRows)) ranges-here r (omega arith) (omega arith)
+  range-here : (r : ℕ) → r < m (root rootUsedRows) → BodyRange till s (bodyAt m (m (index r)))
+  range-here r h = rows-at m (RowRange till s) 0 (m (root rootUsedRows)) ranges-here r (omega arith) (omega arith)
 
   ids-here : (r : ℕ) → r < m (root rootUsedRows) → (before m r < idAt m r) × (idAt m r < m (root rootNextId))
   unfolding rowsView
@@ -282,24 +363,32 @@ module _ (sh : Shape) (m : Mem) (s : State) (p : Represents sh m s) (w : WellFor
       (p .tables (m (row (m (index r)) rowTable)) (omega (arith, p .tableCount)) .life)
       (bool (isActive (s .tables (m (row (m (index r)) rowTable)) .life)) (λ e. e) (λ e. clash some-row (w .lifecycles .closing (m (row (m (index r)) rowTable)) e)))
 
+  -- the frames of a row are frames of the state
+  below-here : (r : ℕ) → r < m (root rootUsedRows) → (f : ℕ) → 0 < occurs f (framesIn (bodyAt m (m (index r)))) → f < sh .frames
+  unfolding rowsView
+  below-here r lr f h = planned-below sh m s p w f (rw view (omega (arith, plans-at m f 0 (m (root rootUsedRows)) r (omega arith) (omega arith))))
+
   rows-complete : (r : ℕ) → r < m (root rootUsedRows) → RowOk m sh (m (index r)) (before m r)
   rows-complete r lr =
-      let f = fits m sh s (p .tableCount) (p .objectCount) (m (index r)) (m (row (m (index r)) rowKind)) refl (body-here r lr) (range-here r lr) in
+      let f = fits m sh s (p .tableCount) (p .objectCount) (m (index r)) (below-here r lr) (m (row (m (index r)) rowKind)) refl (body-here r lr) (range-here r lr) in
       let i = ids-here r lr in
       record {
         above = i .0;
         below = i .1;
         kind = f .kind;
         known = f .known;
-        some-item = f .some-item;
         few-items = f .few-items;
-        opens = λ n. record { table = f .table n; active = active-here r lr (f .kind) (omega (arith, n, f .known)) (f .table n) };
-        items = λ j h. record {
-          reserved = λ e. named true r j (m (item (m (index r)) j itemSlot)) lr (f .table (λ z. omega arith)) e h (hit-yes m true (m (index r)) j (m (item (m (index r)) j itemSlot)) refl (λ z. absurd (omega arith)));
-          handle = λ n. f .handle n j h;
-          operation = λ e. f .operation e j h;
-          moved = λ e z. named false r j (m (item (m (index r)) j itemMoved)) lr (f .table (λ y. omega arith)) e h (hit-yes m false (m (index r)) j (m (item (m (index r)) j itemMoved)) refl (λ y. z));
+        lists = λ y. let l = f .lists y in record {
+          some-item = l .some-item;
+          opens = λ n. record { table = l .table n; active = active-here r lr (f .kind) (omega (arith, n, y, f .known)) (l .table n) };
+          items = λ j h. record {
+            reserved = λ e. named true r j (m (item (m (index r)) j itemSlot)) lr (l .table (λ z. omega arith)) e h (hit-yes m true (m (index r)) j (m (item (m (index r)) j itemSlot)) refl (λ z. absurd (omega arith)));
+            handle = λ n. l .handle n j h;
+            operation = λ e. l .operation e j h;
+            moved = λ e z. named false r j (m (item (m (index r)) j itemMoved)) lr (l .table (λ q. omega arith)) e h (hit-yes m false (m (index r)) j (m (item (m (index r)) j itemMoved)) refl (λ q. z));
+          };
         };
+        plans = f .plans;
       }
 
   -- THE CHECK ACCEPTS every well-formed state

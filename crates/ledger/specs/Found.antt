@@ -59,7 +59,7 @@ tally-two h j (suc n) a c s la ha lc hc ea ec = bool (eqb j a)
 
 -- ---- slots of rows
 
-occurs-from : (k : ℕ) (f : ℕ → ℕ) (j n : ℕ) → occurs k (from f j n) ≡ tally (λ i. eqb k (f i)) j n
+pub occurs-from : (k : ℕ) (f : ℕ → ℕ) (j n : ℕ) → occurs k (from f j n) ≡ tally (λ i. eqb k (f i)) j n
 occurs-from k f j zero = refl
 occurs-from k f j (suc n) = ap (λ (z : ℕ). bit (eqb k (f j)) + z) (occurs-from k f (suc j) n)
 
@@ -83,11 +83,15 @@ in-body m t b k x = go t (m (row x rowKind))
     go true zero = refl
     go true (suc zero) = ap (λ (z : ℕ). pick (eqb b (m (row x rowTable))) z 0) (occurs-from k (λ j. m (item x j itemSlot)) 0 (m (row x rowLength)))
     go true (suc (suc zero)) = refl
-    go true (suc (suc (suc w))) = rw (ne-eqb (suc (suc (suc w))) 1 (λ z. omega arith))
+    go true (suc (suc (suc zero))) = refl
+    go true (suc (suc (suc (suc zero)))) = refl
+    go true (suc (suc (suc (suc (suc w))))) = rw (ne-eqb (suc (suc (suc (suc (suc w))))) 1 (λ z. omega arith))
     go false zero = refl
     go false (suc zero) = refl
     go false (suc (suc zero)) = ap (λ (z : ℕ). pick (eqb b (m (row x rowTable))) z 0) (moved-from m x k 0 (m (row x rowLength)))
-    go false (suc (suc (suc w))) = rw (ne-eqb (suc (suc (suc w))) 2 (λ z. omega arith))
+    go false (suc (suc (suc zero))) = refl
+    go false (suc (suc (suc (suc zero)))) = refl
+    go false (suc (suc (suc (suc (suc w))))) = rw (ne-eqb (suc (suc (suc (suc (suc w))))) 2 (λ z. omega arith))
 
 -- ---- the row that an id finds
 

@@ -12,16 +12,17 @@ use Rattle.words.specs.All.{all, all-at, all-yes}
 use Rattle.layout.specs.declared.Shape.{Shape}
 use Rattle.layout.specs.Layout.{Mem, root, head, entry, cell, index, rank, row, item}
 use Rattle.layout.specs.Fields.{rootNextId, rootUsedRows, headLifecycle, headPages, entryFrame, slotTag, slotPlace, slotPosition, rowId, rowKind, rowTable, rowLength, itemSlot, itemOperation, itemMoved}
-use Rattle.layout.specs.Values.{tagReserved, tagOccupied, kindParcel, lifeActive, operationMove}
+use Rattle.layout.specs.Values.{tagReserved, tagOccupied, kindParcel, kindPlan, lifeActive, operationMove}
 use Rattle.layout.specs.Sizes.{pageSize, pagesMax, slotsMax, batchMax}
 use Rattle.representation.specs.Represents.{entryAt, wordIn, frameOf, slotWord}
 use Rattle.model.specs.State.{maxSlots}
 use Rattle.model.specs.Bounds.{slots-max}
 use Rattle.ledger.specs.Items.{tests, passed, passes, pick-yes, pick-no, placeB, PlaceOk, place-is, place-yes, itemB, ItemOk, item-is, item-yes}
+use Rattle.ledger.specs.Plans.{planB, PlanOk, plan-is, plan-yes}
 
 -- ---- rows
 
--- the table b of a row that is a w: "a table not active has no open reservation or claim"
+-- the table b of a row that is a w and no plan: "a table not active has no open reservation or claim"
 unfoldable pub openB : Mem → Shape → ℕ → ℕ → Bool
 openB m sh w b = pick (eqb w kindParcel) true (tests (ltb b (sh .tables) ∷ eqb (m (head b headLifecycle)) lifeActive ∷ []))
 
@@ -41,11 +42,45 @@ open-yes m sh w b f = bool (eqb w kindParcel)
     (λ e. let o = f (eqb-false w kindParcel e) in
     rw e (passes (ltb b (sh .tables) ∷ eqb (m (head b headLifecycle)) lifeActive ∷ []) (lt-ltb b (sh .tables) (o .table), (eq-eqb (m (head b headLifecycle)) lifeActive (o .active), tt))))
 
--- the row in place x, whose id must be above `last`: "count, 1 to 64"
+-- the n entries of the row in place x, which is a w and no plan
+abbrev listTests : Mem → Shape → ℕ → ℕ → ℕ → List Bool
+listTests m sh x w n = leb 1 n ∷ openB m sh w (m (row x rowTable)) ∷ all n (itemB m sh w (m (row x rowTable)) x) ∷ []
+
+unfoldable pub listB : Mem → Shape → ℕ → ℕ → ℕ → Bool
+listB m sh x w n = tests (listTests m sh x w n)
+
+pub record ListOk (m : Mem) (sh : Shape) (x w n : ℕ) : Type 0 where
+  pub some-item : 1 ≤ n
+  pub opens : (w ≡ kindParcel → ⊥) → OpenOk m sh (m (row x rowTable))
+  pub items : (j : ℕ) → j < n → ItemOk m sh w (m (row x rowTable)) x j
+
+pub list-is : (m : Mem) (sh : Shape) (x w n : ℕ) → listB m sh x w n ≡ true → ListOk m sh x w n
+unfolding listB
+list-is m sh x w n e = let p = passed (listTests m sh x w n) e in record {
+  some-item = leb-true 1 n (p .0);
+  opens = open-is m sh w (m (row x rowTable)) (p .1 .0);
+  items = λ j h. item-is m sh w (m (row x rowTable)) x j (all-at n (itemB m sh w (m (row x rowTable)) x) (p .1 .1 .0) j h);
+}
+
+pub list-yes : (m : Mem) (sh : Shape) (x w n : ℕ) → ListOk m sh x w n → listB m sh x w n ≡ true
+unfolding listB
+list-yes m sh x w n l = passes (listTests m sh x w n) (
+  le-leb 1 n (l .some-item),
+  (
+    open-yes m sh w (m (row x rowTable)) (l .opens),
+    (all-yes n (itemB m sh w (m (row x rowTable)) x) (λ j h. item-yes m sh w (m (row x rowTable)) x j (l .items j h)), tt),
+  ),
+)
+
+-- the row in place x by what it is, with n entries
+unfoldable pub bodyB : Mem → Shape → ℕ → ℕ → ℕ → Bool
+bodyB m sh x w n = pick (eqb w kindPlan) (planB m sh x n) (listB m sh x w n)
+
+-- the row in place x, whose id must be above `last`: "count, 1 to 64", of a plan 0 to 64
 abbrev rowTests : Mem → Shape → ℕ → ℕ → List Bool
 rowTests m sh x last =
-    ltb last (m (row x rowId)) ∷ ltb (m (row x rowId)) (m (root rootNextId)) ∷ leb 1 (m (row x rowKind)) ∷ leb (m (row x rowKind)) kindParcel ∷ leb 1 (m (row x rowLength)) ∷ leb (m (row x rowLength)) batchMax
-    ∷ openB m sh (m (row x rowKind)) (m (row x rowTable)) ∷ all (m (row x rowLength)) (itemB m sh (m (row x rowKind)) (m (row x rowTable)) x) ∷ []
+    ltb last (m (row x rowId)) ∷ ltb (m (row x rowId)) (m (root rootNextId)) ∷ leb 1 (m (row x rowKind)) ∷ leb (m (row x rowKind)) kindPlan ∷ leb (m (row x rowLength)) batchMax
+    ∷ bodyB m sh x (m (row x rowKind)) (m (row x rowLength)) ∷ []
 
 unfoldable pub rowB : Mem → Shape → ℕ → ℕ → Bool
 rowB m sh x last = tests (rowTests m sh x last)
@@ -54,27 +89,27 @@ pub record RowOk (m : Mem) (sh : Shape) (x last : ℕ) : Type 0 where
   pub above : last < m (row x rowId)
   pub below : m (row x rowId) < m (root rootNextId)
   pub kind : 1 ≤ m (row x rowKind)
-  pub known : m (row x rowKind) ≤ kindParcel
-  pub some-item : 1 ≤ m (row x rowLength)
+  pub known : m (row x rowKind) ≤ kindPlan
   pub few-items : m (row x rowLength) ≤ batchMax
-  pub opens : (m (row x rowKind) ≡ kindParcel → ⊥) → OpenOk m sh (m (row x rowTable))
-  pub items : (j : ℕ) → j < m (row x rowLength) → ItemOk m sh (m (row x rowKind)) (m (row x rowTable)) x j
+  pub lists : (m (row x rowKind) ≡ kindPlan → ⊥) → ListOk m sh x (m (row x rowKind)) (m (row x rowLength))
+  pub plans : m (row x rowKind) ≡ kindPlan → PlanOk m sh x (m (row x rowLength))
 
 pub row-is : (m : Mem) (sh : Shape) (x last : ℕ) → rowB m sh x last ≡ true → RowOk m sh x last
-unfolding rowB
-row-is m sh x last e = let p = passed (rowTests m sh x last) e in record {
-  above = ltb-true last (m (row x rowId)) (p .0);
-  below = ltb-true (m (row x rowId)) (m (root rootNextId)) (p .1 .0);
-  kind = leb-true 1 (m (row x rowKind)) (p .1 .1 .0);
-  known = leb-true (m (row x rowKind)) kindParcel (p .1 .1 .1 .0);
-  some-item = leb-true 1 (m (row x rowLength)) (p .1 .1 .1 .1 .0);
-  few-items = leb-true (m (row x rowLength)) batchMax (p .1 .1 .1 .1 .1 .0);
-  opens = open-is m sh (m (row x rowKind)) (m (row x rowTable)) (p .1 .1 .1 .1 .1 .1 .0);
-  items = λ j h. item-is m sh (m (row x rowKind)) (m (row x rowTable)) x j (all-at (m (row x rowLength)) (itemB m sh (m (row x rowKind)) (m (row x rowTable)) x) (p .1 .1 .1 .1 .1 .1 .1 .0) j h);
-}
+unfolding rowB bodyB
+row-is m sh x last e =
+    let p = passed (rowTests m sh x last) e in let w : ℕ = m (row x rowKind) in let n : ℕ = m (row x rowLength) in
+    record {
+      above = ltb-true last (m (row x rowId)) (p .0);
+      below = ltb-true (m (row x rowId)) (m (root rootNextId)) (p .1 .0);
+      kind = leb-true 1 w (p .1 .1 .0);
+      known = leb-true w kindPlan (p .1 .1 .1 .0);
+      few-items = leb-true n batchMax (p .1 .1 .1 .1 .0);
+      lists = λ z. list-is m sh x w n (pick-no (eqb w kindPlan) (planB m sh x n) (listB m sh x w n) (p .1 .1 .1 .1 .1 .0) (ne-eqb w kindPlan z));
+      plans = λ z. plan-is m sh x n (pick-yes (eqb w kindPlan) (planB m sh x n) (listB m sh x w n) (p .1 .1 .1 .1 .1 .0) (eq-eqb w kindPlan z));
+    }
 
 pub row-yes : (m : Mem) (sh : Shape) (x last : ℕ) → RowOk m sh x last → rowB m sh x last ≡ true
-unfolding rowB
+unfolding rowB bodyB
 row-yes m sh x last r = passes (rowTests m sh x last) (
   lt-ltb last (m (row x rowId)) (r .above),
   (
@@ -82,15 +117,14 @@ row-yes m sh x last r = passes (rowTests m sh x last) (
     (
       le-leb 1 (m (row x rowKind)) (r .kind),
       (
-        le-leb (m (row x rowKind)) kindParcel (r .known),
+        le-leb (m (row x rowKind)) kindPlan (r .known),
         (
-          le-leb 1 (m (row x rowLength)) (r .some-item),
+          le-leb (m (row x rowLength)) batchMax (r .few-items),
           (
-            le-leb (m (row x rowLength)) batchMax (r .few-items),
-            (
-              open-yes m sh (m (row x rowKind)) (m (row x rowTable)) (r .opens),
-              (all-yes (m (row x rowLength)) (itemB m sh (m (row x rowKind)) (m (row x rowTable)) x) (λ j h. item-yes m sh (m (row x rowKind)) (m (row x rowTable)) x j (r .items j h)), tt),
-            ),
+            bool (eqb (m (row x rowKind)) kindPlan)
+                (λ e. rw e (plan-yes m sh x (m (row x rowLength)) (r .plans (eqb-true (m (row x rowKind)) kindPlan e))))
+                (λ e. rw e (list-yes m sh x (m (row x rowKind)) (m (row x rowLength)) (r .lists (eqb-false (m (row x rowKind)) kindPlan e)))),
+            tt,
           ),
         ),
       ),

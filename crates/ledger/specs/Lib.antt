@@ -1,9 +1,11 @@
 pub mod Items
+pub mod Plans
 pub mod Ledger
 pub mod View
 pub mod Places
 pub mod Found
 pub mod Shown
 pub mod Sound
+pub mod Held
 pub mod Complete
 pub mod Code

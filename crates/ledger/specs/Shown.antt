@@ -81,7 +81,7 @@ module _ (sh : Shape) (m : Mem) (l : Ledger sh m) where
   pub rows-shown : RowsAre m 0 (rowsView m)
   unfolding rowsView
   rows-shown = rows-show m 0 (m (root rootUsedRows)) (λ r a b. let q = l .rows r (omega arith) in
-      body-shows m (m (index r)) (q .kind) (q .known) (λ e j h. q .items j h .operation e))
+      body-shows m (m (index r)) (q .kind) (q .known) (λ e j h. q .lists (λ z. omega arith) .items j h .operation e) (λ e j h. q .plans e .items j h .owner))
 
   rise-from : (i n : ℕ) → i + n ≤ m (root rootUsedRows) → suc (before m i) ≤ m (root rootNextId) → IdsRise (suc (before m i)) (rowsFrom m i n) (m (root rootNextId))
   rise-from i zero h lo = lo
@@ -110,7 +110,7 @@ module _ (sh : Shape) (m : Mem) (l : Ledger sh m) where
       (λ d. rw d refl)))
     where
       named : m (row x rowKind) ≡ tagOf t → (j : ℕ) → j < m (row x rowLength) → hitB m (tagOf t) x j k ≡ true → Names m (m (row x rowTable)) k (tagOf t) x j
-      named e j h d = hit-names m sh t x j k (rw e at (o .items j h)) d
+      named e j h d = hit-names m sh t x j k (rw e at (o .lists (λ z. omega (arith, tag-mark t)) .items j h)) d
 
   -- MARKS: "each Reserved slot stands once in one open reservation, each TransferReserved slot once in one open claim, and each row's slots are so marked"
   pub marks-shown : (t : Bool) (i b k : ℕ) → b < sh .tables → inRow t b k (find i (rowsView m)) ≡ bit (isBy t i (slotIn m b k))

@@ -9,22 +9,25 @@ use lib.Dec.{eqb, ltb}
 use borrow.Author.Tests.{ne-eqb, eqb-true, ltb-true, ltb-false}
 use Rattle.words.specs.Pick.{bool, clash, both}
 use Rattle.model.specs.Base.{bit, pick}
-use Rattle.model.specs.State.{Slot.absent, Row, State, isActive, maxBatch, knownFlags}
+use Rattle.model.specs.State.{till, Slot.absent, Row, State, isActive, maxBatch, knownFlags}
+use Rattle.model.specs.Create.{maxPages}
+use Rattle.model.specs.Bounds.{slots-max, pages-max, batch-max}
 use Rattle.model.specs.Book.{find, opensIn, anyOpen}
-use Rattle.model.specs.WellFormed.{HandleRange, EntryRange, All, Batch, BodyRange, RowRange, Ids, Marks}
+use Rattle.model.specs.WellFormed.{HandleRange, EntryRange, All, Batch, JustEnough, Rising, PlanRange, BodyRange, RowRange, Ids, Marks}
 use Rattle.model.specs.Tests.{or-false}
 use Rattle.invariant.specs.Marks.{inRow, isBy}
 use Rattle.invariant.specs.Counts.{none-in}
 use Rattle.layout.specs.declared.Shape.{Shape}
 use Rattle.layout.specs.Layout.{Mem, Addr, root, head, index, row, item}
-use Rattle.layout.specs.Fields.{rootNextId, rootUsedRows, headLifecycle, slotTag, slotPlace, slotPosition, rowKind, rowTable, rowLength, itemSlot, itemOperation, itemRights, itemGranted}
-use Rattle.layout.specs.Values.{tagTransferReserved, tagOccupied, kindReservation, kindParcel, lifeActive, operationMove}
+use Rattle.layout.specs.Fields.{rootNextId, rootUsedRows, headLifecycle, slotTag, slotPlace, slotPosition, rowKind, rowTable, rowLength, rowCount, rowEpoch, itemSlot, itemOperation, itemRights, itemGranted, itemPage, itemFrame}
+use Rattle.layout.specs.Values.{tagTransferReserved, tagOccupied, kindReservation, kindParcel, kindPlan, lifeActive, operationMove}
 use Rattle.layout.specs.Sizes.{batchMax}
 use Rattle.representation.specs.Represents.{slotWord, slotIn, isMarked, BookIs}
 use Rattle.representation.specs.Told.{tagOf}
 use Rattle.ledger.specs.Items.{HandleOk}
+use Rattle.ledger.specs.Plans.{wantAt, lowAt, HeldOk, PlanOk}
 use Rattle.ledger.specs.Ledger.{before, hitB, RowOk, Ledger}
-use Rattle.ledger.specs.View.{from, handleAt, entryBy, itemAt, bodyBy, bodyAt, rowAt, rowsFrom, rowsView, length-from, length-rows}
+use Rattle.ledger.specs.View.{from, handleAt, entryBy, itemAt, snapshotAt, framesAt, bodyBy, bodyAt, rowAt, rowsFrom, rowsView, length-from, length-rows}
 use Rattle.ledger.specs.Found.{in-body, find-split, marked-is}
 use Rattle.ledger.specs.Shown.{hit-reserved, hit-moved, rows-shown, ids-shown, marks-shown}
 
@@ -50,6 +53,22 @@ all-rows m P i (suc n) h = (h i (omega arith) (omega arith), all-rows m P (suc i
 batch-from : {A : Type 0} (f : ℕ → A) (n : ℕ) → 1 ≤ n → n ≤ batchMax → Batch (from f 0 n)
 unfolding maxBatch
 batch-from f n a b = (omega (arith, length-from f 0 n), omega (arith, length-from f 0 n))
+
+-- ---- a plan's pages and frames
+
+module _ (m : Mem) (sh : Shape) (x : ℕ) where
+  -- the items from j on, n of them
+  abbrev Held : ℕ → ℕ → Type 0
+  Held j n = (i : ℕ) → j ≤ i → i < j + n → HeldOk m sh x i (wantAt m x i) (lowAt m x i)
+
+  enough-shown : (j n : ℕ) → Held j n → wantAt m x (j + n) ≡ 0 → JustEnough till (wantAt m x j) (from (λ i. m (item x i itemPage)) j n)
+  enough-shown j zero h e = let z : j + 0 ≡ j = omega arith in rw z at e
+  enough-shown j (suc n) h e = let z : j + suc n ≡ suc j + n = omega arith in (h j (omega arith) (omega arith) .wanted, enough-shown (suc j) n (λ i a b. h i (omega arith) (omega arith)) (rw z at e))
+
+  rising-shown : (j n : ℕ) → Held j n → Rising (from (λ i. m (item x i itemFrame)) j n)
+  rising-shown j zero h = tt
+  rising-shown j (suc zero) h = tt
+  rising-shown j (suc (suc n)) h = (h (suc j) (omega arith) (omega arith) .above, rising-shown (suc j) (suc n) (λ i a b. h i (omega arith) (omega arith)))
 
 none-open : (m : Mem) (b i n : ℕ) → ((r : ℕ) → i ≤ r → r < i + n → opensIn b (bodyAt m (m (index r))) ≡ false) → anyOpen b (rowsFrom m i n) ≡ false
 none-open m b i zero h = refl
@@ -104,31 +123,48 @@ module _ (sh : Shape) (m : Mem) (l : Ledger sh m) where
           go zero = (handle-range x j h, small (item x j itemGranted))
           go (suc o) = handle-range x j h
 
-      body-range : (x last : ℕ) → RowOk m sh x last → BodyRange s (bodyAt m x)
+      plan-range : (x n : ℕ) → m (row x rowLength) ≡ n → PlanOk m sh x n → PlanRange till s (m (row x rowTable)) (m (row x rowCount)) (snapshotAt m x) (framesAt m x)
+      plan-range x n e o =
+          let held : Held m sh x 0 (m (row x rowLength)) = λ i a b. o .items i (omega arith) in record {
+            table = omega (arith, o .table, v .tableCount);
+            count = (o .some-count, omega (arith, o .few-count, batch-max));
+            kept = record {
+              epoch = small (row x rowEpoch);
+              freeSlots = omega (arith, o .free, slots-max);
+              pages = all-from (λ p. p < maxPages till) (λ j. m (item x j itemPage)) 0 (m (row x rowLength)) (λ j a b. omega (arith, held j a b .page, pages-max));
+              enough = enough-shown m sh x 0 (m (row x rowLength)) held (let z : 0 + m (row x rowLength) ≡ n = omega arith in rw z (o .enough));
+            };
+            held = length-from (λ j. m (item x j itemFrame)) 0 (m (row x rowLength)) ∙ sym (length-from (λ j. m (item x j itemPage)) 0 (m (row x rowLength)));
+            rising = rising-shown m sh x 0 (m (row x rowLength)) held;
+          }
+
+      body-range : (x last : ℕ) → RowOk m sh x last → BodyRange till s (bodyAt m x)
       body-range x last o = go (m (row x rowKind)) refl
         where
-          table : (m (row x rowKind) ≡ kindParcel → ⊥) → m (row x rowTable) < s .tableCount
-          table n = omega (arith, o .opens n .table, v .tableCount)
+          table : (m (row x rowKind) ≡ kindPlan → ⊥) → (m (row x rowKind) ≡ kindParcel → ⊥) → m (row x rowTable) < s .tableCount
+          table p n = omega (arith, o .lists p .opens n .table, v .tableCount)
 
-          handle : (j : ℕ) → j < m (row x rowLength) → (m (row x rowKind) ≡ kindReservation → ⊥) → HandleOk m sh x j
-          handle j h n = o .items j h .handle n
+          handle : (m (row x rowKind) ≡ kindPlan → ⊥) → (j : ℕ) → j < m (row x rowLength) → (m (row x rowKind) ≡ kindReservation → ⊥) → HandleOk m sh x j
+          handle p j h n = o .lists p .items j h .handle n
 
-          go : (w : ℕ) → m (row x rowKind) ≡ w → BodyRange s (bodyBy m x w)
+          go : (w : ℕ) → m (row x rowKind) ≡ w → BodyRange till s (bodyBy m x w)
           go zero e = absurd (omega (arith, o .kind))
-          go (suc zero) e = (table (λ z. omega arith), batch-from (λ j. m (item x j itemSlot)) (m (row x rowLength)) (o .some-item) (o .few-items))
+          go (suc zero) e = (table (λ z. omega arith) (λ z. omega arith), batch-from (λ j. m (item x j itemSlot)) (m (row x rowLength)) (o .lists (λ z. omega arith) .some-item) (o .few-items))
           go (suc (suc zero)) e = (
-            table (λ z. omega arith),
-            batch-from (itemAt m x) (m (row x rowLength)) (o .some-item) (o .few-items),
-            all-from (EntryRange s) (itemAt m x) 0 (m (row x rowLength)) (λ j a b. entry-range x j (handle j (omega arith) (λ z. omega arith))),
+            table (λ z. omega arith) (λ z. omega arith),
+            batch-from (itemAt m x) (m (row x rowLength)) (o .lists (λ z. omega arith) .some-item) (o .few-items),
+            all-from (EntryRange s) (itemAt m x) 0 (m (row x rowLength)) (λ j a b. entry-range x j (handle (λ z. omega arith) j (omega arith) (λ z. omega arith))),
           )
-          go (suc (suc (suc w))) e = (
-            batch-from (handleAt m x) (m (row x rowLength)) (o .some-item) (o .few-items),
-            all-from (HandleRange s) (handleAt m x) 0 (m (row x rowLength)) (λ j a b. handle-range x j (handle j (omega arith) (λ z. omega arith))),
+          go (suc (suc (suc zero))) e = (
+            batch-from (handleAt m x) (m (row x rowLength)) (o .lists (λ z. omega arith) .some-item) (o .few-items),
+            all-from (HandleRange s) (handleAt m x) 0 (m (row x rowLength)) (λ j a b. handle-range x j (handle (λ z. omega arith) j (omega arith) (λ z. omega arith))),
           )
+          go (suc (suc (suc (suc zero)))) e = plan-range x (m (row x rowLength)) refl (o .plans e)
+          go (suc (suc (suc (suc (suc w))))) e = absurd (omega (arith, o .known))
 
-      pub row-ranges : All (RowRange s) (s .book .rows)
+      pub row-ranges : All (RowRange till s) (s .book .rows)
       unfolding rowsView
-      row-ranges = subst (All (RowRange s)) (sym (v .rows)) (all-rows m (RowRange s) 0 (m (root rootUsedRows)) (λ r a b. body-range (m (index r)) (before m r) (l .rows r (omega arith))))
+      row-ranges = subst (All (RowRange till s)) (sym (v .rows)) (all-rows m (RowRange till s) 0 (m (root rootUsedRows)) (λ r a b. body-range (m (index r)) (before m r) (l .rows r (omega arith))))
 
     -- rows name tables that there are
     far : (t : Bool) (i b k : ℕ) → sh .tables ≤ b → inRow t b k (find i (rowsView m)) ≡ 0
@@ -145,7 +181,7 @@ module _ (sh : Shape) (m : Mem) (l : Ledger sh m) where
         away : (u : Bool) (x last z : ℕ) → RowOk m sh x last → pick (eqb (m (row x rowKind)) (tagOf u) && eqb b (m (row x rowTable))) z 0 ≡ 0
         away u x last z o = bool (eqb (m (row x rowKind)) (tagOf u) && eqb b (m (row x rowTable)))
             (λ e. let p = both (eqb (m (row x rowKind)) (tagOf u)) (eqb b (m (row x rowTable))) e in
-            absurd (omega (arith, o .opens (λ q. omega (arith, tags u, eqb-true (m (row x rowKind)) (tagOf u) (p .0))) .table, eqb-true b (m (row x rowTable)) (p .1))))
+            absurd (omega (arith, o .lists (λ q. omega (arith, tags u, eqb-true (m (row x rowKind)) (tagOf u) (p .0))) .opens (λ q. omega (arith, tags u, eqb-true (m (row x rowKind)) (tagOf u) (p .0))) .table, eqb-true b (m (row x rowTable)) (p .1))))
             (λ e. rw e refl)
 
     marked-by : (t : Bool) (i b k : ℕ) → inRow t b k (find i (s .book .rows)) ≡ bit (isBy t i (s .tables b .slots k))
@@ -169,11 +205,13 @@ module _ (sh : Shape) (m : Mem) (l : Ledger sh m) where
         shut : (x last : ℕ) → RowOk m sh x last → opensIn b (bodyAt m x) ≡ false
         shut x last o = go (m (row x rowKind)) refl
           where
-            other : (m (row x rowKind) ≡ kindParcel → ⊥) → eqb b (m (row x rowTable)) ≡ false
-            other n = ne-eqb b (m (row x rowTable)) (λ q. let a = o .opens n in clash (v .life (m (row x rowTable)) (a .table) (a .active)) (rw q at e))
+            other : (m (row x rowKind) ≡ kindPlan → ⊥) → (m (row x rowKind) ≡ kindParcel → ⊥) → eqb b (m (row x rowTable)) ≡ false
+            other p n = ne-eqb b (m (row x rowTable)) (λ q. let a = o .lists p .opens n in clash (v .life (m (row x rowTable)) (a .table) (a .active)) (rw q at e))
 
             go : (w : ℕ) → m (row x rowKind) ≡ w → opensIn b (bodyBy m x w) ≡ false
             go zero d = refl
-            go (suc zero) d = other (λ z. omega arith)
-            go (suc (suc zero)) d = other (λ z. omega arith)
-            go (suc (suc (suc w))) d = refl
+            go (suc zero) d = other (λ z. omega arith) (λ z. omega arith)
+            go (suc (suc zero)) d = other (λ z. omega arith) (λ z. omega arith)
+            go (suc (suc (suc zero))) d = refl
+            go (suc (suc (suc (suc zero)))) d = refl
+            go (suc (suc (suc (suc (suc w))))) d = refl

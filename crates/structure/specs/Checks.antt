@@ -66,15 +66,15 @@ groupsB m F level size n = all n λ g. eqb (m (group level g)) (freeFrom m F (g 
 unfoldable pub levelsB : Mem → ℕ → Bool
 levelsB m F = groupsB m F 0 16 ((F + 15) / 16) && (groupsB m F 1 256 ((F + 255) / 256) && groupsB m F 2 4096 ((F + 4095) / 4096))
 
--- as many attached pages as frames that are not free
-unfoldable pub framesB : Mem → Shape → Bool
-framesB m sh =
-    eqb (attachedTo m (sh .tables) + freeFrom m (sh .frames) 0 (sh .frames)) (sh .frames)
+-- as many attached pages as frames that are not free and that no plan holds
+unfoldable pub framesB : Mem → Shape → ℕ → Bool
+framesB m sh held =
+    eqb (attachedTo m (sh .tables) + held + freeFrom m (sh .frames) 0 (sh .frames)) (sh .frames)
     && (eqb (m (root rootFreeFrames)) (freeFrom m (sh .frames) 0 (sh .frames)) && levelsB m (sh .frames))
 
--- THE CHECK'S FIRST PART
-unfoldable pub structureB : Mem → Shape → Bool
-structureB m sh = tablesB m sh && framesB m sh
+-- THE CHECK'S FIRST PART, where plans hold so many frames
+unfoldable pub structureB : Mem → Shape → ℕ → Bool
+structureB m sh held = tablesB m sh && framesB m sh held
 
 -- ---- the same in two parts: the outline, and the slots
 
@@ -108,8 +108,8 @@ unfoldable pub spansB : Mem → Shape → Bool
 spansB m sh = all (sh .tables) (λ b. spanB m sh b (limitsTo m b)) && eqb (limitsTo m (sh .tables)) (sh .pages)
 
 -- heads, page entries and frames
-unfoldable pub outlineB : Mem → Shape → Bool
-outlineB m sh = spansB m sh && framesB m sh
+unfoldable pub outlineB : Mem → Shape → ℕ → Bool
+outlineB m sh held = spansB m sh && framesB m sh held
 
 -- ---- heads
 

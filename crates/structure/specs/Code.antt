@@ -36,11 +36,11 @@ counted-no b n e = rw e
 pub counted-yes : (b : Bool) (n r : ℕ) → b ≡ true → r ≡ n + 1 → r ≡ counted b n
 counted-yes b n r e q = rw e (omega arith)
 
-counted-is : (b : Bool) (n r : ℕ) → r ≡ counted b n → (r ≡ 0 → ⊥) → (b ≡ true) × (r - 1 ≡ n)
+pub counted-is : (b : Bool) (n r : ℕ) → r ≡ counted b n → (r ≡ 0 → ⊥) → (b ≡ true) × (r - 1 ≡ n)
 counted-is true n r e h = (refl, omega arith)
 counted-is false n r e h = absurd (h e)
 
-counted-none : (b : Bool) (n r : ℕ) → r ≡ counted b n → r ≡ 0 → b ≡ false
+pub counted-none : (b : Bool) (n r : ℕ) → r ≡ counted b n → r ≡ 0 → b ≡ false
 counted-none true n r e h = absurd (omega arith)
 counted-none false n r e h = refl
 
@@ -317,26 +317,26 @@ module _ (m : Mem) (F : ℕ) where
 
 -- ---- the whole
 
-module _ (m : Mem) (sh : Shape) (c : ℕ) (ec : c ≡ counted (spansB m sh) (attachedTo m (sh .tables))) where
-  pub outline-tables : c ≡ 0 → false ≡ outlineB m sh
+module _ (m : Mem) (sh : Shape) (held c : ℕ) (ec : c ≡ counted (spansB m sh) (attachedTo m (sh .tables))) where
+  pub outline-tables : c ≡ 0 → false ≡ outlineB m sh held
   unfolding outlineB
   outline-tables z = rw (counted-none (spansB m sh) (attachedTo m (sh .tables)) c ec z)
 
-  pub outline-frames : (free : ℕ) → (c ≡ 0 → ⊥) → free ≡ freeFrom m (sh .frames) 0 (sh .frames) → (c - 1 + free ≡ sh .frames → ⊥) → false ≡ outlineB m sh
+  pub outline-frames : (free : ℕ) → (c ≡ 0 → ⊥) → free ≡ freeFrom m (sh .frames) 0 (sh .frames) → (c - 1 + held + free ≡ sh .frames → ⊥) → false ≡ outlineB m sh held
   unfolding outlineB framesB
   outline-frames free z ef h =
       let t = counted-is (spansB m sh) (attachedTo m (sh .tables)) c ec z in
-      rw (t .0, ← t .1, ← ef, ne-eqb (c - 1 + free) (sh .frames) h)
+      rw (t .0, ← t .1, ← ef, ne-eqb (c - 1 + held + free) (sh .frames) h)
 
-  pub outline-count : (free w : ℕ) → (c ≡ 0 → ⊥) → free ≡ freeFrom m (sh .frames) 0 (sh .frames) → w ≡ m (root rootFreeFrames) → (w ≡ free → ⊥) → false ≡ outlineB m sh
+  pub outline-count : (free w : ℕ) → (c ≡ 0 → ⊥) → free ≡ freeFrom m (sh .frames) 0 (sh .frames) → w ≡ m (root rootFreeFrames) → (w ≡ free → ⊥) → false ≡ outlineB m sh held
   unfolding outlineB framesB
   outline-count free w z ef ew h =
       let t = counted-is (spansB m sh) (attachedTo m (sh .tables)) c ec z in
-      rw (t .0, ← t .1, ← ef, ← ew, ne-eqb w free h) (sym (and-false (eqb (c - 1 + free) (sh .frames))))
+      rw (t .0, ← t .1, ← ef, ← ew, ne-eqb w free h) (sym (and-false (eqb (c - 1 + held + free) (sh .frames))))
 
-  pub outline-levels : (free w : ℕ) (r : Bool) → (c ≡ 0 → ⊥) → free ≡ freeFrom m (sh .frames) 0 (sh .frames) → c - 1 + free ≡ sh .frames → w ≡ m (root rootFreeFrames) → w ≡ free
-      → r ≡ levelsB m (sh .frames) → r ≡ outlineB m sh
+  pub outline-levels : (free w : ℕ) (r : Bool) → (c ≡ 0 → ⊥) → free ≡ freeFrom m (sh .frames) 0 (sh .frames) → c - 1 + held + free ≡ sh .frames → w ≡ m (root rootFreeFrames) → w ≡ free
+      → r ≡ levelsB m (sh .frames) → r ≡ outlineB m sh held
   unfolding outlineB framesB
   outline-levels free w r z ef h ew g er =
       let t = counted-is (spansB m sh) (attachedTo m (sh .tables)) c ec z in
-      rw (t .0, ← t .1, ← ef, ← ew, eq-eqb (c - 1 + free) (sh .frames) h, eq-eqb w free g) er
+      rw (t .0, ← t .1, ← ef, ← ew, eq-eqb (c - 1 + held + free) (sh .frames) h, eq-eqb w free g) er

@@ -1,6 +1,7 @@
 -- Words that represent a well-formed state have the structure. Assumes nothing.
 use mathlib.Core.Path.{_≡_, refl, sym, ap, _∙_}
 use mathlib.Core.Bool.{true, false}
+use mathlib.Core.List.{List, [], _∷_}
 use mathlib.Core.Option.{some}
 use Prim.Native.Nat.{ℕ, suc, _+_, _*_, _/_, _≤_, _<_}
 use native.Mathlib.Omega.{arith}
@@ -8,23 +9,23 @@ use lib.ListN.{length}
 use lib.Dec.{eqb, ltb}
 use borrow.Author.Tests.{eq-eqb, ne-eqb, eqb-true, lt-ltb, ltb-true}
 use Rattle.model.specs.Base.{bit, occurs, sum, isSome}
-use Rattle.model.specs.State.{till, Lifecycle, Lifecycle.active, Lifecycle.tearingDown, Lifecycle.retired, State, generation, isAbsent, isOccupied, isRetired, maxSlots}
+use Rattle.model.specs.State.{till, Lifecycle, Lifecycle.active, Lifecycle.tearingDown, Lifecycle.retired, Body, Body.reservation, Body.claim, Body.parcel, Body.plan, Row, State, generation, isAbsent, isOccupied, isRetired, maxSlots}
 use Rattle.model.specs.Storage.{slotsOf}
-use Rattle.model.specs.WellFormed.{LifeRange, TableRange, isFrame, pagesWith, isAttached, WellFormed}
+use Rattle.model.specs.WellFormed.{LifeRange, TableRange, isFrame, pagesWith, framesIn, plansWith, isAttached, WellFormed}
 use Rattle.model.specs.Tests.{bool, clash, bit-true, zero-or}
 use Rattle.model.specs.Sums.{sum-equal, sum-add, sum-part}
 use Rattle.model.specs.Counting.{bit-same, sum-some, sum-ones, sum-occurs}
 use Rattle.layout.specs.declared.Shape.{Shape}
-use Rattle.layout.specs.Layout.{Mem, head, entry, owner, cell}
+use Rattle.layout.specs.Layout.{Mem, head, entry, owner, cell, index}
 use Rattle.layout.specs.Fields.{headPageLimit, headLifecycle, headCursor, headPages, entryFrame, entryHigh, slotTag, slotGeneration, slotObject, slotRights, slotFlags}
 use Rattle.layout.specs.Values.{tagOccupied, lifeRetired}
-use Rattle.layout.specs.Sizes.{pageSize, slotsMax}
-use Rattle.representation.specs.Represents.{entryAt, tagged, LifeIs, TableIs, Represents}
+use Rattle.layout.specs.Sizes.{pageSize, slotsMax, planOwner}
+use Rattle.representation.specs.Represents.{entryAt, tagged, LifeIs, TableIs, Items, HeldIs, BodyIs, RowsAre, Represents}
 use Rattle.representation.specs.Told.{link-some}
 use Rattle.structure.specs.Facts.{limitsTo, isFree, freeFrom, attachedTo, HeadIs, SlotIs, PageIs, Structure}
 use Rattle.structure.specs.Checks.{structureB}
 use Rattle.structure.specs.Whole.{link-small, structure-complete}
-use Rattle.structure.specs.Frames.{pagesOf, pages-counted}
+use Rattle.structure.specs.Frames.{pagesOf, pages-counted, plannedIn, plans-counted}
 use Rattle.structure.specs.Slots.{slot-at, tag-there, tagged-generation, tagged-held, busy-page}
 use Rattle.structure.specs.View.{pages-with}
 
@@ -45,6 +46,27 @@ life-gone : (w c : ℕ) (l : Lifecycle) → LifeIs w c l → w ≡ lifeRetired �
 life-gone w c active i e = absurd (omega arith)
 life-gone w c (tearingDown n) i e = absurd (omega arith)
 life-gone w c retired i e = refl
+
+-- ---- plans
+
+-- the owner word of a frame that a row holds is that of the row's place
+pub held-owner : (m : Mem) (x f : ℕ) (d : Body) → BodyIs m x d → 0 < occurs f (framesIn d) → m (owner f) ≡ planOwner + x
+held-owner m x f (reservation b ks) i h = absurd (omega arith)
+held-owner m x f (claim b es) i h = absurd (omega arith)
+held-owner m x f (parcel hs) i h = absurd (omega arith)
+held-owner m x f (plan b n w fs) i h = go 0 fs (i .held) h
+  where
+    go : (j : ℕ) (gs : List ℕ) → Items (HeldIs m x) j gs → 0 < occurs f gs → m (owner f) ≡ planOwner + x
+    go j [] p l = absurd (omega arith)
+    go j (g ∷ gs) p l = bool (eqb f g)
+        (λ e. ap (λ (y : ℕ). m (owner y)) (eqb-true f g e) ∙ p .0 .1)
+        (λ e. let k : 0 < 0 + occurs f gs = rw e at l in go (suc j) gs (p .1) (omega arith))
+
+plans-owned : (m : Mem) (i f : ℕ) (rs : List Row) → RowsAre m i rs → 0 < plansWith rs f → 0 < m (owner f)
+plans-owned m i f [] p h = absurd (omega arith)
+plans-owned m i f (x ∷ rs) p h = zero-or (occurs f (framesIn (x .body)))
+    (λ z. plans-owned m (suc i) f rs (p .2) (omega arith))
+    (λ z. omega (arith, held-owner m (m (index i)) f (x .body) (p .1) z))
 
 module _ (sh : Shape) (m : Mem) (s : State) (r : Represents sh m s) (w : WellFormed till s) where
   limits-same : (n : ℕ) → n ≤ s .tableCount → (sum n λ c. s .tables c .limit) ≡ limitsTo m n
@@ -159,13 +181,15 @@ module _ (sh : Shape) (m : Mem) (s : State) (r : Represents sh m s) (w : WellFor
   -- the free frames are those without an owner
   free-same : (f : ℕ) → occurs f (s .frames) ≡ bit (isFree m (sh .frames) f)
   free-same f = bool (ltb f (sh .frames))
-      (λ e. let o : pagesOf m (sh .tables) f + occurs f (s .frames) ≡ 1 = rw (← pages-same f) (w .frames .once f ∙ rw (← r .frameCount, e)) in
+      (λ e. let o : pagesOf m (sh .tables) f + plansWith (s .book .rows) f + occurs f (s .frames) ≡ 1 = rw (← pages-same f) (w .frames .once f ∙ rw (← r .frameCount, e)) in
       zero-or (occurs f (s .frames))
-      (λ z. let x = sum-some (sh .tables) (λ b. sum (m (head b headPages)) λ p. bit (eqb (m (entry (entryAt m b p) entryFrame)) (suc f))) (omega arith) in
+      (λ z. zero-or (plansWith (s .book .rows) f)
+      (λ u. let x = sum-some (sh .tables) (λ b. sum (m (head b headPages)) λ p. bit (eqb (m (entry (entryAt m b p) entryFrame)) (suc f))) (omega arith) in
       let y = sum-some (m (head (x .0) headPages)) (λ p. bit (eqb (m (entry (entryAt m (x .0) p) entryFrame)) (suc f))) (x .2) in
       let l : m (entry (entryAt m (x .0) (y .0)) entryFrame) ≡ suc f = eqb-true (m (entry (entryAt m (x .0) (y .0)) entryFrame)) (suc f) (bit-true (eqb (m (entry (entryAt m (x .0) (y .0)) entryFrame)) (suc f)) (y .2)) in
       let n = page-of (x .0) (y .0) (x .1) (y .1) .named f l in
       z ∙ rw (e, ne-eqb (m (owner f)) 0 (λ q. omega arith)))
+      (λ u. z ∙ rw (e, ne-eqb (m (owner f)) 0 (λ q. omega (arith, plans-owned m 0 f (s .book .rows) (r .book .rows) u)))))
       (λ z. let n = r .frames .free f z in
       let y : occurs f (s .frames) ≡ 1 = omega arith in y ∙ rw (e, eq-eqb (m (owner f)) 0 n)))
       (λ e. let z : bit (ltb f (s .frameCount)) ≡ 0 = rw (← r .frameCount, e) in
@@ -184,19 +208,27 @@ module _ (sh : Shape) (m : Mem) (s : State) (r : Represents sh m s) (w : WellFor
       sym (sum-occurs (sh .frames) (s .frames) frame-below)
       ∙ sum-equal (sh .frames) (λ j. occurs j (s .frames)) (λ j. bit (isFree m (sh .frames) (0 + j))) (λ j h. let e : 0 + j ≡ j = omega arith in rw e (free-same j))
 
-  frames-all : attachedTo m (sh .tables) + freeFrom m (sh .frames) 0 (sh .frames) ≡ sh .frames
+  -- a frame that a plan holds is one of the frames
+  pub planned-below : (f : ℕ) → 0 < plansWith (s .book .rows) f → f < sh .frames
+  planned-below f h = bool (ltb f (sh .frames))
+      (λ e. ltb-true f (sh .frames) e)
+      (λ e. let z : bit (ltb f (s .frameCount)) ≡ 0 = rw (← r .frameCount, e) in absurd (omega (arith, w .frames .once f)))
+
+  frames-all : attachedTo m (sh .tables) + plannedIn (s .book .rows) + freeFrom m (sh .frames) 0 (sh .frames) ≡ sh .frames
   frames-all =
       let a = pages-counted m (sh .tables) (sh .frames) (λ b p h i. page-of b p h i .link) in
-      let c = sum-add (sh .frames) (λ f. pagesOf m (sh .tables) f) (λ f. bit (isFree m (sh .frames) (0 + f))) in
-      let d : (sum (sh .frames) λ f. pagesOf m (sh .tables) f + bit (isFree m (sh .frames) (0 + f))) ≡ sh .frames =
-      sum-equal (sh .frames) (λ f. pagesOf m (sh .tables) f + bit (isFree m (sh .frames) (0 + f))) (λ f. 1)
+      let p = plans-counted (sh .frames) (s .book .rows) planned-below in
+      let b = sum-add (sh .frames) (λ f. pagesOf m (sh .tables) f) (λ f. plansWith (s .book .rows) f) in
+      let c = sum-add (sh .frames) (λ f. pagesOf m (sh .tables) f + plansWith (s .book .rows) f) (λ f. bit (isFree m (sh .frames) (0 + f))) in
+      let d : (sum (sh .frames) λ f. pagesOf m (sh .tables) f + plansWith (s .book .rows) f + bit (isFree m (sh .frames) (0 + f))) ≡ sh .frames =
+      sum-equal (sh .frames) (λ f. pagesOf m (sh .tables) f + plansWith (s .book .rows) f + bit (isFree m (sh .frames) (0 + f))) (λ f. 1)
       (λ f h. let e : 0 + f ≡ f = omega arith in rw (e, ← pages-same f, ← free-same f) (w .frames .once f ∙ rw (← r .frameCount, lt-ltb f (sh .frames) h)))
       ∙ sum-ones (sh .frames) in
-      omega (arith, a, c, d)
+      omega (arith, a, b, c, d, p)
 
   -- ---- THE WHOLE
 
-  pub represented-structure : Structure sh m
+  pub represented-structure : Structure sh m (plannedIn (s .book .rows))
   represented-structure = record {
     heads = head-of;
     pages = page-of;
@@ -208,5 +240,5 @@ module _ (sh : Shape) (m : Mem) (s : State) (r : Represents sh m s) (w : WellFor
     thousands = λ g h. r .frames .thousands g (omega (arith, r .frameCount)) ∙ free-sum (g * 4096) 4096;
   }
 
-  pub represented-passes : structureB m sh ≡ true
-  represented-passes = structure-complete sh m represented-structure
+  pub represented-passes : structureB m sh (plannedIn (s .book .rows)) ≡ true
+  represented-passes = structure-complete sh m (plannedIn (s .book .rows)) represented-structure

@@ -68,13 +68,13 @@ pub record PageIs (m : Mem) (sh : Shape) (life e n : ℕ) : Type 0 where
   pub busy : (f : ℕ) → m (entry e entryFrame) ≡ suc f → m (entry e entryBusy) ≡ busyCells m f n
   pub slots : (f : ℕ) → m (entry e entryFrame) ≡ suc f → (j : ℕ) → j < n → SlotIs m (sh .objects) life (m (entry e entryHigh)) f j
 
--- the whole
-pub record Structure (sh : Shape) (m : Mem) : Type 0 where
+-- the whole, where plans hold so many frames
+pub record Structure (sh : Shape) (m : Mem) (held : ℕ) : Type 0 where
   pub heads : (b : ℕ) → b < sh .tables → HeadIs m b (limitsTo m b)
   pub pages : (b p : ℕ) → b < sh .tables → p < m (head b headPages) → PageIs m sh (m (head b headLifecycle)) (entryAt m b p) (slotsOf till p)
   pub entries : sh .pages ≡ limitsTo m (sh .tables)
-  -- "each attached page has a frame of its own and all other frames are free"
-  pub frames : attachedTo m (sh .tables) + freeFrom m (sh .frames) 0 (sh .frames) ≡ sh .frames
+  -- "each attached page has a frame of its own and all other frames are free", but for those that a plan holds
+  pub frames : attachedTo m (sh .tables) + held + freeFrom m (sh .frames) 0 (sh .frames) ≡ sh .frames
   pub free : m (root rootFreeFrames) ≡ freeFrom m (sh .frames) 0 (sh .frames)
   pub sixteens : (g : ℕ) → g * 16 < sh .frames → m (group 0 g) ≡ freeFrom m (sh .frames) (g * 16) 16
   pub hundreds : (g : ℕ) → g * 256 < sh .frames → m (group 1 g) ≡ freeFrom m (sh .frames) (g * 256) 256

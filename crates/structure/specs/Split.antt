@@ -82,19 +82,19 @@ module _ (m : Mem) (sh : Shape) where
       ∙ sym (and-assoc (headB m b e) (all n (λ p. entryB m sh (e + p))) (slotsIn b))
 
   -- THE FIRST PART IN TWO
-  pub structure-split : structureB m sh ≡ (outlineB m sh && all (sh .tables) slotsIn)
+  pub structure-split : (held : ℕ) → structureB m sh held ≡ (outlineB m sh held && all (sh .tables) slotsIn)
   unfolding structureB outlineB tablesB spansB
-  structure-split =
+  structure-split held =
       let s : Bool = all (sh .tables) (λ b. spanB m sh b (limitsTo m b)) in let t : Bool = all (sh .tables) slotsIn in let e : Bool = eqb (limitsTo m (sh .tables)) (sh .pages) in
-      ap (λ (x : Bool). (x && e) && framesB m sh) (all-same (sh .tables) _ _ (λ b h. table-split b) ∙ all-both (sh .tables) (λ b. spanB m sh b (limitsTo m b)) slotsIn)
-      ∙ ap (λ (x : Bool). x && framesB m sh) (and-swap s t e) ∙ and-swap (s && e) t (framesB m sh)
+      ap (λ (x : Bool). (x && e) && framesB m sh held) (all-same (sh .tables) _ _ (λ b h. table-split b) ∙ all-both (sh .tables) (λ b. spanB m sh b (limitsTo m b)) slotsIn)
+      ∙ ap (λ (x : Bool). x && framesB m sh held) (and-swap s t e) ∙ and-swap (s && e) t (framesB m sh held)
 
   -- ---- what an outline that passes says
 
-  module _ (y : outlineB m sh ≡ true) where
+  module _ (held : ℕ) (y : outlineB m sh held ≡ true) where
     spans : (all (sh .tables) (λ c. spanB m sh c (limitsTo m c)) ≡ true) × (eqb (limitsTo m (sh .tables)) (sh .pages) ≡ true)
     unfolding outlineB spansB
-    spans = both (all (sh .tables) (λ c. spanB m sh c (limitsTo m c))) (eqb (limitsTo m (sh .tables)) (sh .pages)) (both (spansB m sh) (framesB m sh) y .0)
+    spans = both (all (sh .tables) (λ c. spanB m sh c (limitsTo m c))) (eqb (limitsTo m (sh .tables)) (sh .pages)) (both (spansB m sh) (framesB m sh held) y .0)
 
     parts : (b : ℕ) → b < sh .tables → (headB m b (limitsTo m b) ≡ true) × (entriesB m sh (limitsTo m b) (m (head b headPages)) ≡ true)
     unfolding spanB

@@ -15,13 +15,14 @@ use Rattle.model.specs.Tests.{bool, clash}
 use Rattle.model.specs.Sums.{sum-equal}
 use Rattle.model.specs.Counting.{sum-cut}
 use Rattle.layout.specs.declared.Shape.{Shape}
+use Rattle.layout.specs.ShapeOf.{Permitted}
 use Rattle.layout.specs.Layout.{Addr, Mem, head, entry, cell}
 use Rattle.layout.specs.Fields.{headPageLimit, headMask, headLifecycle, headCursor, headEpoch, headPages, headFirstEntry, entryFrame, entryHigh, entryBusy, slotTag, slotGeneration, slotObject, slotRights, slotFlags}
 use Rattle.layout.specs.Values.{lifeRetired}
 use Rattle.layout.specs.Sizes.{pageSize}
 use Rattle.representation.specs.Represents.{entryAt, linkOf, frameOf, slotIn, LifeIs, FramesAre}
 use Rattle.structure.specs.Facts.{SlotIs, Structure}
-use Rattle.structure.specs.Frames.{pagesOf, frame-once, freeFrames, free-occurs, free-rising, free-owner, free-group, free-length}
+use Rattle.structure.specs.Frames.{pagesOf, plannedIn, Planned, frame-once, freeFrames, free-occurs, free-rising, free-owner, free-group, free-length}
 use Rattle.structure.specs.Slots.{unlink, link-back, unlink-some, frame-link, pageView, page-in, page-out, lifeView, life-view, life-range, life-retired, frame-of, slot-none, slot-in, tagged-there, tagged-generation, tagged-occupied, tagged-range, busy-page}
 
 -- a table as the memory shows it, its orders aside
@@ -55,7 +56,7 @@ pages-with m s n f c z l e r =
     ∙ sum-equal (m (head b headPages)) (λ p. bit (isFrame (s .tables b .pages p .frame) f)) (λ p. bit (eqb (m (entry (entryAt m b p) entryFrame)) (suc f))) (λ p i.
     frame-link (s .tables b .pages p .frame) f ∙ ap (λ (x : ℕ). bit (eqb x (suc f))) (e b p h i)))
 
-module _ (sh : Shape) (m : Mem) (st : Structure sh m) where
+module _ (sh : Shape) (m : Mem) (held : ℕ) (st : Structure sh m held) where
   -- ---- one table
 
   module _ (b : ℕ) (here : b < sh .tables) (t : Table) (v : TableShows m b t) where
@@ -175,15 +176,16 @@ module _ (sh : Shape) (m : Mem) (st : Structure sh m) where
   -- ---- the frames
 
   module _ (s : State) (v : Shows sh m s) where
-    pub frames-shown : Frames s
-    frames-shown = record {
+    -- the plans' frames are known from the book
+    pub frames-shown : Permitted sh → Planned sh m (s .book .rows) → plannedIn (s .book .rows) ≡ held → Frames s
+    frames-shown limits pl all = record {
       once = λ f.
           let e : pagesWith s f ≡ pagesOf m (sh .tables) f = pages-with m s (sh .tables) f (v .tableCount)
           (λ b h. v .tables b h .size)
           (λ b h. rw (v .tables b h .limit) (st .heads b h .size))
           (λ b p h i. sym (frame-shown b h (s .tables b) (v .tables b h) p (omega (arith, v .tables b h .size))))
           (λ b p h i. page-gone b h (s .tables b) (v .tables b h) p (omega (arith, v .tables b h .size))) in
-          rw (e, v .frames, free-occurs m (sh .frames) f, v .frameCount) (frame-once sh m st f);
+          rw (e, v .frames, free-occurs m (sh .frames) f, v .frameCount) (frame-once sh m held st limits (s .book .rows) pl all f);
       rising = rw (v .frames) (free-rising m (sh .frames));
     }
 

@@ -117,14 +117,14 @@ groups-yes m F level size n f =
 
 -- ---- THE WHOLE
 
-pub structure-sound : (sh : Shape) (m : Mem) → structureB m sh ≡ true → Structure sh m
+pub structure-sound : (sh : Shape) (m : Mem) (held : ℕ) → structureB m sh held ≡ true → Structure sh m held
 unfolding structureB tablesB framesB levelsB
-structure-sound sh m q =
+structure-sound sh m held q =
     let t = both (tablesB m sh) _ q in
     let u = both (all (sh .tables) (λ b. tableB m sh b (limitsTo m b))) _ (t .0) in
     let a : (b : ℕ) → b < sh .tables → HeadIs m b (limitsTo m b) × ((p : ℕ) → p < m (head b headPages) → PageIs m sh (m (head b headLifecycle)) (entryAt m b p) (slotsOf till p)) = λ b h.
     table-is m sh b (limitsTo m b) (all-at (sh .tables) (λ c. tableB m sh c (limitsTo m c)) (u .0) b h) in
-    let v = both (eqb (attachedTo m (sh .tables) + freeFrom m (sh .frames) 0 (sh .frames)) (sh .frames)) _ (t .1) in
+    let v = both (eqb (attachedTo m (sh .tables) + held + freeFrom m (sh .frames) 0 (sh .frames)) (sh .frames)) _ (t .1) in
     let w = both (eqb (m (root rootFreeFrames)) (freeFrom m (sh .frames) 0 (sh .frames))) _ (v .1) in
     let x = both (groupsB m (sh .frames) 0 16 ((sh .frames + 15) / 16)) _ (w .1) in
     let y = both (groupsB m (sh .frames) 1 256 ((sh .frames + 255) / 256)) _ (x .1) in
@@ -132,19 +132,19 @@ structure-sound sh m q =
       heads = λ b h. a b h .0;
       pages = λ b p h i. a b h .1 p i;
       entries = sym (eqb-true (limitsTo m (sh .tables)) (sh .pages) (u .1));
-      frames = eqb-true (attachedTo m (sh .tables) + freeFrom m (sh .frames) 0 (sh .frames)) (sh .frames) (v .0);
+      frames = eqb-true (attachedTo m (sh .tables) + held + freeFrom m (sh .frames) 0 (sh .frames)) (sh .frames) (v .0);
       free = eqb-true (m (root rootFreeFrames)) (freeFrom m (sh .frames) 0 (sh .frames)) (w .0);
       sixteens = λ g h. groups-is m (sh .frames) 0 16 ((sh .frames + 15) / 16) (x .0) g (omega arith);
       hundreds = λ g h. groups-is m (sh .frames) 1 256 ((sh .frames + 255) / 256) (y .0) g (omega arith);
       thousands = λ g h. groups-is m (sh .frames) 2 4096 ((sh .frames + 4095) / 4096) (y .1) g (omega arith);
     }
 
-pub structure-complete : (sh : Shape) (m : Mem) → Structure sh m → structureB m sh ≡ true
+pub structure-complete : (sh : Shape) (m : Mem) (held : ℕ) → Structure sh m held → structureB m sh held ≡ true
 unfolding structureB tablesB framesB levelsB
-structure-complete sh m s = rw (
+structure-complete sh m held s = rw (
   all-yes (sh .tables) (λ b. tableB m sh b (limitsTo m b)) (λ b h. table-yes m sh b (limitsTo m b) (s .heads b h) (λ p i. s .pages b p h i)),
   eq-eqb (limitsTo m (sh .tables)) (sh .pages) (sym (s .entries)),
-  eq-eqb (attachedTo m (sh .tables) + freeFrom m (sh .frames) 0 (sh .frames)) (sh .frames) (s .frames),
+  eq-eqb (attachedTo m (sh .tables) + held + freeFrom m (sh .frames) 0 (sh .frames)) (sh .frames) (s .frames),
   eq-eqb (m (root rootFreeFrames)) (freeFrom m (sh .frames) 0 (sh .frames)) (s .free),
   groups-yes m (sh .frames) 0 16 ((sh .frames + 15) / 16) (λ g h. s .sixteens g (omega arith)),
   groups-yes m (sh .frames) 1 256 ((sh .frames + 255) / 256) (λ g h. s .hundreds g (omega arith)),

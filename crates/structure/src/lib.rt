@@ -277,16 +277,20 @@ fn levels_ok(s: &[u64], sh: Shape) -> bool
     sums_ok(s, sh, 1, 256, ((f + 4095) / 4096) as u16)
 }
 
-// The first part of the state check: heads, page entries and frames.
-pub fn check_outline(s: &[u64], sh: Shape) -> bool
-    ensures { λ r. ⌜ r ≡ outlineB (loadAt (now (s .entry)) sh) sh ⌝ }
+// The first part of the state check: heads, page entries and frames, of which plans hold `held`.
+pub fn check_outline(s: &[u64], sh: Shape, held: u64) -> bool
+    ensures { λ r. ⌜ r ≡ outlineB (loadAt (now (s .entry)) sh) sh held ⌝ }
 {
     let c = tables_ok(s, sh);
     if c == 0 {
         return false;
     }
     let free = free_in(s, sh, 0, sh.frames);
-    if c - 1 != (sh.frames as u64) - free {
+    let taken = (sh.frames as u64) - free;
+    if held > taken {
+        return false;
+    }
+    if c - 1 != taken - held {
         return false;
     }
     if layout::root_word(s, sh, field::ROOT_FREE_FRAMES) != free {

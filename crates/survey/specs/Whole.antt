@@ -52,18 +52,18 @@ module _ (m : Mem) (sh : Shape) where
   link-whole b p life e (suc f) k = let y : suc f - 1 ≡ f = omega arith in
       rw (ne-eqb (suc f) 0 (λ z. omega arith), y, count-is p, lt-ltb f (sh .frames) (k f refl)) (slots-whole b p life (m (entry e entryHigh)) f (slotsOf till p) (m (entry e entryBusy)))
 
-  module _ (y : outlineB m sh ≡ true) where
+  module _ (held : ℕ) (y : outlineB m sh held ≡ true) where
     page-whole : (b p : ℕ) → b < sh .tables → p < m (head b headPages) → m (head b headFirstEntry) ≡ limitsTo m b → (slotsAt m sh b p && marksOn m sh b p) ≡ pageB m sh b (boundOf (sh .objects) (m (head b headLifecycle))) (m (head b headFirstEntry)) p
     unfolding marksOn pageB
     page-whole b p l i h = ap (λ (e : ℕ). slotsOn m sh (m (head b headLifecycle)) (e + p) (slotsOf till p) (m (entry (e + p) entryFrame)) && marksOn m sh b p) (sym h)
-        ∙ link-whole b p (m (head b headLifecycle)) (m (head b headFirstEntry) + p) (m (entry (m (head b headFirstEntry) + p) entryFrame)) (λ f q. outline-link m sh y b p f l i (ap (λ (e : ℕ). m (entry (e + p) entryFrame)) (sym h) ∙ q))
+        ∙ link-whole b p (m (head b headLifecycle)) (m (head b headFirstEntry) + p) (m (entry (m (head b headFirstEntry) + p) entryFrame)) (λ f q. outline-link m sh held y b p f l i (ap (λ (e : ℕ). m (entry (e + p) entryFrame)) (sym h) ∙ q))
 
     table-whole : (b : ℕ) → b < sh .tables → (slotsIn m sh b && marksIn m sh b) ≡ tableB m sh (sh .objects) b
     unfolding marksIn tableB
     table-whole b l =
-        let h = outline-head m sh y b l in let n : ℕ = m (head b headPages) in
+        let h = outline-head m sh held y b l in let n : ℕ = m (head b headPages) in
         let u : min n pagesMax ≡ n = omega (arith, h .size, h .few-limit) in
-        let v : min n (sh .pages) ≡ n = omega (arith, h .size, outline-entries m sh y, sum-part (sh .tables) (λ c. m (head c headPageLimit)) b l) in
+        let v : min n (sh .pages) ≡ n = omega (arith, h .size, outline-entries m sh held y, sum-part (sh .tables) (λ c. m (head c headPageLimit)) b l) in
         rw (u, v) (sym (all-both n (slotsAt m sh b) (marksOn m sh b)) ∙ all-same n _ _ (λ p k. page-whole b p l k (h .first)))
 
     -- THE WALK TESTS BOTH

@@ -2,7 +2,7 @@
 use mathlib.Core.Path.{_≡_, refl, sym, ap, _∙_}
 use mathlib.Core.Bool.{Bool, true, false, _&&_, and-false}
 use mathlib.Core.List.{List, _++_}
-use Prim.Native.Nat.{ℕ, _≤_, _<_}
+use Prim.Native.Nat.{ℕ, _-_, _≤_, _<_}
 use native.Mathlib.Omega.{arith}
 use lib.ListN.{length}
 use lib.Dec.{eqb, ltb}
@@ -14,8 +14,10 @@ use Rattle.model.specs.Counting.{occurs-append}
 use Rattle.layout.specs.declared.Shape.{Shape}
 use Rattle.layout.specs.Layout.{Mem, total, load}
 use Rattle.structure.specs.Checks.{outlineB}
+use Rattle.structure.specs.Code.{counted, counted-is, counted-none}
 use Rattle.structure.specs.Split.{slotsIn, structure-split}
 use Rattle.orders.specs.Check.{ordersB}
+use Rattle.ledger.specs.Plans.{heldFrames}
 use Rattle.ledger.specs.Ledger.{marksB, bookB, ledger-split}
 use Rattle.counts.specs.declared.ObjectsRead.{ObjectsRead}
 use Rattle.counts.specs.declared.ObjectsRead.the-variants.{Bad, Used}
@@ -32,7 +34,7 @@ use Rattle.wellformed.specs.Whole.{partsB, wellB}
 
 -- the parts that write nothing, in the order in which they are tried
 unfoldable pub quietB : Mem → Shape → Bool
-quietB m sh = outlineB m sh && (ordersB m sh && (bookB m sh && objectsB m sh))
+quietB m sh = bookB m sh && (outlineB m sh (heldFrames m) && (ordersB m sh && objectsB m sh))
 
 -- a test that fails, and one that passes
 and-stop : (a b t : Bool) → t ≡ a → t ≡ false → false ≡ (a && b)
@@ -42,33 +44,36 @@ and-next : (a b t r : Bool) → t ≡ a → t ≡ true → r ≡ b → r ≡ (a 
 and-next a b t r e d q = rw (sym e ∙ d) q
 
 -- `check_parts`
-module _ (m : Mem) (sh : Shape) (a : Bool) (ea : a ≡ outlineB m sh) where
-  pub no-outline : a ≡ false → false ≡ quietB m sh
+module _ (m : Mem) (sh : Shape) (h : ℕ) (eh : h ≡ counted (bookB m sh) (heldFrames m)) where
+  pub no-book : h ≡ 0 → false ≡ quietB m sh
   unfolding quietB
-  no-outline d = and-stop (outlineB m sh) (ordersB m sh && (bookB m sh && objectsB m sh)) a ea d
+  no-book z = rw (counted-none (bookB m sh) (heldFrames m) h eh z)
 
-  module _ (ya : a ≡ true) (b : Bool) (eb : b ≡ ordersB m sh) where
-    pub no-orders : b ≡ false → false ≡ quietB m sh
+  module _ (some : h ≡ 0 → ⊥) (a : Bool) (ea : a ≡ outlineB m sh (h - 1)) where
+    book : (bookB m sh ≡ true) × (h - 1 ≡ heldFrames m)
+    book = counted-is (bookB m sh) (heldFrames m) h eh some
+
+    outline : a ≡ outlineB m sh (heldFrames m)
+    outline = ea ∙ ap (outlineB m sh) (book .1)
+
+    rest : (r : Bool) → r ≡ (outlineB m sh (heldFrames m) && (ordersB m sh && objectsB m sh)) → r ≡ quietB m sh
     unfolding quietB
-    no-orders d = and-next (outlineB m sh) (ordersB m sh && (bookB m sh && objectsB m sh)) a false ea ya
-        (and-stop (ordersB m sh) (bookB m sh && objectsB m sh) b eb d)
+    rest r q = rw (book .0) q
 
-    module _ (yb : b ≡ true) (c : Bool) (ec : c ≡ bookB m sh) where
-      pub no-book : c ≡ false → false ≡ quietB m sh
-      unfolding quietB
-      no-book d = and-next (outlineB m sh) (ordersB m sh && (bookB m sh && objectsB m sh)) a false ea ya
-          (and-next (ordersB m sh) (bookB m sh && objectsB m sh) b false eb yb
-          (and-stop (bookB m sh) (objectsB m sh) c ec d))
+    pub no-outline : a ≡ false → false ≡ quietB m sh
+    no-outline d = rest false (and-stop (outlineB m sh (heldFrames m)) (ordersB m sh && objectsB m sh) a outline d)
 
-      quiet-last : c ≡ true → objectsB m sh ≡ quietB m sh
-      unfolding quietB
-      quiet-last yc = and-next (outlineB m sh) (ordersB m sh && (bookB m sh && objectsB m sh)) a (objectsB m sh) ea ya
-          (and-next (ordersB m sh) (bookB m sh && objectsB m sh) b (objectsB m sh) eb yb
-          (and-next (bookB m sh) (objectsB m sh) c (objectsB m sh) ec yc refl))
+    module _ (ya : a ≡ true) (b : Bool) (eb : b ≡ ordersB m sh) where
+      pub no-orders : b ≡ false → false ≡ quietB m sh
+      no-orders d = rest false (and-next (outlineB m sh (heldFrames m)) (ordersB m sh && objectsB m sh) a false outline ya (and-stop (ordersB m sh) (objectsB m sh) b eb d))
 
-      pub quiet-all : (r : ObjectsRead) → c ≡ true → r ≡ objectsRead m sh → r ≡ readIf (quietB m sh) (usedTo m (sh .objects))
+      quiet-last : b ≡ true → objectsB m sh ≡ quietB m sh
+      quiet-last yb = rest (objectsB m sh) (and-next (outlineB m sh (heldFrames m)) (ordersB m sh && objectsB m sh) a (objectsB m sh) outline ya
+          (and-next (ordersB m sh) (objectsB m sh) b (objectsB m sh) eb yb refl))
+
+      pub quiet-all : (r : ObjectsRead) → b ≡ true → r ≡ objectsRead m sh → r ≡ readIf (quietB m sh) (usedTo m (sh .objects))
       unfolding objectsRead
-      quiet-all r yc q = q ∙ ap (λ (x : Bool). readIf x (usedTo m (sh .objects))) (quiet-last yc)
+      quiet-all r yb q = q ∙ ap (λ (x : Bool). readIf x (usedTo m (sh .objects))) (quiet-last yb)
 
 -- a part that fails
 pub read-no : (b : Bool) (n : ℕ) → false ≡ b → Bad ≡ readIf b n
@@ -84,14 +89,16 @@ read-used true n k x p q = let e : Used n ≡ Used k = sym p ∙ q in (refl, cc)
 read-used false n k x p q = let e : Bad ≡ Used k = sym p ∙ q in let y : _≡_ {A = ℕ} 0 1 = cc in absurd (omega arith)
 
 -- the parts are these, the slots and the marks
-parts-order : (a s o b k j : Bool) → ((a && s) && (o && ((b && k) && j))) ≡ ((a && (o && (b && j))) && (s && k))
-parts-order false s o b k j = refl
+parts-order : (a s o b k j : Bool) → ((a && s) && (o && ((b && k) && j))) ≡ ((b && (a && (o && j))) && (s && k))
+parts-order false s o true k j = refl
+parts-order false s o false k j = refl
+parts-order true false o false k j = refl
+parts-order true true false false k j = refl
+parts-order true true true false k j = refl
+parts-order true false false true k j = refl
 parts-order true false true true k true = refl
 parts-order true false true true k false = refl
-parts-order true false true false k j = refl
-parts-order true false false b k j = refl
-parts-order true true false b k j = refl
-parts-order true true true false k j = refl
+parts-order true true false true k j = refl
 parts-order true true true true true true = refl
 parts-order true true true true true false = refl
 parts-order true true true true false true = refl
@@ -99,18 +106,15 @@ parts-order true true true true false false = refl
 
 parts-split : (m : Mem) (sh : Shape) → partsB m sh ≡ (quietB m sh && (all (sh .tables) (slotsIn m sh) && marksB m sh))
 unfolding partsB quietB
-parts-split m sh = rw (structure-split m sh, ledger-split m sh) (parts-order (outlineB m sh) (all (sh .tables) (slotsIn m sh)) (ordersB m sh) (bookB m sh) (marksB m sh) (objectsB m sh))
+parts-split m sh = rw (structure-split m sh (heldFrames m), ledger-split m sh)
+    (parts-order (outlineB m sh (heldFrames m)) (all (sh .tables) (slotsIn m sh)) (ordersB m sh) (bookB m sh) (marksB m sh) (objectsB m sh))
 
-quiet-outline : (m : Mem) (sh : Shape) → quietB m sh ≡ true → outlineB m sh ≡ true
+quiet-parts : (m : Mem) (sh : Shape) → quietB m sh ≡ true → (outlineB m sh (heldFrames m) ≡ true) × (objectsB m sh ≡ true)
 unfolding quietB
-quiet-outline m sh e = both (outlineB m sh) (ordersB m sh && (bookB m sh && objectsB m sh)) e .0
-
-quiet-objects : (m : Mem) (sh : Shape) → quietB m sh ≡ true → objectsB m sh ≡ true
-unfolding quietB
-quiet-objects m sh e =
-    let a = both (outlineB m sh) (ordersB m sh && (bookB m sh && objectsB m sh)) e in
-    let b = both (ordersB m sh) (bookB m sh && objectsB m sh) (a .1) in
-    both (bookB m sh) (objectsB m sh) (b .1) .1
+quiet-parts m sh e =
+    let a = both (bookB m sh) (outlineB m sh (heldFrames m) && (ordersB m sh && objectsB m sh)) e in
+    let b = both (outlineB m sh (heldFrames m)) (ordersB m sh && objectsB m sh) (a .1) in
+    (b .0, both (ordersB m sh) (objectsB m sh) (b .1) .1)
 
 -- `check`
 module _ (ws : List ℕ) (sh : Shape) where
@@ -126,7 +130,7 @@ module _ (ws : List ℕ) (sh : Shape) where
   module _ (quiet : quietB (load ws sh) sh ≡ true) (u : ℕ) (eu : u ≡ usedTo (load ws sh) (sh .objects)) (vs us : List ℕ) (t : ℕ) (ev : vs ≡ shifted ws sh unit (gather (sh .tables) (tableFound (load ws sh) sh u)))
       (en : Noted vs us sh u t (inBook (load vs sh) sh)) where
     low : Low ws sh
-    low = objects-low ws sh (quiet-objects (load ws sh) sh quiet)
+    low = objects-low ws sh (quiet-parts (load ws sh) sh quiet .1)
 
     -- the handles that were counted, those of the slots first
     slots : List ℕ
@@ -169,7 +173,7 @@ module _ (ws : List ℕ) (sh : Shape) where
 
     -- the parts are the slots' test for all objects
     parts : partsB (load ws sh) sh ≡ surveyB (load ws sh) sh (sh .objects)
-    parts = parts-split (load ws sh) sh ∙ rw quiet (survey-whole (load ws sh) sh (quiet-outline (load ws sh) sh quiet))
+    parts = parts-split (load ws sh) sh ∙ rw quiet (survey-whole (load ws sh) sh (heldFrames (load ws sh)) (quiet-parts (load ws sh) sh quiet .0))
 
     module _ (room : total sh ≤ length ws) where
       -- the slots pass for the used objects: then for all, every handle was counted, and the objects beyond have none

@@ -28,6 +28,8 @@ use Rattle.counts.specs.Objects.{ObjectFits, from-is, from-range, from-staged}
 use Rattle.counts.specs.Found.{countsB}
 use Rattle.counts.specs.Handles.{Bounds}
 use Rattle.counts.specs.Decide.{counted-sound}
+use Rattle.ledger.specs.Plans.{heldFrames}
+use Rattle.ledger.specs.Held.{held-count, planned}
 use Rattle.wellformed.specs.View.{tableView, tablesView, viewOf, table-in, table-out, object-in, object-out}
 
 -- what is at rest is well formed
@@ -44,7 +46,7 @@ rest-generations k e = clash refl e
 
 -- what the parts of the check say of a memory
 pub record Passed (sh : Shape) (m : Mem) : Type 0 where
-  pub structure : Structure sh m
+  pub structure : Structure sh m (heldFrames m)
   pub orders : (b : ℕ) → b < sh .tables → OrdersAre m b (freeList m b) (emptyList m b) (detachedList m b)
   pub ledger : Ledger sh m
   pub objects : (o : ℕ) → o < sh .objects → ObjectFits m o
@@ -54,7 +56,7 @@ module _ (sh : Shape) (m : Mem) (limits : Permitted sh) (small : (a : Addr) → 
   abbrev s : State
   s = viewOf sh m
 
-  abbrev st : Structure sh m
+  abbrev st : Structure sh m (heldFrames m)
   st = p .structure
 
   -- ---- what the parts ask of the view
@@ -94,9 +96,9 @@ module _ (sh : Shape) (m : Mem) (limits : Permitted sh) (small : (a : Addr) → 
   viewed : (b : ℕ) → b < sh .tables → Viewed m b (tableView m b)
   viewed b h = let v = table-shows b in record {
     size = sym (v .size);
-    frame = frame-shown sh m st b h (tableView m b) v;
-    rest = λ q i. ap (λ q. isSome (q .frame)) (rest-shown sh m st b h (tableView m b) v q i);
-    busy = busy-shown sh m st b h (tableView m b) v;
+    frame = frame-shown sh m (heldFrames m) st b h (tableView m b) v;
+    rest = λ q i. ap (λ q. isSome (q .frame)) (rest-shown sh m (heldFrames m) st b h (tableView m b) v q i);
+    busy = busy-shown sh m (heldFrames m) st b h (tableView m b) v;
     slots = λ k. sym (v .slots k);
   }
 
@@ -105,12 +107,12 @@ module _ (sh : Shape) (m : Mem) (limits : Permitted sh) (small : (a : Addr) → 
   table-is b h = let v = table-shows b in let o = p .orders b h in record {
     limit = refl;
     mask = refl;
-    life = life-shown sh m st b h (tableView m b) v;
+    life = life-shown sh m (heldFrames m) st b h (tableView m b) v;
     epoch = refl;
     size = refl;
-    frame = frame-shown sh m st b h (tableView m b) v;
-    high = high-shown sh m st b h (tableView m b) v;
-    busy = busy-shown sh m st b h (tableView m b) v;
+    frame = frame-shown sh m (heldFrames m) st b h (tableView m b) v;
+    high = high-shown sh m (heldFrames m) st b h (tableView m b) v;
+    busy = busy-shown sh m (heldFrames m) st b h (tableView m b) v;
     slots = λ k. refl;
     free = o .free .chain;
     freeCount = o .free .count;
@@ -121,7 +123,7 @@ module _ (sh : Shape) (m : Mem) (limits : Permitted sh) (small : (a : Addr) → 
   table-orders : (b : ℕ) → b < sh .tables → Orders till (tableView m b)
   unfolding tableView
   table-orders b h = let o = orders-hold m b (tableView m b) (viewed b h) (freeList m b) (emptyList m b) (detachedList m b) (p .orders b h) in record {
-    there = there-shown sh m st b h (tableView m b) (table-shows b);
+    there = there-shown sh m (heldFrames m) st b h (tableView m b) (table-shows b);
     free = o .0;
     empty = o .1;
     detached = o .2;
@@ -141,10 +143,10 @@ module _ (sh : Shape) (m : Mem) (limits : Permitted sh) (small : (a : Addr) → 
     frameCount = refl;
     objectCount = refl;
     capacity = refl;
-    pageCount = entries-shown sh m st s shows;
-    first = first-shown sh m st s shows;
+    pageCount = entries-shown sh m (heldFrames m) st s shows;
+    first = first-shown sh m (heldFrames m) st s shows;
     tables = λ b h. subst (TableIs m b) (sym (table-in sh m b h)) (table-is b h);
-    frames = frames-are sh m st s shows;
+    frames = frames-are sh m (heldFrames m) st s shows;
     objects = λ o h. subst (ObjectIs m o) (sym (object-in sh m o h)) (from-is m o (p .objects o h));
     book = book-is sh m (p .ledger) s book-shows;
   }
@@ -155,7 +157,7 @@ module _ (sh : Shape) (m : Mem) (limits : Permitted sh) (small : (a : Addr) → 
   bounds = record {
     pages = λ b h. omega (arith, st .heads b h .size, st .entries, sum-part (sh .tables) (λ c. m (head c headPageLimit)) b h);
     rows = p .ledger .used;
-    items = λ i h. p .ledger .rows i h .few-items;
+    items = λ i h k. p .ledger .rows i h .few-items;
   }
 
   ranges : Ranges till s
@@ -166,7 +168,7 @@ module _ (sh : Shape) (m : Mem) (limits : Permitted sh) (small : (a : Addr) → 
     objectCount = (limits .some-object, limits .few-objects);
     capacity = (limits .some-row, limits .few-rows);
     rowCount = row-count sh m (p .ledger) s book-shows;
-    tables = λ b h. range-shown sh m st b h (tablesView sh m b) (shows .tables b h) small s refl;
+    tables = λ b h. range-shown sh m (heldFrames m) st b h (tablesView sh m b) (shows .tables b h) small s refl;
     objects = λ o h. subst ObjectRange (sym (object-in sh m o h)) (from-range m o (p .objects o h) (small (object o objectKoid)) (small (object o objectSupported)));
     rows = row-ranges sh m (p .ledger) s book-shows small;
   }
@@ -181,20 +183,20 @@ module _ (sh : Shape) (m : Mem) (limits : Permitted sh) (small : (a : Addr) → 
   at-rest : AtRest s
   at-rest = record {
     tables = λ b h. table-out sh m b h;
-    pages = λ b. each-table (λ t. (q : ℕ) → t .size ≤ q → t .pages q ≡ noPage) (λ c h q i. rest-shown sh m st c h (tableView m c) (table-shows c) q i) (λ q i. refl) b;
+    pages = λ b. each-table (λ t. (q : ℕ) → t .size ≤ q → t .pages q ≡ noPage) (λ c h q i. rest-shown sh m (heldFrames m) st c h (tableView m c) (table-shows c) q i) (λ q i. refl) b;
     objects = λ o h. object-out sh m o h;
   }
 
   pub well-formed : WellFormed till s
   well-formed = record {
     ranges = ranges;
-    frames = frames-shown sh m st s shows;
+    frames = frames-shown sh m (heldFrames m) st s shows limits (planned sh m (p .ledger)) (held-count m);
     orders = each-table (Orders till) table-orders rest-orders;
-    generations = each-table (Generations till) (λ b h. generations-shown sh m st b h (tableView m b) (table-shows b)) rest-generations;
+    generations = each-table (Generations till) (λ b h. generations-shown sh m (heldFrames m) st b h (tableView m b) (table-shows b)) rest-generations;
     counts = counts;
     lifecycles = record {
       closing = closing-holds sh m (p .ledger) s book-shows;
-      closed = retired-shown sh m st s shows;
+      closed = retired-shown sh m (heldFrames m) st s shows;
     };
     ids = ids-hold sh m (p .ledger) s book-shows (small (root rootNextId));
     marks = marks-hold sh m (p .ledger) s book-shows;

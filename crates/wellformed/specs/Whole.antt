@@ -1,28 +1,32 @@
 -- THE STATE CHECK, WHOLE: it answers exactly whether the words represent a well-formed state. Assumes nothing.
-use mathlib.Core.Path.{_≡_, refl, sym, _∙_}
+use mathlib.Core.Path.{_≡_, refl, sym, ap, subst, _∙_}
 use mathlib.Core.Bool.{Bool, true, false, _&&_}
 use mathlib.Core.List.{List}
 use Prim.Native.Nat.{ℕ}
 use native.Mathlib.Omega.{arith}
 use Rattle.words.specs.Pick.{clash, both, both-is}
 use Rattle.words.specs.Words.{Small}
-use Rattle.model.specs.State.{State}
+use Rattle.model.specs.State.{till, State}
+use Rattle.model.specs.WellFormed.{WellFormed}
 use Rattle.layout.specs.declared.Shape.{Shape}
 use Rattle.layout.specs.declared.ShapeRead.{ShapeRead}
 use Rattle.layout.specs.declared.ShapeRead.the-variants.{Shape as found, Bad}
 use Rattle.layout.specs.Layout.{Mem, load}
 use Rattle.layout.specs.ShapeOf.{Shaped, shapeOf, shape-found, shape-is, onShape}
-use Rattle.representation.specs.Represents.{Rep}
+use Rattle.representation.specs.Represents.{Represents, Rep}
 use Rattle.representation.specs.Unique.{rep-unique}
 use Rattle.representation.specs.Told.{load-small}
 use Rattle.structure.specs.Checks.{structureB}
 use Rattle.structure.specs.Whole.{structure-sound}
+use Rattle.structure.specs.Frames.{plannedIn}
 use Rattle.structure.specs.Complete.{represented-passes}
 use Rattle.orders.specs.Check.{ordersB}
 use Rattle.orders.specs.Decide.{orders-sound}
 use Rattle.orders.specs.Model.{orders-represented}
 use Rattle.ledger.specs.Ledger.{ledgerB, ledger-is}
-use Rattle.ledger.specs.Complete.{complete as ledger-complete}
+use Rattle.ledger.specs.Plans.{heldFrames}
+use Rattle.ledger.specs.Held.{held-count}
+use Rattle.ledger.specs.Complete.{view, complete as ledger-complete}
 use Rattle.counts.specs.Objects.{objectsB, objects-sound, objects-fit}
 use Rattle.counts.specs.Code.{countsIn}
 use Rattle.counts.specs.Decide.{counts-in, counted-complete, bounds-of}
@@ -31,7 +35,7 @@ use Rattle.wellformed.specs.Shown.{Passed, represents, well-formed}
 
 -- the parts that write nothing, in the order in which they are tried
 unfoldable pub partsB : Mem → Shape → Bool
-partsB m sh = structureB m sh && (ordersB m sh && (ledgerB m sh && objectsB m sh))
+partsB m sh = structureB m sh (heldFrames m) && (ordersB m sh && (ledgerB m sh && objectsB m sh))
 
 -- THE CHECK: these, then the objects' counts
 unfoldable pub wellB : List ℕ → Shape → Bool
@@ -42,10 +46,10 @@ module _ (ws : List ℕ) (sh : Shape) where
   unfolding wellB partsB
   passed h e =
       let a = both (partsB (load ws sh) sh) (countsIn ws sh) e in
-      let b = both (structureB (load ws sh) sh) (ordersB (load ws sh) sh && (ledgerB (load ws sh) sh && objectsB (load ws sh) sh)) (a .0) in
+      let b = both (structureB (load ws sh) sh (heldFrames (load ws sh))) (ordersB (load ws sh) sh && (ledgerB (load ws sh) sh && objectsB (load ws sh) sh)) (a .0) in
       let c = both (ordersB (load ws sh) sh) (ledgerB (load ws sh) sh && objectsB (load ws sh) sh) (b .1) in
       let d = both (ledgerB (load ws sh) sh) (objectsB (load ws sh) sh) (c .1) in
-      let st = structure-sound sh (load ws sh) (b .0) in
+      let st = structure-sound sh (load ws sh) (heldFrames (load ws sh)) (b .0) in
       record {
         structure = st;
         orders = orders-sound (load ws sh) sh (λ t h q f l g. st .pages t q h l .busy f g) (c .0);
@@ -61,13 +65,17 @@ module _ (ws : List ℕ) (sh : Shape) where
     wellFormed = well-formed sh (load ws sh) (h .limits) n p;
   }
 
+  -- the plans of the state that is represented hold the frames that were counted
+  held-here : (s : State) → Represents sh (load ws sh) s → WellFormed till s → plannedIn (s .book .rows) ≡ heldFrames (load ws sh)
+  held-here s m w = ap plannedIn (view sh (load ws sh) s m w) ∙ held-count (load ws sh)
+
   -- NO IS RIGHT: of words that represent a well-formed state the answer is yes
   pub complete : (s : State) → Rep ws sh s → wellB ws sh ≡ true
   unfolding wellB partsB
   complete s r =
       let m = r .reps .memory in let w = r .wellFormed in
       both-is (partsB (load ws sh) sh) (countsIn ws sh)
-      (both-is (structureB (load ws sh) sh) _ (represented-passes sh (load ws sh) s m w)
+      (both-is (structureB (load ws sh) sh (heldFrames (load ws sh))) _ (subst (λ (n : ℕ). structureB (load ws sh) sh n ≡ true) (held-here s m w) (represented-passes sh (load ws sh) s m w))
       (both-is (ordersB (load ws sh) sh) _ (orders-represented sh (load ws sh) s m w)
       (both-is (ledgerB (load ws sh) sh) _ (ledger-complete sh (load ws sh) s m w) (objects-fit sh (load ws sh) s m w))))
       (counts-in ws sh (r .reps .shaped .room) ∙ counted-complete sh (load ws sh) s m (bounds-of sh (load ws sh) s m w) (w .counts .counted))

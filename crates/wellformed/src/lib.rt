@@ -23,13 +23,14 @@ fn check_parts(s: &[u64], sh: Shape) -> ObjectsRead
     requires { ⌜ total sh ≤ length (now s) ⌝ }
     ensures { λ r. ⌜ r ≡ readIf (quietB (loadAt (now (s .entry)) sh) sh) (usedTo (loadAt (now (s .entry)) sh) (sh .objects)) ⌝ }
 {
-    if !structure::check_outline(s, sh) {
+    let book = ledger::check_book(s, sh);
+    if book == 0 {
+        return ObjectsRead::Bad;
+    }
+    if !structure::check_outline(s, sh, book - 1) {
         return ObjectsRead::Bad;
     }
     if !orders::check_orders(s, sh) {
-        return ObjectsRead::Bad;
-    }
-    if !ledger::check_book(s, sh) {
         return ObjectsRead::Bad;
     }
     counts::check_objects(s, sh)
