@@ -68,7 +68,7 @@ module _ (ws : List ℕ) (sh : Shape) (s : State) (r : Rep ws sh s) where
     res = reservation-owns till s (r .wellFormed) j c ks (p .found)
 
     known : c < s .tableCount
-    known = found-range s (r .wellFormed .ranges .rows) j (reservation c ks) (p .found) .0
+    known = found-range s (r .wellFormed) j (reservation c ks) (p .found) .0
 
     -- no slot is both reserved and moved, so that the reserved ones are busy still
     busy : Busy (left s b es .tables c) ks

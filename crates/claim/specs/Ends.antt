@@ -32,7 +32,7 @@ module _ (ws : List ℕ) (sh : Shape) (s : State) (r : Rep ws sh s) (x i b : ℕ
   -- a batch has at most 64 slots
   count : min (load ws sh (row x rowLength)) batchMax ≡ length ks
   unfolding maxBatch
-  count = omega (arith, o .row .body .2, found-range s (r .wellFormed .ranges .rows) i (reservation b ks) (o .found) .1 .1)
+  count = omega (arith, o .row .body .2, found-range s (r .wellFormed) i (reservation b ks) (o .found) .1 .1)
 
   aborted-held : Held (abortedW ws sh x) sh (dropRow i (withTable s b (vacateAll till ks (s .tables b))))
   unfolding abortedW

@@ -20,7 +20,7 @@ use Rattle.invariant.specs.StorageState.{InRange}
 use Rattle.layout.specs.declared.Shape.{Shape}
 use Rattle.layout.specs.Layout.{Mem, item, load}
 use Rattle.layout.specs.Fields.{itemSlot, itemObject, itemFlags}
-use Rattle.layout.specs.RegionNames.{regionRow}
+use Rattle.layout.specs.RegionNames.{regionOwner, regionRow}
 use Rattle.representation.specs.Represents.{EntryIs, Items}
 use Rattle.storage.specs.Order.{occurs-head}
 use Rattle.storage.specs.Ops.{vacateW, occupyW}
@@ -30,7 +30,7 @@ use Rattle.storage.specs.Kept.{entries-kept, slots-kept}
 use Rattle.storage.specs.Reps.{Held, ready-of, vacate-held}
 use Rattle.object.specs.Record.{loweredBy}
 use Rattle.object.specs.Words.{lowerW}
-use Rattle.object.specs.Reps.{step-stays, step-rows, lower-held}
+use Rattle.object.specs.Reps.{step-only, step-stays, step-rows, lower-held}
 use Rattle.book.specs.Fades.{vacate-fades, row-turned}
 use Rattle.book.specs.Vacated.{with-table-at as table-at, with-own as table-same, with-over as table-twice}
 use Rattle.book.specs.Keeps.{Keeps, keeps-none, keeps-then, objects-keep, occupy-keeps}
@@ -129,7 +129,7 @@ module _ (sh : Shape) (b x : ℕ) where
       let v : List ℕ = lowerW ws sh (g .object) in
       let u : State = withObjects s (change lower (s .objects) (g .object)) in
       let one = objects-keep sh ws s v (change lower (s .objects) (g .object)) (lower-held ws sh s h (g .object) (known .0)) (step-stays loweredBy ws sh (g .object) (h .reps .shaped .room))
-      (step-rows loweredBy ws sh (g .object) (h .reps .shaped .room)) in
+      (step-rows loweredBy ws sh (g .object) (h .reps .shaped .room)) (λ f. step-only loweredBy ws sh (g .object) (h .reps .shaped .room) regionOwner f 0 0 (λ e. omega arith)) in
       let rest = undone-keeps es v u (suc j) (one .held) l busy (known .1) (entries-kept (load ws sh) (load v sh) x (one .items x) (suc j) es (its .1)) in
       rw (each-more undo ws v j (length es) (undo-copied ws sh b x j g (its .0)))
       (keeps-then sh ws s v u (each undo v (suc j) (length es)) (undone s b (copied g ∷ es)) one rest)

@@ -6,7 +6,7 @@ use mathlib.Core.Option.{some}
 use Prim.Native.Nat.{ℕ, suc, _<_}
 use native.Mathlib.Omega.{arith}
 use Rattle.model.specs.Base.{occurs}
-use Rattle.model.specs.State.{till, Entry, Body, Body.reservation, Body.claim, Body.parcel, State}
+use Rattle.model.specs.State.{till, Entry, Body, Body.reservation, Body.claim, Body.parcel, Body.plan, State}
 use Rattle.model.specs.Book.{find, movedOf}
 use Rattle.model.specs.WellFormed.{BodyRange}
 use Rattle.model.specs.Decision.{Decision, Decision.refusal, asClaim, claimRow_of_refuse_then_}
@@ -28,11 +28,13 @@ a-claim : (m : Mem) (x : ℕ) (y : Body) → BodyIs m x y → m (row x rowKind) 
 a-claim m x (reservation b ks) p e = absurd (omega (arith, p .0))
 a-claim m x (claim b es) p e = (b, es, refl)
 a-claim m x (parcel hs) p e = absurd (omega (arith, p .0))
+a-claim m x (plan b n w fs) p e = absurd (omega (arith, p .kind))
 
 no-claim : (m : Mem) (x : ℕ) (y : Body) → BodyIs m x y → (m (row x rowKind) ≡ kindClaim → ⊥) → (f : ℕ → List Entry → Decision) → asClaim (some y) 18 f ≡ refusal 18
 no-claim m x (reservation b ks) p e f = refl
 no-claim m x (claim b es) p e f = absurd (e (p .0))
 no-claim m x (parcel hs) p e f = refl
+no-claim m x (plan b n w fs) p e f = refl
 
 -- a claim of the book, in its place
 pub record Claimed (m : Mem) (s : State) (x i b : ℕ) (es : List Entry) : Type 0 where
@@ -62,8 +64,8 @@ module _ (ws : List ℕ) (sh : Shape) (s : State) (r : Rep ws sh s) (x i b : ℕ
   pub own : Owns false i (movedOf es) (s .tables b .slots)
   own = claim-owns till s (r .wellFormed) i b es (o .found)
 
-  pub range : BodyRange s (claim b es)
-  range = found-range s (r .wellFormed .ranges .rows) i (claim b es) (o .found)
+  pub range : BodyRange till s (claim b es)
+  range = found-range s (r .wellFormed) i (claim b es) (o .found)
 
   -- once these are marked no longer, no marked slot names its place
   pub freed : (ws′ : List ℕ) (u : State) → Fades (load ws sh) s (load ws′ sh) u → ((k : ℕ) → 0 < occurs k (movedOf es) → isMarked (u .tables b .slots k) ≡ false) → Unnamed (load ws′ sh) u x

@@ -10,18 +10,21 @@ use borrow.Author.Tests.{ltb-false, not-true}
 use Rattle.words.specs.Pick.{bool}
 use Rattle.authority.specs.Rights.{contains, duplicateRight}
 use Rattle.model.specs.Base.{atMost, isSome}
-use Rattle.model.specs.State.{Sizes, till, Handle, Slot, Table, State, isActive, isOccupied, knownFlags, maxBatch}
-use Rattle.model.specs.Storage.{pagesFor, Walk, walk, lengthOf, grow}
+use Rattle.model.specs.State.{Sizes, till, Handle, Slot, Table, Body.plan, State, isActive, isOccupied, knownFlags, maxBatch}
+use Rattle.model.specs.Storage.{isStale, Walk, walk, lengthOf, grow}
 use Rattle.model.specs.Objects.{isNowActive, isNowRetired}
 use Rattle.model.specs.Book.{find, freeRow, idLeft, anyOpen, copiesOf}
 use Rattle.model.specs.Transfer.{itemsFault, copiesFault, entryFor}
 use Rattle.model.specs.Decision.{Decision, Decision.refusal, Decision.refusalAfterId, Decision.accept, asParcel, handlesOf, distinct}
 use Rattle.model.specs.Lookup.{lookup, snapshotAt, valueAt}
-use Rattle.model.specs.Request.{Request, Answer.batch, Answer.scanned, Request.newObject, Request.duplicate, Request.releaseParcel, Request.retireObject, Request.reserve, Request.trim, Request.abort, Request.publish, Request.getInfo, Request.resolve, Request.replace, Request.close, Request.scanHandles, Request.prepareTransfer, Request.prepareConsumption, Request.rollback, Request.commit, Request.directCommit, Request.directRollback, Request.removeStoppingOwner, Request.teardownStart, Request.teardownStep, Request.teardownFinish, Request.takeEmptyPage}
+use Rattle.model.specs.Request.{Request, Answer.batch, Answer.scanned, Request.newObject, Request.duplicate, Request.releaseParcel, Request.retireObject, Request.reserve, Request.trim, Request.abort, Request.publish, Request.getInfo, Request.resolve, Request.replace, Request.close, Request.scanHandles, Request.prepareTransfer, Request.prepareConsumption, Request.rollback, Request.commit, Request.directCommit, Request.directRollback, Request.removeStoppingOwner, Request.teardownStart, Request.teardownStep, Request.teardownFinish, Request.takeEmptyPage, Request.makePlan, Request.usePlan, Request.dropPlan}
 use Rattle.model.specs.Words.{usedWords}
-use Rattle.model.specs.Step.{decide, step, carry, newObjectOf, duplicateOf, releaseParcelOf, retireObjectOf, reserveOf, trimOf, abortOf, publishOf, getInfoOf, resolveOf, replaceOf, closeOf, scanHandlesOf, prepareTransferOf, prepareConsumptionOf, rollbackOf, commitOf, directCommitOf, directRollbackOf, removeStoppingOwnerOf, removeAt, nextOccupied, teardownStartOf, teardownStepOf, tearAt, teardownFinishOf, takeEmptyPageOf, takeAt, snapshotPage}
-use Rattle.model.specs.Decided.{Decided, Any, accepts, checked, with-some, with-view, with-handle, with-reservation, with-claim, while-tearing, after-id, found-or, either-way, first-or}
+use Rattle.model.specs.Step.{decide, step, carry, newObjectOf, duplicateOf, releaseParcelOf, retireObjectOf, reserveOf, trimOf, abortOf, publishOf, getInfoOf, resolveOf, replaceOf, closeOf, scanHandlesOf, prepareTransferOf, prepareConsumptionOf, rollbackOf, commitOf, directCommitOf, directRollbackOf, removeStoppingOwnerOf, removeAt, nextOccupied, teardownStartOf, teardownStepOf, tearAt, teardownFinishOf, takeEmptyPageOf, takeAt, makePlanOf, usePlanOf, dropPlanOf, snapshotPage}
+use Rattle.model.specs.Decided.{Decided, Any, accepts, checked, with-some, with-view, with-handle, with-reservation, with-claim, with-plan, with-room, while-tearing, after-id, found-or, either-way, first-or}
 use Rattle.model.specs.Lists.{entry-words}
+use Rattle.model.specs.WellFormed.{WellFormed}
+use Rattle.model.specs.Tests.{at-most}
+use Rattle.invariant.specs.BookLemmas.{found-range}
 use Rattle.contract.specs.Run.{Short}
 use Rattle.layout.specs.Sizes.{batchMax}
 
@@ -42,13 +45,9 @@ walk-most f k (suc n) (suc e) = bool (isOccupied (f k))
     (λ b. rw b (let h = walk-most f (suc k) n e in omega (arith, h)))
     (λ b. rw b (walk-most f (suc k) n (suc e)))
 
-batch-short : (z : Sizes) (s : State) (b n : ℕ) (ps : List ℕ) → atMost n maxBatch ≡ true
-    → Short (batch (s .book .next) (map (valueAt (grow z ps (s .frames) (s .tables b))) (take n (grow z ps (s .frames) (s .tables b) .free))))
+batch-short : (i n : ℕ) (u : Table) → n ≤ maxBatch → Short (batch i (map (valueAt u) (take n (u .free))))
 unfolding usedWords maxBatch
-batch-short z s b n ps few =
-    let u : Table = grow z ps (s .frames) (s .tables b) in
-    let l : n ≤ batchMax = ltb-false batchMax n (not-true (ltb batchMax n) few) in
-    omega (arith, map-length (valueAt u) (take n (u .free)), take-most n (u .free), l)
+batch-short i n u l = omega (arith, map-length (valueAt u) (take n (u .free)), take-most n (u .free), l)
 
 scan-short : (z : Sizes) → z .scanEntries ≤ till .scanEntries → (s : State) (b c : ℕ) → Short (scanned (snapshotPage z s (s .tables b) c))
 unfolding usedWords
@@ -58,9 +57,10 @@ scan-short z fits s b c =
     let w : Walk = walk (t .slots) start (min (z .scanSlots) (lengthOf z t - start)) (z .scanEntries) in
     omega (arith, entry-words (map (snapshotAt s t) (w .found)), map-length (snapshotAt s t) (w .found), walk-most (t .slots) start (min (z .scanSlots) (lengthOf z t - start)) (z .scanEntries))
 
-module _ (z : Sizes) (fits : z .scanEntries ≤ till .scanEntries) (s : State) where
+-- of a well-formed state, whose plans are of at most 64 slots
+module _ (z : Sizes) (fits : z .scanEntries ≤ till .scanEntries) (s : State) (w : WellFormed z s) where
   pub decide-short : (r : Request) → Decided Any Any (λ u a. Short a) (decide z s r)
-  unfolding decide newObjectOf duplicateOf releaseParcelOf retireObjectOf reserveOf trimOf abortOf publishOf getInfoOf resolveOf replaceOf closeOf scanHandlesOf prepareTransferOf prepareConsumptionOf rollbackOf commitOf directCommitOf directRollbackOf removeStoppingOwnerOf teardownStartOf teardownStepOf teardownFinishOf takeEmptyPageOf usedWords
+  unfolding decide newObjectOf duplicateOf releaseParcelOf retireObjectOf reserveOf trimOf abortOf publishOf getInfoOf resolveOf replaceOf closeOf scanHandlesOf prepareTransferOf prepareConsumptionOf rollbackOf commitOf directCommitOf directRollbackOf removeStoppingOwnerOf teardownStartOf teardownStepOf teardownFinishOf takeEmptyPageOf makePlanOf usePlanOf dropPlanOf usedWords
   decide-short (newObject o r f) =
       checked (ltb o (s .objectCount)) 18 tt λ e.
       checked (freeRow s) 1 tt λ e.
@@ -90,15 +90,8 @@ module _ (z : Sizes) (fits : z .scanEntries ≤ till .scanEntries) (s : State) w
       checked (ltb o (s .objectCount)) 18 tt λ e.
       accepts (omega arith)
   decide-short (reserve b n) =
-      checked (ltb b (s .tableCount)) 18 tt λ e.
-      checked (isActive (s .tables b .life)) 16 tt λ e.
-      checked (ltb 0 n) 17 tt λ e.
-      checked (atMost n maxBatch) 13 tt λ few.
-      with-some (pagesFor z (s .tables b) n) 15 tt λ ps e.
-      checked (atMost (length ps) (length (s .frames))) 1 tt λ e.
-      checked (freeRow s) 1 tt λ e.
-      checked (idLeft s) 12 tt λ e.
-      accepts (batch-short z s b n ps few)
+      with-room z s b n tt tt tt tt tt tt tt λ r o.
+      accepts (batch-short (s .book .next) n (grow z (r .pages) (s .frames) (s .tables b)) (at-most n maxBatch (o .few)))
   decide-short (trim i n) =
       with-reservation (find i (s .book .rows)) tt λ b ks e.
       checked (ltb 0 n) 18 tt λ e.
@@ -194,6 +187,18 @@ module _ (z : Sizes) (fits : z .scanEntries ≤ till .scanEntries) (s : State) w
       let t : Table = s .tables b in
       checked (ltb b (s .tableCount)) 18 tt λ e.
       either-way (isActive (t .life)) (λ a. first-or (takeAt z s b t) (t .empty) (accepts (omega arith)) λ p ps e. accepts (omega arith)) (accepts (omega arith))
+  decide-short (makePlan b n) =
+      with-room z s b n tt tt tt tt tt tt tt λ r o.
+      accepts (omega arith)
+  decide-short (usePlan i) =
+      with-plan (find i (s .book .rows)) tt λ b n r fs e.
+      checked (isActive (s .tables b .life)) 16 tt λ e1.
+      checked (not (isStale z (s .tables b) n r)) 21 tt λ e2.
+      checked (idLeft s) 12 tt λ e3.
+      accepts (batch-short (s .book .next) n (grow z (r .pages) fs (s .tables b)) (found-range s w i (plan b n r fs) e .count .1))
+  decide-short (dropPlan i) =
+      with-plan (find i (s .book .rows)) tt λ b n r fs e.
+      accepts (omega arith)
 
   pub step-short : (r : Request) → Short (step z s r .1)
   unfolding step usedWords

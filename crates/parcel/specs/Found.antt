@@ -4,7 +4,7 @@ use mathlib.Core.List.{List}
 use mathlib.Core.Option.{none, some}
 use Prim.Native.Nat.{ℕ, zero, suc}
 use native.Mathlib.Omega.{arith}
-use Rattle.model.specs.State.{Handle, Body, Body.reservation, Body.claim, Body.parcel, State}
+use Rattle.model.specs.State.{Handle, Body, Body.reservation, Body.claim, Body.parcel, Body.plan, State}
 use Rattle.model.specs.Book.{find}
 use Rattle.model.specs.Decision.{asParcel}
 use Rattle.layout.specs.declared.Shape.{Shape}
@@ -23,11 +23,13 @@ a-parcel : (m : Mem) (x : ℕ) (y : Body) → BodyIs m x y → m (row x rowKind)
 a-parcel m x (reservation b ks) p e = absurd (omega (arith, p .0))
 a-parcel m x (claim b es) p e = absurd (omega (arith, p .0))
 a-parcel m x (parcel hs) p e = (hs, refl)
+a-parcel m x (plan b n w fs) p e = absurd (omega (arith, p .kind))
 
 no-parcel : (m : Mem) (x : ℕ) (y : Body) → BodyIs m x y → (m (row x rowKind) ≡ kindParcel → ⊥) → asParcel (some y) ≡ none
 no-parcel m x (reservation b ks) p e = refl
 no-parcel m x (claim b es) p e = refl
 no-parcel m x (parcel hs) p e = absurd (e (p .0))
+no-parcel m x (plan b n w fs) p e = refl
 
 -- a parcel of the book, in its place
 pub record Loose (m : Mem) (s : State) (x i : ℕ) (hs : List Handle) : Type 0 where

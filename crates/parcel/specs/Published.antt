@@ -113,7 +113,7 @@ module _ (ws : List ℕ) (sh : Shape) (s : State) (r : Rep ws sh s) where
     own = reservation-owns till s (r .wellFormed) i b ks (o .found)
 
     range : (b < s .tableCount) × Batch ks
-    range = found-range s (r .wellFormed .ranges .rows) i (reservation b ks) (o .found)
+    range = found-range s (r .wellFormed) i (reservation b ks) (o .found)
 
     few : length ks ≤ batchMax
     unfolding maxBatch

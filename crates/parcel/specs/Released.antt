@@ -2,6 +2,7 @@
 use mathlib.Core.Path.{_≡_, ap}
 use mathlib.Core.List.{List, [], _∷_}
 use Prim.Native.Nat.{ℕ, suc, _<_}
+use native.Mathlib.Omega.{arith}
 use lib.ListN.{length}
 use Rattle.model.specs.State.{Handle, Body.parcel, State}
 use Rattle.model.specs.Change.{withObjects}
@@ -14,12 +15,13 @@ use Rattle.invariant.specs.BookLemmas.{found-range}
 use Rattle.layout.specs.declared.Shape.{Shape}
 use Rattle.layout.specs.Layout.{row, item, load}
 use Rattle.layout.specs.Fields.{itemObject}
+use Rattle.layout.specs.RegionNames.{regionOwner}
 use Rattle.representation.specs.Represents.{HandleIs, Items, Rep}
 use Rattle.storage.specs.Kept.{handles-kept}
 use Rattle.storage.specs.Reps.{Held, held-of}
 use Rattle.object.specs.Record.{loweredBy}
 use Rattle.object.specs.Words.{lowerW}
-use Rattle.object.specs.Reps.{step-stays, step-rows, lower-held}
+use Rattle.object.specs.Reps.{step-only, step-stays, step-rows, lower-held}
 use Rattle.book.specs.Find.{fits-of}
 use Rattle.book.specs.Marks.{named-parcel}
 use Rattle.book.specs.Fades.{unnamed-fades}
@@ -42,7 +44,8 @@ lowered-all sh x (y ∷ hs) ws s j h known its =
     let ws₁ : List ℕ = lowerW ws sh (y .object) in
     let s₁ : State = withObjects s (change lower (s .objects) (y .object)) in
     let p = objects-keep sh ws s (lowerW ws sh (y .object)) (change lower (s .objects) (y .object)) (lower-held ws sh s h (y .object) (known .0))
-    (step-stays loweredBy ws sh (y .object) (h .reps .shaped .room)) (step-rows loweredBy ws sh (y .object) (h .reps .shaped .room)) in
+    (step-stays loweredBy ws sh (y .object) (h .reps .shaped .room)) (step-rows loweredBy ws sh (y .object) (h .reps .shaped .room))
+    (λ f. step-only loweredBy ws sh (y .object) (h .reps .shaped .room) regionOwner f 0 0 (λ e. omega arith)) in
     let q = lowered-all sh x hs (lowerW ws sh (y .object)) (withObjects s (change lower (s .objects) (y .object))) (suc j) (p .held) (known .1)
     (handles-kept (load ws sh) (load (lowerW ws sh (y .object)) sh) x (p .items x) (suc j) hs (its .1)) in
     rw (lowered-more ws sh x j (length hs) (y .object) (its .0 .0))
@@ -57,7 +60,7 @@ module _ (ws : List ℕ) (sh : Shape) (s : State) (r : Rep ws sh s) where
   unfolding releasedW
   released-held x i hs o =
       let f = fits-of s (r .wellFormed) in
-      let p = lowered-all sh x hs ws s 0 (held-of ws sh s r) (objects-of s hs (found-range s (r .wellFormed .ranges .rows) i (parcel hs) (o .found) .1)) (o .row .body .2) in
+      let p = lowered-all sh x hs ws s 0 (held-of ws sh s r) (objects-of s hs (found-range s (r .wellFormed) i (parcel hs) (o .found) .1)) (o .row .body .2) in
       rw (o .row .body .1) (close-held (loweredW ws sh x 0 (length hs)) sh (release s hs) (p .held) (p .fits f) x i (parcel hs) (p .rows x i (parcel hs) (o .row))
       (unnamed-fades (load ws sh) s (load (loweredW ws sh x 0 (length hs)) sh) (release s hs) x (p .fades)
       (named-parcel sh (load ws sh) s (r .reps .memory) f (r .wellFormed .marks) x i hs (o .row))))

@@ -10,7 +10,7 @@ use native.Mathlib.Numerals.{add-one}
 use lib.ListN.{length, getD, drop}
 use lib.Dec.{eqb}
 use Rattle.format.specs.Format.{musts, mays, transferItemMust, transferItemMay, parcelItemMust, parcelItemMay}
-use Rattle.format.specs.Ops.{opPublish, opPrepareTransfer}
+use Rattle.format.specs.Ops.{opPublish, opPrepareTransfer, opLast}
 use Rattle.format.specs.Fields.{anOp, anOperation, zeroWord}
 use Rattle.model.specs.Base.{pick}
 use Rattle.model.specs.Request.{Request}
@@ -90,7 +90,7 @@ request-is ws at op e = ap (λ (k : ℕ). requestOf k ws at) e
 -- a request that is well formed: its record, its op, and its items
 pub record Formed (ws : List ℕ) (at e : ℕ) : Type 0 where
   pub head : Whole anOp (getD musts (opAt ws at) 0) (getD musts (opAt ws at) 0 + getD mays (opAt ws at) 0) ws at (endAt ws at)
-  pub known : (1 ≤ opAt ws at) × (opAt ws at ≤ 24)
+  pub known : (1 ≤ opAt ws at) × (opAt ws at ≤ opLast)
   pub items : itemsEnd (opAt ws at) (countAt ws at) ws (endAt ws at) ≡ some e
   pub next : e ≡ nextAt ws at
   pub rises : at < e

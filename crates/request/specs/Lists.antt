@@ -134,7 +134,7 @@ module _ (ws : List ℕ) (at : ℕ) where
   -- each op of the table has its request
   table : All Itemed 1 plainRequests
   unfolding Itemed itemsEnd requestOf
-  table = refl & refl & refl & refl & refl & refl & refl & itemed-publish & refl & refl & refl & refl & refl & itemed-transfer & refl & refl & refl & refl & refl & refl & refl & refl & refl & refl & tt
+  table = refl & refl & refl & refl & refl & refl & refl & itemed-publish & refl & refl & refl & refl & refl & itemed-transfer & refl & refl & refl & refl & refl & refl & refl & refl & refl & refl & refl & refl & refl & tt
 
   known : (op : ℕ) → 1 ≤ op → op ≤ opLast → (make : Fields → Request) × (plainRequest op ≡ some make) × Itemed op make
   known zero a b = absurd (omega arith)
@@ -146,10 +146,10 @@ module _ (ws : List ℕ) (at : ℕ) where
 -- a known op has its request
 pub known-op : (op : ℕ) → fieldFits anOp op ≡ true → (1 ≤ op) × (op ≤ opLast)
 unfolding fieldFits knownOp
-known-op op e = both (leb 1 op) (leb op 24) refl refl e
+known-op op e = both (leb 1 op) (leb op opLast) refl refl e
   where
-    both : (a b : Bool) → leb 1 op ≡ a → leb op 24 ≡ b → (a && b) ≡ true → (1 ≤ op) × (op ≤ opLast)
-    both true true p q r = (leb-true 1 op p, leb-true op 24 q)
+    both : (a b : Bool) → leb 1 op ≡ a → leb op opLast ≡ b → (a && b) ≡ true → (1 ≤ op) × (op ≤ opLast)
+    both true true p q r = (leb-true 1 op p, leb-true op opLast q)
     both true false p q r = let z : _≡_ {A = ℕ} 0 1 = cc in absurd (omega arith)
     both false b p q r = let z : _≡_ {A = ℕ} 0 1 = cc in absurd (omega arith)
 

@@ -3,5 +3,6 @@ pub mod Tables
 pub mod Listed
 pub mod Taken
 pub mod Batch
+pub mod Room
 pub mod Reserve
 pub mod ReserveCode

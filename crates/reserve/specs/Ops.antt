@@ -56,18 +56,23 @@ valuesAt m b x j (suc n) = encode (m (head b headMask)) (m (item x j itemSlot)) 
 unfoldable pub batchWords : Mem → ℕ → ℕ → List ℕ
 batchWords m b n = 0 ∷ m (root rootNextId) ∷ n ∷ valuesAt m b (spare m) 0 (min n batchMax)
 
--- a batch of n slots after p pages
-unfoldable pub openR : List ℕ → List ℕ → Shape → ℕ → ℕ → ℕ → ℕ → Both
-openR ws os sh base b n p =
-    both (batchW (listW (growW ws sh b p) sh b n) sh b n)
-    (answered os base (batchWords (load (listW (growW ws sh b p) sh b n) sh) b n))
+-- a batch of the first n slots of the free order of table b
+unfoldable pub slotsR : List ℕ → List ℕ → Shape → ℕ → ℕ → ℕ → Both
+slotsR ws os sh base b n = both (batchW (listW ws sh b n) sh b n) (answered os base (batchWords (load (listW ws sh b n) sh) b n))
 
--- "Reserve: 16, 17, 13, 15, 1, 12"
-unfoldable pub reserveR : List ℕ → List ℕ → Shape → ℕ → ℕ → ℕ → Both
-reserveR ws os sh base b n =
+-- so after p pages
+unfoldable pub openR : List ℕ → List ℕ → Shape → ℕ → ℕ → ℕ → ℕ → Both
+openR ws os sh base b n p = slotsR (growW ws sh b p) os sh base b n
+
+-- "Reserve: 16, 17, 13, 15, 1, 12": the checks of n slots in table b; x is what is left of a batch that needs p pages
+unfoldable pub roomR : List ℕ → List ℕ → Shape → ℕ → ℕ → ℕ → (ℕ → Both) → Both
+roomR ws os sh base b n x =
     let m : Mem = load ws sh in
     pick (eqb (batchRefusal m sh b n) 0)
     (pick (eqb (roomRefusal m sh (pagesNeeded m b n)) 0)
-    (openR ws os sh base b n (pagesNeeded m b n))
+    (x (pagesNeeded m b n))
     (refuseR ws os base (roomRefusal m sh (pagesNeeded m b n))))
     (refuseR ws os base (batchRefusal m sh b n))
+
+unfoldable pub reserveR : List ℕ → List ℕ → Shape → ℕ → ℕ → ℕ → Both
+reserveR ws os sh base b n = roomR ws os sh base b n (openR ws os sh base b n)

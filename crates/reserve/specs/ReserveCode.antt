@@ -20,8 +20,8 @@ use Rattle.storage.specs.Ops.{seen, takeW}
 use Rattle.book.specs.Ops.{spare}
 use Rattle.growth.specs.Words.{pagesNeeded, growW, noPlan}
 use Rattle.lookup.specs.View.{tableRefusal}
-use Rattle.answer.specs.Does.{both, answered}
-use Rattle.reserve.specs.Ops.{batchRefusal, roomRefusal, listedW, listW, takenW, batchW, valuesAt, batchWords, openR, reserveR}
+use Rattle.answer.specs.Does.{Both, both, answered}
+use Rattle.reserve.specs.Ops.{batchRefusal, roomRefusal, listedW, listW, takenW, batchW, valuesAt, batchWords, slotsR, openR, roomR}
 
 -- `batch_refusal`
 module _ (m : Mem) (sh : Shape) (b n k : ℕ) (e : k ≡ tableRefusal m sh b) (t : Bool) (q : t ≡ eqb k 0) where
@@ -139,33 +139,37 @@ pub batch-said : (m : Mem) (b n base x id : ℕ) (os o₁ o₂ : List ℕ) → x
 unfolding batchWords puts
 batch-said m b n base x id os o₁ o₂ e₁ e₂ a₁ a₂ = rw (a₂, a₁, e₁, e₂)
 
-pub open-done : (ws w₁ w₂ w₃ os os′ : List ℕ) (sh : Shape) (base b n p : ℕ) → w₁ ≡ growW ws sh b p → w₂ ≡ listW w₁ sh b n → os′ ≡ answered os base (batchWords (load w₂ sh) b n) → w₃ ≡ batchW w₂ sh b n
-    → both w₃ os′ ≡ openR ws os sh base b n p
-unfolding openR
-open-done ws w₁ w₂ w₃ os os′ sh base b n p a₁ a₂ a₃ a₄ = rw (a₄, a₃, a₂, a₁)
+pub slots-done : (ws w₂ w₃ os os′ : List ℕ) (sh : Shape) (base b n : ℕ) → w₂ ≡ listW ws sh b n → os′ ≡ answered os base (batchWords (load w₂ sh) b n) → w₃ ≡ batchW w₂ sh b n
+    → both w₃ os′ ≡ slotsR ws os sh base b n
+unfolding slotsR
+slots-done ws w₂ w₃ os os′ sh base b n a₂ a₃ a₄ = rw (a₄, a₃, a₂)
 
--- `reserve`
-module _ (ws os os′ : List ℕ) (sh : Shape) (base b n k : ℕ) (e : k ≡ batchRefusal (load ws sh) sh b n) (t : Bool) (q : t ≡ not (eqb k 0)) where
+pub open-done : (ws w₁ os : List ℕ) (sh : Shape) (base b n p : ℕ) (x : Both) → w₁ ≡ growW ws sh b p → x ≡ slotsR w₁ os sh base b n → x ≡ openR ws os sh base b n p
+unfolding openR
+open-done ws w₁ os sh base b n p x a₁ a₂ = rw a₂ (ap (λ (w : List ℕ). slotsR w os sh base b n) a₁)
+
+-- `reserve`, and what else has its checks
+module _ (ws os : List ℕ) (sh : Shape) (base b n : ℕ) (x : ℕ → Both) (k : ℕ) (e : k ≡ batchRefusal (load ws sh) sh b n) (t : Bool) (q : t ≡ not (eqb k 0)) where
   refuse-test : t ≡ true → eqb (batchRefusal (load ws sh) sh b n) 0 ≡ false
   refuse-test y = bool (eqb k 0) (λ z. clash (sym (q ∙ ap not z) ∙ y) refl) (λ z. ap (λ (i : ℕ). eqb i 0) (sym e) ∙ z)
 
   pass-test : t ≡ false → eqb (batchRefusal (load ws sh) sh b n) 0 ≡ true
   pass-test y = bool (eqb k 0) (λ z. ap (λ (i : ℕ). eqb i 0) (sym e) ∙ z) (λ z. clash (q ∙ ap not z) y)
 
-  pub reserve-wrong : t ≡ true → os′ ≡ answered os base (k ∷ []) → both ws os′ ≡ reserveR ws os sh base b n
-  unfolding reserveR
-  reserve-wrong y a = no-is _ _ _ _ (refuse-test y) (rw (a, e))
+  pub room-wrong : (os′ : List ℕ) → t ≡ true → os′ ≡ answered os base (k ∷ []) → both ws os′ ≡ roomR ws os sh base b n x
+  unfolding roomR
+  room-wrong os′ y a = no-is _ _ _ _ (refuse-test y) (rw (a, e))
 
   module _ (y : t ≡ false) (p f : ℕ) (e₂ : p ≡ pagesNeeded (load ws sh) b n) (e₃ : f ≡ roomRefusal (load ws sh) sh p) (t₂ : Bool) (q₂ : t₂ ≡ not (eqb f 0)) where
     fullness : f ≡ roomRefusal (load ws sh) sh (pagesNeeded (load ws sh) b n)
     fullness = e₃ ∙ ap (roomRefusal (load ws sh) sh) e₂
 
-    pub reserve-full : t₂ ≡ true → os′ ≡ answered os base (f ∷ []) → both ws os′ ≡ reserveR ws os sh base b n
-    unfolding reserveR
-    reserve-full z a = yes-is _ _ _ _ (pass-test y)
+    pub room-over : (os′ : List ℕ) → t₂ ≡ true → os′ ≡ answered os base (f ∷ []) → both ws os′ ≡ roomR ws os sh base b n x
+    unfolding roomR
+    room-over os′ z a = yes-is _ _ _ _ (pass-test y)
         (no-is _ _ _ _ (bool (eqb f 0) (λ v. clash (sym (q₂ ∙ ap not v) ∙ z) refl) (λ v. ap (λ (i : ℕ). eqb i 0) (sym fullness) ∙ v)) (rw (a, fullness)))
 
-    pub reserve-done : (ws′ : List ℕ) → t₂ ≡ false → both ws′ os′ ≡ openR ws os sh base b n p → both ws′ os′ ≡ reserveR ws os sh base b n
-    unfolding reserveR
-    reserve-done ws′ z a = yes-is _ _ _ _ (pass-test y)
-        (yes-is _ _ _ _ (bool (eqb f 0) (λ v. ap (λ (i : ℕ). eqb i 0) (sym fullness) ∙ v) (λ v. clash (q₂ ∙ ap not v) z)) (a ∙ ap (openR ws os sh base b n) e₂))
+    pub room-done : (r : Both) → t₂ ≡ false → r ≡ x p → r ≡ roomR ws os sh base b n x
+    unfolding roomR
+    room-done r z a = yes-is _ _ _ _ (pass-test y)
+        (yes-is _ _ _ _ (bool (eqb f 0) (λ v. ap (λ (i : ℕ). eqb i 0) (sym fullness) ∙ v) (λ v. clash (q₂ ∙ ap not v) z)) (a ∙ ap x e₂))

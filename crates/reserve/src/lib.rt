@@ -2,14 +2,14 @@
 // SPDX-License-Identifier: Apache-2.0
 // Ported from src/capability/handle/mod.rs of HypeR-Proj/kernel, with changes.
 
-// The request that opens a reservation: reserve.
+// The request that opens a reservation: reserve. Its checks and the opening of its batch serve plans too.
 ghost use mathlib.Core.Path.{_≡_};
 ghost use Prim.Native.Nat.{min};
 ghost use Rattle.layout.specs.Layout.{load as loadAt};
 ghost use Rattle.layout.specs.Sizes.{batchMax};
 ghost use Rattle.request.specs.Answers.{puts};
 ghost use Rattle.answer.specs.Does.{both, answered};
-ghost use Rattle.reserve.specs.Ops.{batchRefusal, roomRefusal, listedW, listW, takenW, batchW, valuesAt, batchWords, openR, reserveR};
+ghost use Rattle.reserve.specs.Ops.{batchRefusal, roomRefusal, listedW, listW, takenW, batchW, valuesAt, batchWords, slotsR, openR, reserveR};
 ghost use Rattle.format.specs.Fields.{tableField, countField};
 ghost use Rattle.request.specs.Place.{fieldOf};
 use codec::HandleCodec;
@@ -19,7 +19,7 @@ use layout::size;
 use layout::value;
 
 // "Reserve: 16, 17, 13": the number of the refusal of n slots in table b; 0 for none.
-fn batch_refusal(s: &[u64], sh: Shape, b: u64, n: u64) -> u64
+pub fn batch_refusal(s: &[u64], sh: Shape, b: u64, n: u64) -> u64
     ensures { λ r. ⌜ r ≡ batchRefusal (loadAt (now (s .entry)) sh) sh b n ⌝ }
 {
     let known = lookup::table_refusal(s, sh, b);
@@ -36,7 +36,7 @@ fn batch_refusal(s: &[u64], sh: Shape, b: u64, n: u64) -> u64
 }
 
 // "15, 1, 12", for a batch that needs p pages.
-fn room_refusal(s: &[u64], sh: Shape, p: u64) -> u64
+pub fn room_refusal(s: &[u64], sh: Shape, p: u64) -> u64
     ensures { λ r. ⌜ r ≡ roomRefusal (loadAt (now (s .entry)) sh) sh p ⌝ }
 {
     if words::eq(p, growth::NO_PLAN) {
@@ -127,14 +127,21 @@ fn say_batch(s: &[u64], sh: Shape, b: u64, n: u64, out: &mut [u64], base: usize)
     say_values(s, sh, b, x, n, out, base);
 }
 
-// A batch of n slots of table b, after p pages.
+// A batch of the first n slots of the free order of table b, under the next id.
+pub fn open_slots(s: &mut [u64], sh: Shape, b: u64, n: u64, out: &mut [u64], base: usize)
+    ensures { λ _. ⌜ both (now (s .exit)) (now (out .exit)) ≡ slotsR (now (s .entry)) (now (out .entry)) sh base b n ⌝ }
+{
+    list_free(s, sh, b, n);
+    say_batch(s, sh, b, n, out, base);
+    open_batch(s, sh, b, n);
+}
+
+// So after p pages.
 fn reserve_slots(s: &mut [u64], sh: Shape, b: u64, n: u64, p: u64, out: &mut [u64], base: usize)
     ensures { λ _. ⌜ both (now (s .exit)) (now (out .exit)) ≡ openR (now (s .entry)) (now (out .entry)) sh base b n p ⌝ }
 {
     growth::grow(s, sh, b, p);
-    list_free(s, sh, b, n);
-    say_batch(s, sh, b, n, out, base);
-    open_batch(s, sh, b, n);
+    open_slots(s, sh, b, n, out, base);
 }
 
 // "Reserve: 16, 17, 13, 15, 1, 12".

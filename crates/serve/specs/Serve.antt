@@ -5,7 +5,7 @@ use Prim.Native.Nat.{ℕ}
 use lib.Dec.{eqb}
 use Rattle.words.specs.Pick.{pick}
 use Rattle.format.specs.Fields.{tableField, objectField, countField, valueField, rightsField, flagsField, idField, destinationField, kindField, koidField, cursorField}
-use Rattle.format.specs.Ops.{opNewObject, opDuplicate, opReleaseParcel, opRetireObject, opReserve, opTrim, opAbort, opPublish, opGetInfo, opResolve, opReplace, opClose, opScanHandles, opPrepareTransfer, opPrepareConsumption, opRollback, opCommit, opDirectCommit, opDirectRollback, opRemoveStoppingOwner, opTeardownStart, opTeardownStep, opTeardownFinish, opTakeEmptyPage}
+use Rattle.format.specs.Ops.{opNewObject, opDuplicate, opReleaseParcel, opRetireObject, opReserve, opTrim, opAbort, opPublish, opGetInfo, opResolve, opReplace, opClose, opScanHandles, opPrepareTransfer, opPrepareConsumption, opRollback, opCommit, opDirectCommit, opDirectRollback, opRemoveStoppingOwner, opTeardownStart, opTeardownStep, opTeardownFinish, opTakeEmptyPage, opMakePlan, opUsePlan, opDropPlan}
 use Rattle.layout.specs.declared.Shape.{Shape}
 use Rattle.request.specs.Place.{fieldOf, opAt, endAt, countAt}
 use Rattle.answer.specs.Does.{Both, both}
@@ -22,6 +22,7 @@ use Rattle.claim.specs.EndsOps.{trimR, abortR}
 use Rattle.claim.specs.Ops.{rollbackR, commitR, directCommitR, directRollbackR}
 use Rattle.teardown.specs.Ops.{stoppingR, teardownStartR, teardownStepR, teardownFinishR}
 use Rattle.detach.specs.Ops.{takePageR}
+use Rattle.plan.specs.Ops.{makePlanR, usePlanR, dropPlanR}
 
 unfoldable pub serveR : ℕ → List ℕ → List ℕ → Shape → List ℕ → ℕ → ℕ → Both
 serveR op ws os sh list at base =
@@ -49,7 +50,10 @@ serveR op ws os sh list at base =
     (pick (eqb op opTeardownStep) (teardownStepR ws os sh base (fieldOf list at tableField))
     (pick (eqb op opTeardownFinish) (teardownFinishR ws os sh base (fieldOf list at tableField))
     (pick (eqb op opTakeEmptyPage) (takePageR ws os sh base (fieldOf list at tableField))
-    (both ws os))))))))))))))))))))))))
+    (pick (eqb op opMakePlan) (makePlanR ws os sh base (fieldOf list at tableField) (fieldOf list at countField))
+    (pick (eqb op opUsePlan) (usePlanR ws os sh base (fieldOf list at idField))
+    (pick (eqb op opDropPlan) (dropPlanR ws os sh base (fieldOf list at idField))
+    (both ws os)))))))))))))))))))))))))))
 
 abbrev pub oneR : List ℕ → List ℕ → Shape → List ℕ → ℕ → ℕ → Both
 oneR ws os sh list at base = serveR (opAt list at) ws os sh list at base

@@ -16,6 +16,9 @@ use Rattle.lookup.specs.Scanned.{scan-does}
 use Rattle.close.specs.Close.{close-does}
 use Rattle.close.specs.Replace.{replace-does}
 use Rattle.detach.specs.Take.{takePage-does}
+use Rattle.plan.specs.Made.{makePlan-does}
+use Rattle.plan.specs.Used.{usePlan-does}
+use Rattle.plan.specs.Dropped.{dropPlan-does}
 use Rattle.reserve.specs.Reserve.{reserve-does}
 use Rattle.parcel.specs.Opened.{retireObject-does, newObject-does, duplicate-does}
 use Rattle.parcel.specs.Released.{releaseParcel-does}
@@ -64,9 +67,12 @@ module _ (ws os : List ℕ) (sh : Shape) (s : State) (list : List ℕ) (at base 
       (teardownStep-does ws sh s r os base (fieldOf list at tableField))
       (teardownFinish-does ws sh s r os base (fieldOf list at tableField))
       (takePage-does ws os sh base s r (fieldOf list at tableField))
+      (makePlan-does ws sh s r os base (fieldOf list at tableField) (fieldOf list at countField))
+      (usePlan-does ws sh s r os base (fieldOf list at idField))
+      (dropPlan-does ws sh s r os base (fieldOf list at idField))
 
 -- EACH REQUEST
 pub steps : Steps oneR
 steps ws os sh s list at base r w =
     let e = request-is list at (opAt list at) refl in
-    (rw e (serves ws os sh s list at base r (opAt list at) (w .known .0) (w .known .1)), step-short till (omega arith) s (requestAt list at))
+    (rw e (serves ws os sh s list at base r (opAt list at) (w .known .0) (w .known .1)), step-short till (omega arith) s (r .wellFormed) (requestAt list at))

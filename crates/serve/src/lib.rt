@@ -41,6 +41,9 @@ pub fn serve(s: &mut [u64], sh: Shape, rq: &[u64], at: usize, op: u64, out: &mut
         op::OP_TEARDOWN_STEP => teardown::serve_teardown_step(s, sh, rq, at, out, base),
         op::OP_TEARDOWN_FINISH => teardown::serve_teardown_finish(s, sh, rq, at, out, base),
         op::OP_TAKE_EMPTY_PAGE => detach::serve_take_empty_page(s, sh, rq, at, out, base),
+        op::OP_MAKE_PLAN => plan::serve_make_plan(s, sh, rq, at, out, base),
+        op::OP_USE_PLAN => plan::serve_use_plan(s, sh, rq, at, out, base),
+        op::OP_DROP_PLAN => plan::serve_drop_plan(s, sh, rq, at, out, base),
         _ => {}
     }
 }

@@ -3,6 +3,7 @@ use mathlib.Core.Path.{_≡_, refl, sym, _∙_}
 use mathlib.Core.List.{List, [], _∷_}
 use Prim.Native.Nat.{ℕ, zero, suc, _+_, _%_, _<_}
 use native.Mathlib.Omega.{arith}
+use lib.ListN.{length}
 use lib.Dec.{eqb}
 use borrow.Author.Tests.{eqb-true, eq-eqb, ne-eqb}
 use Rattle.words.specs.Pick.{bool}
@@ -20,7 +21,7 @@ use Rattle.layout.specs.RegionNames.{regionHead, regionGroup16}
 use Rattle.representation.specs.Represents.{wordIn, frameOf, slotWord, slotFrom, slotIn, LifeIs, TableIs, Represents}
 use Rattle.storage.specs.Order.{chain-frame}
 use Rattle.storage.specs.Slots.{tagged-rows}
-use Rattle.storage.specs.Kept.{frames-kept, object-kept, RowsStay, mark-kept, book-kept}
+use Rattle.storage.specs.Kept.{frames-kept, object-kept, RowsStay, owners-plans, mark-kept, book-kept}
 use Rattle.storage.specs.Whole.{Placed, put-like}
 use Rattle.storage.specs.Reps.{Held}
 use Rattle.teardown.specs.Ops.{lifeW}
@@ -84,7 +85,7 @@ module _ (sh : Shape) (m : Mem) (s : State) (r : Represents sh m s) (b w c : ℕ
     frames = frames-kept m (lived m b w c) s (withTable s b u) (record { owners = λ g. refl; groups = λ i l g. rw (ne-eqb (regionGroup16 + i) regionHead (λ e. omega arith)); count = refl }) (λ a. refl) refl refl
         (λ a p f l h e. (l, rw (put-like (λ t. t .size) (s .tables) b u refl a) at h, sym (put-like (λ t. t .pages p .frame) (s .tables) b u refl a) ∙ e)) (r .frames);
     objects = λ o l. object-kept m (lived m b w c) o (s .objects o) (λ f. refl) (r .objects o l);
-    book = book-kept m (lived m b w c) (stay m b w c) s (withTable s b u) refl refl refl
+    book = book-kept m (lived m b w c) (stay m b w c) s (withTable s b u) refl refl refl (owners-plans m (lived m b w c) (λ f. refl) (length (s .book .rows)))
         (λ a k l h. mark-kept m (lived m b w c) (stay m b w c) s a k (word-kept m b w c a k slotTag) (word-kept m b w c a k slotPlace) (word-kept m b w c a k slotPosition)
         (r .book .marks a k l (rw (put-like (λ t. t .slots k) (s .tables) b u refl a) at h))) (r .book);
   }

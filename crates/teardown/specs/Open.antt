@@ -6,7 +6,7 @@ use Prim.Native.Nat.{ℕ, suc}
 use native.Mathlib.Omega.{arith}
 use lib.ListN.{length}
 use Rattle.words.specs.Pick.{pick}
-use Rattle.model.specs.State.{Body, Body.reservation, Body.claim, Body.parcel, Row, State}
+use Rattle.model.specs.State.{Body, Body.reservation, Body.claim, Body.parcel, Body.plan, Row, State}
 use Rattle.model.specs.Book.{opensIn, anyOpen}
 use Rattle.layout.specs.declared.Shape.{Shape}
 use Rattle.layout.specs.Layout.{Mem, index}
@@ -21,6 +21,7 @@ unfolding opensAt
 body-tells m b x (reservation c ks) i = rw (i .0, i .1)
 body-tells m b x (claim c es) i = rw (i .0, i .1)
 body-tells m b x (parcel hs) i = rw (i .0)
+body-tells m b x (plan c n w fs) i = rw (i .kind)
 
 or-is : (p q : Bool) → pick p true q ≡ (p || q)
 or-is true q = refl

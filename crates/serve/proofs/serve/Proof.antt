@@ -75,6 +75,15 @@ serve-teardown-finish-requires c κs = tt
 serve-take-empty-page-requires : tie.Need-serve-take-empty-page-requires
 serve-take-empty-page-requires c κs = tt
 
+serve-make-plan-requires : tie.Need-serve-make-plan-requires
+serve-make-plan-requires c κs = tt
+
+serve-use-plan-requires : tie.Need-serve-use-plan-requires
+serve-use-plan-requires c κs = tt
+
+serve-drop-plan-requires : tie.Need-serve-drop-plan-requires
+serve-drop-plan-requires c κs = tt
+
 same-length : tie.Need-same-length
 same-length c = c .before .before .before .s .given
 
@@ -315,9 +324,39 @@ returns-24 : tie.Need-returns-24
 unfolding serveR
 returns-24 c = at-op _ 24 _ _ _ _ _ _ _ (c .before .before .before .before .before .before .before .match .keys24) (c .before .before .before .before .serve-take-empty-page .ensures)
 
+same-length-49 : tie.Need-same-length-49
+same-length-49 c = c .before .before .before .s25 .given
+
+same-length-50 : tie.Need-same-length-50
+same-length-50 c = c .before .out25 .given
+
 returns-25 : tie.Need-returns-25
 unfolding serveR
-returns-25 c = simp (ne-eqb _ _ (c .match .rest .0 .0 .0 .0 .0 .0 .0 .0 .0 .0 .0 .0 .0 .0 .0 .0 .0 .0 .0 .0 .0 .0 .0 .1), ne-eqb _ _ (c .match .rest .0 .0 .0 .0 .0 .0 .0 .0 .0 .0 .0 .0 .0 .0 .0 .0 .0 .0 .0 .0 .0 .0 .1), ne-eqb _ _ (c .match .rest .0 .0 .0 .0 .0 .0 .0 .0 .0 .0 .0 .0 .0 .0 .0 .0 .0 .0 .0 .0 .0 .1), ne-eqb _ _ (c .match .rest .0 .0 .0 .0 .0 .0 .0 .0 .0 .0 .0 .0 .0 .0 .0 .0 .0 .0 .0 .0 .1), ne-eqb _ _ (c .match .rest .0 .0 .0 .0 .0 .0 .0 .0 .0 .0 .0 .0 .0 .0 .0 .0 .0 .0 .0 .1), ne-eqb _ _ (c .match .rest .0 .0 .0 .0 .0 .0 .0 .0 .0 .0 .0 .0 .0 .0 .0 .0 .0 .0 .1), ne-eqb _ _ (c .match .rest .0 .0 .0 .0 .0 .0 .0 .0 .0 .0 .0 .0 .0 .0 .0 .0 .0 .1), ne-eqb _ _ (c .match .rest .0 .0 .0 .0 .0 .0 .0 .0 .0 .0 .0 .0 .0 .0 .0 .0 .1), ne-eqb _ _ (c .match .rest .0 .0 .0 .0 .0 .0 .0 .0 .0 .0 .0 .0 .0 .0 .0 .1), ne-eqb _ _ (c .match .rest .0 .0 .0 .0 .0 .0 .0 .0 .0 .0 .0 .0 .0 .0 .1), ne-eqb _ _ (c .match .rest .0 .0 .0 .0 .0 .0 .0 .0 .0 .0 .0 .0 .0 .1), ne-eqb _ _ (c .match .rest .0 .0 .0 .0 .0 .0 .0 .0 .0 .0 .0 .0 .1), ne-eqb _ _ (c .match .rest .0 .0 .0 .0 .0 .0 .0 .0 .0 .0 .0 .1), ne-eqb _ _ (c .match .rest .0 .0 .0 .0 .0 .0 .0 .0 .0 .0 .1), ne-eqb _ _ (c .match .rest .0 .0 .0 .0 .0 .0 .0 .0 .0 .1), ne-eqb _ _ (c .match .rest .0 .0 .0 .0 .0 .0 .0 .0 .1), ne-eqb _ _ (c .match .rest .0 .0 .0 .0 .0 .0 .0 .1), ne-eqb _ _ (c .match .rest .0 .0 .0 .0 .0 .0 .1), ne-eqb _ _ (c .match .rest .0 .0 .0 .0 .0 .1), ne-eqb _ _ (c .match .rest .0 .0 .0 .0 .1), ne-eqb _ _ (c .match .rest .0 .0 .0 .1), ne-eqb _ _ (c .match .rest .0 .0 .1), ne-eqb _ _ (c .match .rest .0 .1), ne-eqb _ _ (c .match .rest .1))
+returns-25 c = at-op _ 25 _ _ _ _ _ _ _ (c .before .before .before .before .before .before .before .match .keys25) (c .before .before .before .before .serve-make-plan .ensures)
+
+same-length-51 : tie.Need-same-length-51
+same-length-51 c = c .before .before .before .s26 .given
+
+same-length-52 : tie.Need-same-length-52
+same-length-52 c = c .before .out26 .given
+
+returns-26 : tie.Need-returns-26
+unfolding serveR
+returns-26 c = at-op _ 26 _ _ _ _ _ _ _ (c .before .before .before .before .before .before .before .match .keys26) (c .before .before .before .before .serve-use-plan .ensures)
+
+same-length-53 : tie.Need-same-length-53
+same-length-53 c = c .before .before .before .s27 .given
+
+same-length-54 : tie.Need-same-length-54
+same-length-54 c = c .before .out27 .given
+
+returns-27 : tie.Need-returns-27
+unfolding serveR
+returns-27 c = at-op _ 27 _ _ _ _ _ _ _ (c .before .before .before .before .before .before .before .match .keys27) (c .before .before .before .before .serve-drop-plan .ensures)
+
+returns-28 : tie.Need-returns-28
+unfolding serveR
+returns-28 c = simp (ne-eqb _ _ (c .match .rest .0 .0 .0 .0 .0 .0 .0 .0 .0 .0 .0 .0 .0 .0 .0 .0 .0 .0 .0 .0 .0 .0 .0 .0 .0 .0 .1), ne-eqb _ _ (c .match .rest .0 .0 .0 .0 .0 .0 .0 .0 .0 .0 .0 .0 .0 .0 .0 .0 .0 .0 .0 .0 .0 .0 .0 .0 .0 .1), ne-eqb _ _ (c .match .rest .0 .0 .0 .0 .0 .0 .0 .0 .0 .0 .0 .0 .0 .0 .0 .0 .0 .0 .0 .0 .0 .0 .0 .0 .1), ne-eqb _ _ (c .match .rest .0 .0 .0 .0 .0 .0 .0 .0 .0 .0 .0 .0 .0 .0 .0 .0 .0 .0 .0 .0 .0 .0 .0 .1), ne-eqb _ _ (c .match .rest .0 .0 .0 .0 .0 .0 .0 .0 .0 .0 .0 .0 .0 .0 .0 .0 .0 .0 .0 .0 .0 .0 .1), ne-eqb _ _ (c .match .rest .0 .0 .0 .0 .0 .0 .0 .0 .0 .0 .0 .0 .0 .0 .0 .0 .0 .0 .0 .0 .0 .1), ne-eqb _ _ (c .match .rest .0 .0 .0 .0 .0 .0 .0 .0 .0 .0 .0 .0 .0 .0 .0 .0 .0 .0 .0 .0 .1), ne-eqb _ _ (c .match .rest .0 .0 .0 .0 .0 .0 .0 .0 .0 .0 .0 .0 .0 .0 .0 .0 .0 .0 .0 .1), ne-eqb _ _ (c .match .rest .0 .0 .0 .0 .0 .0 .0 .0 .0 .0 .0 .0 .0 .0 .0 .0 .0 .0 .1), ne-eqb _ _ (c .match .rest .0 .0 .0 .0 .0 .0 .0 .0 .0 .0 .0 .0 .0 .0 .0 .0 .0 .1), ne-eqb _ _ (c .match .rest .0 .0 .0 .0 .0 .0 .0 .0 .0 .0 .0 .0 .0 .0 .0 .0 .1), ne-eqb _ _ (c .match .rest .0 .0 .0 .0 .0 .0 .0 .0 .0 .0 .0 .0 .0 .0 .0 .1), ne-eqb _ _ (c .match .rest .0 .0 .0 .0 .0 .0 .0 .0 .0 .0 .0 .0 .0 .0 .1), ne-eqb _ _ (c .match .rest .0 .0 .0 .0 .0 .0 .0 .0 .0 .0 .0 .0 .0 .1), ne-eqb _ _ (c .match .rest .0 .0 .0 .0 .0 .0 .0 .0 .0 .0 .0 .0 .1), ne-eqb _ _ (c .match .rest .0 .0 .0 .0 .0 .0 .0 .0 .0 .0 .0 .1), ne-eqb _ _ (c .match .rest .0 .0 .0 .0 .0 .0 .0 .0 .0 .0 .1), ne-eqb _ _ (c .match .rest .0 .0 .0 .0 .0 .0 .0 .0 .0 .1), ne-eqb _ _ (c .match .rest .0 .0 .0 .0 .0 .0 .0 .0 .1), ne-eqb _ _ (c .match .rest .0 .0 .0 .0 .0 .0 .0 .1), ne-eqb _ _ (c .match .rest .0 .0 .0 .0 .0 .0 .1), ne-eqb _ _ (c .match .rest .0 .0 .0 .0 .0 .1), ne-eqb _ _ (c .match .rest .0 .0 .0 .0 .1), ne-eqb _ _ (c .match .rest .0 .0 .0 .1), ne-eqb _ _ (c .match .rest .0 .0 .1), ne-eqb _ _ (c .match .rest .0 .1), ne-eqb _ _ (c .match .rest .1))
 
 pub serve-spec : {M : Type 1} → statement M
 serve-spec =
@@ -347,6 +386,9 @@ serve-spec =
     serve-teardown-step-requires
     serve-teardown-finish-requires
     serve-take-empty-page-requires
+    serve-make-plan-requires
+    serve-use-plan-requires
+    serve-drop-plan-requires
     same-length
     same-length-2
     returns
@@ -419,4 +461,13 @@ serve-spec =
     same-length-47
     same-length-48
     returns-24
-    returns-25)
+    same-length-49
+    same-length-50
+    returns-25
+    same-length-51
+    same-length-52
+    returns-26
+    same-length-53
+    same-length-54
+    returns-27
+    returns-28)
