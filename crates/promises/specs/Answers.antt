@@ -1,30 +1,30 @@
 -- The words of an answer: its number, its zeros after a refusal, and where it has an id. Assumes nothing.
 use mathlib.Core.Path.{_≡_, refl, ap}
-use mathlib.Core.Bool.{Bool, true, false, not}
+use mathlib.Core.Bool.{Bool, true, false, not, _||_}
 use mathlib.Core.List.{List, [], _∷_, map}
 use mathlib.Core.Option.{Option, none, some}
 use Prim.Native.Nat.{ℕ, _≤_}
 use native.Mathlib.Omega.{arith}
 use lib.ListN.{length, getD, replicate}
 use lib.Dec.{eqb, ltb}
-use borrow.Author.Tests.{ltb-false, not-true}
-use Rattle.words.specs.Pick.{clash, both}
+use borrow.Author.Tests.{ltb-false, eqb-true, not-true}
+use Rattle.words.specs.Pick.{bool, clash, both}
 use Rattle.authority.specs.Rights.{contains, duplicateRight}
-use Rattle.model.specs.Base.{member, isSome, atMost}
+use Rattle.model.specs.Base.{member, isSome, atMost, between}
 use Rattle.model.specs.State.{Sizes, Handle, Table, State, isActive, maxBatch, knownFlags}
-use Rattle.model.specs.Storage.{pagesFor}
-use Rattle.model.specs.Request.{Route, Item, Answer, Answer.refused, Answer.done, Answer.opened, Answer.batch, Answer.infoOf, Answer.resolved, Answer.renewed, Answer.scanned, Answer.removed, Answer.closed, Answer.taken}
-use Rattle.model.specs.Request.{Request, Request.newObject, Request.duplicate, Request.releaseParcel, Request.retireObject, Request.reserve, Request.trim, Request.abort, Request.publish, Request.getInfo, Request.resolve, Request.replace, Request.close, Request.scanHandles, Request.prepareTransfer, Request.prepareConsumption, Request.rollback, Request.commit, Request.directCommit, Request.directRollback, Request.removeStoppingOwner, Request.teardownStart, Request.teardownStep, Request.teardownFinish, Request.takeEmptyPage}
+use Rattle.model.specs.Storage.{isStale}
+use Rattle.model.specs.Request.{Route, Item, Answer, Answer.refused, Answer.done, Answer.opened, Answer.batch, Answer.infoOf, Answer.resolved, Answer.renewed, Answer.scanned, Answer.removed, Answer.closed, Answer.taken, Answer.planned}
+use Rattle.model.specs.Request.{Request, Request.newObject, Request.duplicate, Request.releaseParcel, Request.retireObject, Request.reserve, Request.trim, Request.abort, Request.publish, Request.getInfo, Request.resolve, Request.replace, Request.close, Request.scanHandles, Request.prepareTransfer, Request.prepareConsumption, Request.rollback, Request.commit, Request.directCommit, Request.directRollback, Request.removeStoppingOwner, Request.teardownStart, Request.teardownStep, Request.teardownFinish, Request.takeEmptyPage, Request.makePlan, Request.usePlan, Request.dropPlan}
 use Rattle.model.specs.Objects.{isNowActive, isNowRetired}
 use Rattle.model.specs.Book.{find, freeRow, idLeft, anyOpen, copiesOf}
 use Rattle.model.specs.Decision.{Decision, Decision.refusal, Decision.refusalAfterId, Decision.accept, asParcel, handlesOf, distinct}
 use Rattle.model.specs.Lookup.{lookup}
 use Rattle.model.specs.Transfer.{itemsFault, copiesFault, entryFor}
-use Rattle.model.specs.Step.{decide, step, carry, newObjectOf, duplicateOf, releaseParcelOf, retireObjectOf, reserveOf, trimOf, abortOf, publishOf, getInfoOf, resolveOf, replaceOf, closeOf, scanHandlesOf, prepareTransferOf, prepareConsumptionOf, rollbackOf, commitOf, directCommitOf, directRollbackOf, removeStoppingOwnerOf, removeAt, nextOccupied, teardownStartOf, tearAt, teardownStepOf, teardownFinishOf, takeAt, takeEmptyPageOf}
-use Rattle.model.specs.Decided.{Decided, Any, accepts, checked, with-some, with-view, with-handle, with-reservation, with-claim, while-tearing, after-id, either-way, found-or, first-or}
+use Rattle.model.specs.Step.{decide, step, carry, newObjectOf, duplicateOf, releaseParcelOf, retireObjectOf, reserveOf, trimOf, abortOf, publishOf, getInfoOf, resolveOf, replaceOf, closeOf, scanHandlesOf, prepareTransferOf, prepareConsumptionOf, rollbackOf, commitOf, directCommitOf, directRollbackOf, removeStoppingOwnerOf, removeAt, nextOccupied, teardownStartOf, tearAt, teardownStepOf, teardownFinishOf, takeAt, takeEmptyPageOf, makePlanOf, usePlanOf, dropPlanOf}
+use Rattle.model.specs.Decided.{Decided, Any, accepts, checked, with-some, with-view, with-handle, with-reservation, with-claim, with-plan, with-room, while-tearing, after-id, either-way, found-or, first-or}
 use Rattle.model.specs.Refusals.{isRefused, numbered, refused-keeps}
 use Rattle.model.specs.Words.{usedWords, wordsOf}
-use Rattle.format.specs.Ops.{opNewObject, opDuplicate, opReleaseParcel, opRetireObject, opReserve, opTrim, opAbort, opPublish, opGetInfo, opResolve, opReplace, opClose, opScanHandles, opPrepareTransfer, opPrepareConsumption, opRollback, opCommit, opDirectCommit, opDirectRollback, opRemoveStoppingOwner, opTeardownStart, opTeardownStep, opTeardownFinish, opTakeEmptyPage}
+use Rattle.format.specs.Ops.{opNewObject, opDuplicate, opReleaseParcel, opRetireObject, opReserve, opTrim, opAbort, opPublish, opGetInfo, opResolve, opReplace, opClose, opScanHandles, opPrepareTransfer, opPrepareConsumption, opRollback, opCommit, opDirectCommit, opDirectRollback, opRemoveStoppingOwner, opTeardownStart, opTeardownStep, opTeardownFinish, opTakeEmptyPage, opMakePlan, opUsePlan, opDropPlan}
 
 -- docs/formats.md, "Ops": the number of a request's op
 abbrev pub opOf : Request → ℕ
@@ -52,10 +52,13 @@ opOf (teardownStart b) = opTeardownStart
 opOf (teardownStep b) = opTeardownStep
 opOf (teardownFinish b) = opTeardownFinish
 opOf (takeEmptyPage b) = opTakeEmptyPage
+opOf (makePlan b n) = opMakePlan
+opOf (usePlan i) = opUsePlan
+opOf (dropPlan i) = opDropPlan
 
--- docs/formats.md, "Answers": word 1 of an answer is an id for ops 1, 2, 5, 14 and 15
+-- docs/formats.md, "Answers": word 1 of an answer is an id for ops 1, 2, 5, 14, 15, 25 and 26
 abbrev pub givesId : Request → Bool
-givesId r = member (opOf r) (opNewObject ∷ opDuplicate ∷ opReserve ∷ opPrepareTransfer ∷ opPrepareConsumption ∷ [])
+givesId r = member (opOf r) (opNewObject ∷ opDuplicate ∷ opReserve ∷ opPrepareTransfer ∷ opPrepareConsumption ∷ opMakePlan ∷ opUsePlan ∷ [])
 
 -- ---- which answers have an id
 
@@ -71,11 +74,12 @@ hasId (scanned p) = false
 hasId (removed x c) = false
 hasId (closed x) = false
 hasId (taken p) = false
+hasId (planned i n m) = true
 
 module _ (z : Sizes) (s : State) where
   -- what is accepted has an id exactly if its op gives one
   decide-gives : (r : Request) → Decided Any Any (λ u a. hasId a ≡ givesId r) (decide z s r)
-  unfolding decide newObjectOf duplicateOf releaseParcelOf retireObjectOf reserveOf trimOf abortOf publishOf getInfoOf resolveOf replaceOf closeOf scanHandlesOf prepareTransferOf prepareConsumptionOf rollbackOf commitOf directCommitOf directRollbackOf removeStoppingOwnerOf teardownStartOf teardownStepOf teardownFinishOf takeEmptyPageOf
+  unfolding decide newObjectOf duplicateOf releaseParcelOf retireObjectOf reserveOf trimOf abortOf publishOf getInfoOf resolveOf replaceOf closeOf scanHandlesOf prepareTransferOf prepareConsumptionOf rollbackOf commitOf directCommitOf directRollbackOf removeStoppingOwnerOf teardownStartOf teardownStepOf teardownFinishOf takeEmptyPageOf makePlanOf usePlanOf dropPlanOf
   decide-gives (newObject o r f) =
       checked (ltb o (s .objectCount)) 18 tt λ e.
       checked (freeRow s) 1 tt λ e.
@@ -105,14 +109,7 @@ module _ (z : Sizes) (s : State) where
       checked (ltb o (s .objectCount)) 18 tt λ e.
       accepts refl
   decide-gives (reserve b n) =
-      checked (ltb b (s .tableCount)) 18 tt λ e.
-      checked (isActive (s .tables b .life)) 16 tt λ e.
-      checked (ltb 0 n) 17 tt λ e.
-      checked (atMost n maxBatch) 13 tt λ e.
-      with-some (pagesFor z (s .tables b) n) 15 tt λ ps e.
-      checked (atMost (length ps) (length (s .frames))) 1 tt λ e.
-      checked (freeRow s) 1 tt λ e.
-      checked (idLeft s) 12 tt λ e.
+      with-room z s b n tt tt tt tt tt tt tt λ w e.
       accepts refl
   decide-gives (trim i n) =
       with-reservation (find i (s .book .rows)) tt λ b ks e.
@@ -209,6 +206,18 @@ module _ (z : Sizes) (s : State) where
       let t : Table = s .tables b in
       checked (ltb b (s .tableCount)) 18 tt λ e.
       either-way (isActive (t .life)) (λ a. first-or (takeAt z s b t) (t .empty) (accepts refl) λ p ps e. accepts refl) (accepts refl)
+  decide-gives (makePlan b n) =
+      with-room z s b n tt tt tt tt tt tt tt λ w e.
+      accepts refl
+  decide-gives (usePlan i) =
+      with-plan (find i (s .book .rows)) tt λ b n w fs e.
+      checked (isActive (s .tables b .life)) 16 tt λ e.
+      checked (not (isStale z (s .tables b) n w)) 21 tt λ e.
+      checked (idLeft s) 12 tt λ e.
+      accepts refl
+  decide-gives (dropPlan i) =
+      with-plan (find i (s .book .rows)) tt λ b n w fs e.
+      accepts refl
 
   pub step-gives : (r : Request) → isRefused (step z s r .1) ≡ false → hasId (step z s r .1) ≡ givesId r
   unfolding step
@@ -269,6 +278,7 @@ number-0 (closed none) d e = refl
 number-0 (closed (some x)) d e = refl
 number-0 (taken none) d e = refl
 number-0 (taken (some p)) d e = refl
+number-0 (planned i n m) d e = refl
 
 -- an answer is a refusal, or it is none
 pub refused-or {ℓ} : {C : Type ℓ} (a : Answer) → ((n : ℕ) → a ≡ refused n → C) → (isRefused a ≡ false → C) → C
@@ -283,12 +293,19 @@ refused-or (scanned p) y f = f refl
 refused-or (removed x c) y f = f refl
 refused-or (closed x) y f = f refl
 refused-or (taken p) y f = f refl
+refused-or (planned i n m) y f = f refl
 
-pub in-range : (n : ℕ) → numbered n ≡ true → (1 ≤ n) × (n ≤ 18)
-in-range n e = let b = both (atMost 1 n) (atMost n 18) e in (ltb-false n 1 (not-true (ltb n 1) (b .0)), ltb-false 18 n (not-true (ltb 18 n) (b .1)))
+-- the numbers that a request answers: 0 to 18, and 21 (document 02, 1)
+abbrev pub isNumber : ℕ → Bool
+isNumber n = atMost n 18 || eqb n 21
 
--- a step's refusal has a number from 1 to 18
-pub step-numbered : (z : Sizes) (s : State) (r : Request) (n : ℕ) → step z s r .1 ≡ refused n → (1 ≤ n) × (n ≤ 18)
+pub in-range : (n : ℕ) → numbered n ≡ true → (1 ≤ n) × (isNumber n ≡ true)
+in-range n e = bool (between 1 n 18)
+    (λ q. let b = both (atMost 1 n) (atMost n 18) q in (ltb-false n 1 (not-true (ltb n 1) (b .0)), rw (b .1)))
+    (λ q. let d : eqb n 21 ≡ true = rw q at e in let y : n ≡ 21 = eqb-true n 21 d in rw y (omega arith, refl))
+
+-- a step's refusal has a number from 1 to 18, or 21
+pub step-numbered : (z : Sizes) (s : State) (r : Request) (n : ℕ) → step z s r .1 ≡ refused n → (1 ≤ n) × (isNumber n ≡ true)
 step-numbered z s r n e = in-range n (refused-keeps z s r n e .number)
 
 -- so a step whose word 0 is 0 is accepted

@@ -1,6 +1,6 @@
 -- That the promises say something: each is put to use on the shop's words, every field of its conclusion. Assumes nothing.
 use mathlib.Core.Path.{_≡_, refl, sym, ap, subst, _∙_}
-use mathlib.Core.Bool.{Bool, true, false}
+use mathlib.Core.Bool.{Bool, true, false, not, _||_}
 use mathlib.Core.List.{List, [], _∷_, _++_, map}
 use mathlib.Core.Option.{Option, none, some}
 use Prim.Native.Nat.{ℕ, zero, suc, _+_, _*_, _≤_, _<_}
@@ -8,7 +8,7 @@ use native.Mathlib.Omega.{arith}
 use native.Mathlib.Nat.{zero-add, suc-add}
 use lib.ListN.{length, getD, take, drop, replicate}
 use lib.Seq.{take-nil, getD-take}
-use lib.Dec.{eqb}
+use lib.Dec.{eqb, ltb}
 use borrow.Author.Tests.{ne-eqb, eqb-true}
 use Rattle.words.specs.Pick.{clash}
 use Rattle.format.specs.Format.{answerWords}
@@ -22,7 +22,7 @@ use Rattle.invariant.specs.Pages.{till-sane}
 use Rattle.invariant.specs.Kept.{kept}
 use Rattle.model.specs.Refusals.{spends}
 use Rattle.model.specs.Words.{readList, usedWords, padded, wordsOf, allWords}
-use Rattle.model.specs.Cases.{sameList-equal}
+use Rattle.model.specs.Tests.{sameList-equal}
 use Rattle.layout.specs.declared.Shape.{Shape}
 use Rattle.layout.specs.Layout.{head, load, load-root}
 use Rattle.layout.specs.Fields.{rootNextId, headFirstFree}
@@ -42,6 +42,7 @@ use Rattle.promises.specs.Demand2.{demand-2, demand-2-lists, demand-2-ca
 use Rattle.promises.specs.Demand3.{TwoRuns, Same, demand-3}
 use Rattle.promises.specs.Transfers.{SameOrders, transfer-keeps-orders, consumption-keeps-orders, rollback-keeps-orders, transfer-is-closing, consumption-is-closing}
 use Rattle.promises.specs.Batches.{lacking, NewPages, pages-of-64}
+use Rattle.promises.specs.ShopRuns.{heldLeaves, runsOf}
 use Rattle.promises.specs.Shop.{ran, readBy, parameters, sh, new, shape-new, asked, openingWords, opening, reads-opening, shop, Begun, rep-new, rep-shop, v63, v62, v61, prepareWords, items, transfer, reads-prepare, listWords, plainWords, wrong, list, reads-list, refusedWords, reads-refused, heldAnswers, plainAnswers, held-answers}
 
 -- word 5 of a state's words is the next id
@@ -72,9 +73,9 @@ unchanged ws l os x m n e = let k = demand-1 ws l os x m .kept (λ z. omega (ari
 no-state : (l os : List ℕ) (x : Called) → Meets [] l os x → (x .result ≡ 18) × (x .state ≡ []) × (x .answers ≡ os)
 no-state l os x m = unchanged [] l os x m 17 (demand-1 [] l os x m .misuse .1 (λ k u r. omega (arith, r .reps .shaped .room)))
 
--- whatever state and request: a number from 0 to 18
+-- whatever state and request: a number from 0 to 18, or 21
 one-number : (ws l os : List ℕ) (x : Called) → Meets ws l os x → (k : Shape) (s : State) → Rep ws k s → (r : Request) → readList l ≡ some (r ∷ []) → 72 ≤ length os
-    → (getD (take 72 (x .answers)) 0 0 ≤ 18) × ((getD (take 72 (x .answers)) 0 0 ≡ 0 → ⊥) → drop 1 (take 72 (x .answers)) ≡ replicate 71 0)
+    → ((not (ltb 18 (getD (take 72 (x .answers)) 0 0)) || eqb (getD (take 72 (x .answers)) 0 0) 21) ≡ true) × ((getD (take 72 (x .answers)) 0 0 ≡ 0 → ⊥) → drop 1 (take 72 (x .answers)) ≡ replicate 71 0)
 one-number ws l os x m k s i r e h = let y = demand-1 ws l os x m .refused k s i (r ∷ []) e (omega arith) .2 in (y .number, y .zeros)
 
 -- the shop's new words
@@ -173,54 +174,21 @@ module _ (ws us : List ℕ) (wb : Begun ws) (ub : Begun us) (hs ps : List Call) 
   -- what run H leaves, by the steps
   module _ (e : Ending) (r : Request) (er : readList (endH e 6) ≡ some (r ∷ [])) (lh : listOf hs ≡ prepareWords ++ (listWords ++ endH e 6)) (lp : listOf ps ≡ plainWords ++ endP e 0 (v61 ∷ v63 ∷ [])) where
     left-by : Together ws sh shop hs (transfer ∷ list ++ (r ∷ []))
-    left-by = demand-2-calls sh ws shop hs (transfer ∷ list ++ (r ∷ [])) (rep-shop ws wb) kh
-        (ap readList lh ∙ demand-2-lists prepareWords (listWords ++ endH e 6) (transfer ∷ []) (list ++ (r ∷ [])) reads-prepare (demand-2-lists listWords (endH e 6) list (r ∷ []) reads-list er))
+    left-by = heldLeaves ws wb hs kh listWords list reads-list e r er lh
 
     given : take 504 (answersOf hs) ≡ padded 72 (0 ∷ 6 ∷ []) ++ heldAnswers
     given = list-then till shop (transfer ∷ list) (r ∷ []) (answersOf hs) (left-by .answers) .0 ∙ held-answers
 
     runs : TwoRuns
     unfolding ran
-    runs = record {
-      sh = sh;
-      ws = ws;
-      us = us;
-      s = shop;
-      u = shop;
-      startH = rep-shop ws wb;
-      startP = rep-shop us ub;
-      equal = refl;
-      table = 0;
-      route = buffered;
-      bannedObject = none;
-      bannedKind = none;
-      items = items;
-      moves = refl;
-      transfer = prepareWords;
-      transfers = reads-prepare;
-      list = listWords;
-      requests = list;
-      reads = reads-list;
-      ending = e;
-      t = 6;
-      hs = hs;
-      callsH = kh;
-      listH = lh;
-      accepted = sym (getD-take 504 (answersOf hs) 0 0 (omega arith)) ∙ ap (λ (l : List ℕ). getD l 0 0) given;
-      id = sym (getD-take 504 (answersOf hs) 1 0 (omega arith)) ∙ ap (λ (l : List ℕ). getD l 1 0) given;
-      ps = ps;
-      callsP = kp;
-      listP = lp;
-      permits = refl;
-      wants = refl;
-    }
+    runs = runsOf ws us wb ub hs ps kh kp listWords list reads-list e r er lh lp refl refl
 
     same : Same runs
     same = demand-3 runs
 
     -- every call passes and the end is accepted; P's answers have the ids 6, 7 and 9, where H's have 7, 8 and 10
     answers-agree : Passed hs × Passed ps × (drop 504 (answersOf hs) ≡ padded 72 []) × (take 432 (drop 72 (answersOf hs)) ≡ heldAnswers) × (take 432 (answersOf ps) ≡ plainAnswers)
-    unfolding runs lowered wordsOf usedWords
+    unfolding runs runsOf lowered wordsOf usedWords
     answers-agree =
         let list-H : take 432 (drop 72 (answersOf hs)) ≡ heldAnswers = take-drop-swap 72 432 (answersOf hs) ∙ ap (drop 72) given in
         (same .passed .0, same .passed .1, same .ended, list-H, same .answers ∙ ap (lowerAnswers 6 list) list-H)
@@ -232,13 +200,13 @@ module _ (ws us : List ℕ) (wb : Begun ws) (ub : Begun us) (hs ps : List Call) 
 
     -- the state that H's words represent is the steps'
     same-state : same .stateH ≡ run till shop (transfer ∷ list ++ (r ∷ [])) .0
-    unfolding runs
+    unfolding runs runsOf
     same-state = rep-unique (left ws hs) sh sh (same .stateH) (run till shop (transfer ∷ list ++ (r ∷ [])) .0) (same .held) (left-by .state) .1
 
   -- rolled back: the next id is 11 in H and 10 in P, and slot 62 of table 1 is reserved by 10 in H and by 9 in P
   roll-back : listOf hs ≡ prepareWords ++ (listWords ++ rollbackWords 6) → listOf ps ≡ plainWords ++ []
       → (getD (left ws hs) 5 0 ≡ 11) × (getD (left us ps) 5 0 ≡ 10) × (slotIn (load (left ws hs) sh) 1 62 ≡ reserved 1 10) × (slotIn (load (left us ps) sh) 1 62 ≡ reserved 1 9)
-  unfolding runs ran
+  unfolding runs runsOf ran
   roll-back lh lp =
       let d : Same (runs rolledBack (rollback 6) (reads-rollback 6) lh lp) = same rolledBack (rollback 6) (reads-rollback 6) lh lp in
       let s : State = run till shop (transfer ∷ list ++ (rollback 6 ∷ [])) .0 in
@@ -254,7 +222,7 @@ module _ (ws us : List ℕ) (wb : Begun ws) (ub : Begun us) (hs ps : List Call) 
       × (load (left ws hs) sh (head 0 headFirstFree) ≡ 64) × (load (left us ps) sh (head 0 headFirstFree) ≡ 64)
       × (slotIn (load (left ws hs) sh) 1 62 ≡ reserved 1 10) × (slotIn (load (left us ps) sh) 1 62 ≡ reserved 1 9)
       × (getD (left ws hs) 5 0 ≡ 11) × (getD (left us ps) 5 0 ≡ 10)
-  unfolding runs ran
+  unfolding runs runsOf ran
   commit-and-close lh lp =
       let d : Same (runs committed (commit 6) (reads-commit 6) lh lp) = same committed (commit 6) (reads-commit 6) lh lp in
       let s : State = run till shop (transfer ∷ list ++ (commit 6 ∷ [])) .0 in

@@ -10,17 +10,17 @@ use native.Mathlib.Nat.{le-div-iff-mul-le}
 use lib.ListN.{length, length-drop}
 use lib.Dec.{ltb}
 use borrow.Author.Tests.{ltb-true, ltb-false}
-use Rattle.model.specs.Base.{bit, occurs, atMost}
-use Rattle.model.specs.State.{Sizes, Table, State, maxSlots, maxBatch, isActive, noTable}
+use Rattle.model.specs.Base.{bit, occurs}
+use Rattle.model.specs.State.{Sizes, Table, State, maxSlots, maxBatch, noTable}
 use Rattle.model.specs.Storage.{slotsOf, pagesFor}
 use Rattle.model.specs.Create.{maxPages}
 use Rattle.model.specs.Request.{Request.reserve}
-use Rattle.model.specs.Book.{freeRow, idLeft}
 use Rattle.model.specs.Step.{reserveOf, decide, step}
 use Rattle.model.specs.WellFormed.{WellFormed, isAttached}
 use Rattle.model.specs.Tests.{bool, at-most}
-use Rattle.model.specs.Decided.{Any, accepts, checked, with-some, carried}
+use Rattle.model.specs.Decided.{Any, accepts, with-room, carried}
 use Rattle.invariant.specs.Pages.{Sane}
+use Rattle.invariant.specs.Snapshots.{snapshot-pages}
 use Rattle.promises.specs.BatchesLemmas.{table-bound, Takes, wide-takes, scattered, scattered-well-formed}
 
 -- "Page 262,143 has 63 slots": the slots that the last page of the largest table lacks
@@ -58,15 +58,8 @@ module _ (z : Sizes) (sane : Sane z) where
   reserve-takes s w b n = let t : Table = s .tables b in
       carried {N = Any} {R = Any} {A = λ u a. length (s .frames) ≤ length (u .frames) + mostPages z}
       (λ u. length (s .frames) ≤ length (u .frames) + mostPages z) z s _ (omega arith) (λ m r. omega arith) (λ u a r. r) (
-      checked (ltb b (s .tableCount)) _ tt λ e.
-      checked (isActive (t .life)) _ tt λ e.
-      checked (ltb 0 n) _ tt λ e.
-      checked (atMost n maxBatch) _ tt λ h.
-      with-some (pagesFor z t n) _ tt λ ps q.
-      checked (atMost (length ps) (length (s .frames))) _ tt λ e.
-      checked (freeRow s) _ tt λ e.
-      checked (idLeft s) _ tt λ e.
-      accepts (omega (arith, length-drop (length ps) (s .frames), new-pages s w b n (at-most n maxBatch h) ps q)))
+      with-room z s b n tt tt tt tt tt tt tt λ r o.
+      accepts (omega (arith, length-drop (length (r .pages)) (s .frames), new-pages s w b n (at-most n maxBatch (o .few)) (r .pages) (snapshot-pages z t n r (o .snapshot) .0))))
 
 -- m is the most, and no lower number is
 pub record MostPages (z : Sizes) (m : ℕ) : Type 0 where

@@ -31,7 +31,7 @@ pub record Ends (ws list os : List ℕ) (x : Called) : Type 0 where
   pub short : (sh : Shape) (s : State) → Rep ws sh s → (x .result ≡ 20) ↔ ((rs : List Request) × (readList list ≡ some rs) × (length os < answerWords * length rs))
   -- "these are the whole call's result and no lent word changes, while a call that passes them gives 0"
   pub kept : (x .result ≡ 0 → ⊥) → (x .state ≡ ws) × (x .answers ≡ os)
-  -- "Then every request runs": of each, in turn, the number is 0 to 18; after a refusal the other 71 words are 0, and the state's words are as they were, or the one id is
+  -- "Then every request runs": of each, in turn, the number is 0 to 18, or 21; after a refusal the other 71 words are 0, and the state's words are as they were, or the one id is
   -- spent (`Keeps` in Terms.antt)
   pub refused : (sh : Shape) (s : State) → Rep ws sh s → (rs : List Request) → readList list ≡ some rs → answerWords * length rs ≤ length os → Each sh ws s rs (x .answers) (x .state)
 

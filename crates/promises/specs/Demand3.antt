@@ -21,10 +21,11 @@ use Rattle.invariant.specs.Pages.{till-sane}
 use Rattle.noninterference.specs.Names.{valueOf}
 use Rattle.noninterference.specs.Runs.{isMove, permitted, wanting, accepted, lowered, lowerRequest, lowerTable, lowerState}
 use Rattle.noninterference.specs.Theorem.{held-and-plain}
+use Rattle.noninterference.specs.Plans.{PlansStand, held-and-plain-plans}
 use Rattle.promises.specs.Lower.{lowerWords, lowerAnswers, Ending, Ending.rolledBack, Ending.committed, endH, endP, lastH, lastP, reads-lowered, reads-both, reads-lastH, reads-lastP}
 use Rattle.promises.specs.Terms.{Call, Calls, left, listOf, answersOf, Passed}
 use Rattle.promises.specs.Calls.{run-both, together}
-use Rattle.promises.specs.Held.{held-words, plain-words, lowered-answers, closed-words, ends, as-many}
+use Rattle.promises.specs.Held.{held-words, plain-words, lowered-answers, closed-words, ends, as-many, plans-end}
 
 pub record TwoRuns : Type 0 where
   -- "Two runs start from any two equal, well formed states": H's words ws represent s, P's words us represent u
@@ -86,6 +87,9 @@ pub record Same (x : TwoRuns) : Type 0 where
   pub tables : (c : ℕ) → stateP .tables c ≡ lowerTable (x .t) (stateH .tables c)
   -- "the next id included": one lower in P after either end
   pub next : stateP .book .next ≡ lowered (x .t) (stateH .book .next)
+  -- document 02, 1: "A shopkeeper's held transfer must not make any plan stale": the plans are the same, ids above t one lower, and what is stale in H is stale in P,
+  -- and nothing else
+  pub plans : PlansStand till (lowered (x .t)) stateH stateP
 
 pub demand-3 : (x : TwoRuns) → Same x
 demand-3 x =
@@ -106,6 +110,8 @@ demand-3 x =
     let g = held-and-plain till till-sane (x .s) (x .u) (x .startH .wellFormed) (x .equal) (x .table) (x .route) (x .bannedObject) (x .bannedKind) (x .items) (x .moves) (x .t) (h .opened)
     (x .requests) (x .permits) (x .wants) in
     let e = ends (x .ending) (x .t) (x .table) values (run till first (x .requests)) (run till (x .u) plain) g in
+    let stale = held-and-plain-plans till till-sane (x .s) (x .u) (x .startH .wellFormed) (x .equal) (x .table) (x .route) (x .bannedObject) (x .bannedKind) (x .items) (x .moves) (x .t) (h .opened)
+    (x .requests) (x .permits) (x .wants) in
     record {
       passed = (ht .passed, pt .passed);
       ended = h .last ∙ ap wordsOf (e .done-H);
@@ -119,4 +125,5 @@ demand-3 x =
       whole = e .whole;
       tables = e .tables;
       next = e .next;
+      plans = plans-end (x .ending) (x .t) (x .table) values (run till first (x .requests) .0) (run till (x .u) plain .0) stale;
     }

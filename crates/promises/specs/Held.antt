@@ -12,7 +12,7 @@ use Rattle.format.specs.Format.{answerWords}
 use Rattle.model.specs.Base.{every}
 use Rattle.model.specs.State.{Sizes, till, State}
 use Rattle.model.specs.Request.{Route, Item, Request, Request.close, Request.prepareTransfer, Request.rollback, Request.commit}
-use Rattle.model.specs.Request.{Answer, Answer.refused, Answer.done, Answer.opened, Answer.batch, Answer.infoOf, Answer.resolved, Answer.renewed, Answer.scanned, Answer.removed, Answer.closed, Answer.taken}
+use Rattle.model.specs.Request.{Answer, Answer.refused, Answer.done, Answer.opened, Answer.batch, Answer.infoOf, Answer.resolved, Answer.renewed, Answer.scanned, Answer.removed, Answer.closed, Answer.taken, Answer.planned}
 use Rattle.model.specs.Refusals.{isRefused}
 use Rattle.model.specs.Book.{find, spendId}
 use Rattle.model.specs.Step.{closeOf, rollbackOf, commitOf, decide, step, run}
@@ -22,6 +22,7 @@ use Rattle.model.specs.Lists.{words-length, run-length}
 use Rattle.noninterference.specs.Names.{valueOf}
 use Rattle.noninterference.specs.Runs.{accepted, lowered, lowerRequest, lowerAnswer, lowerTable, lowerState}
 use Rattle.noninterference.specs.Theorem.{Agree}
+use Rattle.noninterference.specs.Plans.{PlansStand, PlansAgree}
 use Rattle.promises.specs.Answers.{number-0, zero-accepts, prepare-answers}
 use Rattle.promises.specs.Lower.{Ending, Ending.rolledBack, Ending.committed, lastH, lastP, lowerAnswers, answers-lowered}
 use Rattle.promises.specs.Calls.{run-both, all-words-both, run-words}
@@ -97,6 +98,7 @@ not-refused (scanned p) e = refl
 not-refused (removed x c) e = refl
 not-refused (closed x) e = refl
 not-refused (taken p) e = refl
+not-refused (planned i n m) e = refl
 
 -- word 0 of every answer is 0, and there is one for each
 pub closed-words : (l : List Answer) → every accepted l ≡ true → (i d : ℕ) → i < length l → getD (allWords l) (answerWords * i) d ≡ 0
@@ -158,3 +160,11 @@ pub as-many : (e : Ending) (b : ℕ) (items : List Item) (s : State) → e ≡ c
 as-many e b items s q =
     run-length till s (lastP e b (map valueOf items)) ∙ ap (λ (x : Ending). length (lastP x b (map valueOf items))) q
     ∙ length-map (map valueOf items) (close b) ∙ length-map items valueOf
+
+-- ---- plans
+
+-- of the two runs, after either end
+pub plans-end : (e : Ending) (t b : ℕ) (values : List ℕ) (h p : State) → PlansAgree till t b values h p
+    → PlansStand till (lowered t) (step till h (lastH e t) .0) (run till p (lastP e b values) .0)
+plans-end rolledBack t b values h p a = a .rolledBack
+plans-end committed t b values h p a = a .committed

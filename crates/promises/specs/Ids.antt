@@ -15,7 +15,7 @@ use Rattle.format.specs.Fields.{opField, tableField, objectField, countField, v
 use Rattle.format.specs.Format.{musts, mays, transferItemMust, transferItemMay, parcelItemMust, parcelItemMay, fieldKinds, fieldFits, fieldCount}
 use Rattle.model.specs.Base.{pick, nth, orElse}
 use Rattle.model.specs.Request.{Item}
-use Rattle.model.specs.Request.{Request, Request.newObject, Request.duplicate, Request.releaseParcel, Request.retireObject, Request.reserve, Request.trim, Request.abort, Request.publish, Request.getInfo, Request.resolve, Request.replace, Request.close, Request.scanHandles, Request.prepareTransfer, Request.prepareConsumption, Request.rollback, Request.commit, Request.directCommit, Request.directRollback, Request.removeStoppingOwner, Request.teardownStart, Request.teardownStep, Request.teardownFinish, Request.takeEmptyPage}
+use Rattle.model.specs.Request.{Request, Request.newObject, Request.duplicate, Request.releaseParcel, Request.retireObject, Request.reserve, Request.trim, Request.abort, Request.publish, Request.getInfo, Request.resolve, Request.replace, Request.close, Request.scanHandles, Request.prepareTransfer, Request.prepareConsumption, Request.rollback, Request.commit, Request.directCommit, Request.directRollback, Request.removeStoppingOwner, Request.teardownStart, Request.teardownStep, Request.teardownFinish, Request.takeEmptyPage, Request.makePlan, Request.usePlan, Request.dropPlan}
 use Rattle.model.specs.Words.{Reading, andThen, Fields, odd, readField, readFields, fitAll, may, must, goodRecord, readRecord, readMany, operationOf, readTransferItem, readParcelItem, plainRequests, plainRequest, withItems, readRequest, readUpTo, readList}
 use Rattle.model.specs.Lists.{Front, request-in-front, reading-ends}
 use Rattle.noninterference.specs.Names.{requestBy}
@@ -263,6 +263,9 @@ module _ (f : ℕ → ℕ) (z : f 0 ≡ 0) (ys : List ℕ) where
   items-go fs (teardownStep c) ws q rest e = ap with-go e
   items-go fs (teardownFinish c) ws q rest e = ap with-go e
   items-go fs (takeEmptyPage c) ws q rest e = ap with-go e
+  items-go fs (makePlan c n) ws q rest e = ap with-go e
+  items-go fs (usePlan i) ws q rest e = ap with-go e
+  items-go fs (dropPlan i) ws q rest e = ap with-go e
 
   -- what the table of ops makes of the changed fields
   abbrev Makes : (Fields → Request) → Type 0
@@ -298,6 +301,9 @@ module _ (f : ℕ → ℕ) (z : f 0 ≡ 0) (ys : List ℕ) where
       & (λ fs. rw (must-same f fs tableField refl))
       & (λ fs. rw (must-same f fs tableField refl))
       & (λ fs. rw (must-same f fs tableField refl))
+      & (λ fs. rw (must-same f fs tableField refl, must-same f fs countField refl))
+      & (λ fs. rw (must-by f z fs idField refl))
+      & (λ fs. rw (must-by f z fs idField refl))
       & tt
 
   made : (xs : List (Fields → Request)) (k : ℕ) (x : Fields → Request) → AllMake xs → nth xs k ≡ some x → Makes x

@@ -8,8 +8,12 @@ pub mod Held
 pub mod Demand1
 pub mod Demand2
 pub mod Demand3
+pub mod PlansLemmas
+pub mod Plans
 pub mod Shop
+pub mod ShopRuns
 pub mod Applied
+pub mod PlansApplied
 pub mod BatchesLemmas
 pub mod Batches
 pub mod TransfersLemmas

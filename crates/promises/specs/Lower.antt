@@ -16,7 +16,7 @@ use Rattle.format.specs.Format.{musts, mays, fieldKinds, fieldFits, knownOp, fi
 use Rattle.format.specs.Ops.{opLast}
 use Rattle.model.specs.Base.{pick, orElse, every, range}
 use Rattle.model.specs.State.{Sizes, State}
-use Rattle.model.specs.Request.{Answer, Answer.refused, Answer.done, Answer.opened, Answer.batch, Answer.infoOf, Answer.resolved, Answer.renewed, Answer.scanned, Answer.removed, Answer.closed, Answer.taken}
+use Rattle.model.specs.Request.{Answer, Answer.refused, Answer.done, Answer.opened, Answer.batch, Answer.infoOf, Answer.resolved, Answer.renewed, Answer.scanned, Answer.removed, Answer.closed, Answer.taken, Answer.planned}
 use Rattle.model.specs.Request.{Request, Request.newObject, Request.duplicate, Request.releaseParcel, Request.retireObject, Request.reserve, Request.trim, Request.abort, Request.publish, Request.getInfo, Request.resolve, Request.replace, Request.close, Request.scanHandles, Request.prepareTransfer, Request.prepareConsumption, Request.rollback, Request.commit, Request.directCommit, Request.directRollback, Request.removeStoppingOwner, Request.teardownStart, Request.teardownStep, Request.teardownFinish, Request.takeEmptyPage}
 use Rattle.noninterference.specs.Names.{namesOf, requestBy}
 use Rattle.model.specs.Refusals.{isRefused}
@@ -139,7 +139,7 @@ reads-lastP committed b vs = reads-closings b vs
 
 -- ---- answers
 
--- THE 72 WORDS of a request's answer with ids above t one lower: word 1 of ops 1, 2, 5, 14 and 15, if word 0 is 0
+-- THE 72 WORDS of a request's answer with ids above t one lower: word 1 of ops 1, 2, 5, 14, 15, 25 and 26, if word 0 is 0
 abbrev pub lowerAnswerOf : ℕ → Request → List ℕ → List ℕ
 lowerAnswerOf t r a = pick (eqb (getD a 0 0) 0 && givesId r) (set a 1 (lowered t (getD a 1 0))) a
 
@@ -157,7 +157,7 @@ every-in p k (suc n) i e h l =
 
 op-made : (list : List ℕ) (op : ℕ) → 1 ≤ op → op ≤ opLast → opOf (requestOf op list 0) ≡ op
 unfolding requestOf
-op-made list op h l = eqb-true (opOf (requestOf op list 0)) op (every-in (λ k. eqb (opOf (requestOf k list 0)) k) 1 24 op refl h (omega arith))
+op-made list op h l = eqb-true (opOf (requestOf op list 0)) op (every-in (λ k. eqb (opOf (requestOf k list 0)) k) 1 opLast op refl h (omega arith))
 
 pub op-word : (m op : ℕ) (ws : List ℕ) (r : Request) (rs : List Request) → readList (m ∷ op ∷ ws) ≡ some (r ∷ rs) → opOf r ≡ op
 unfolding goodMap fieldsAt fieldsFrom
@@ -183,6 +183,7 @@ id-lowered t (scanned p) b r e = rw (← e)
 id-lowered t (removed x c) b r e = rw (← e)
 id-lowered t (closed x) b r e = rw (← e)
 id-lowered t (taken p) b r e = rw (← e)
+id-lowered t (planned i n m) b r e = rw (← e)
 
 -- they are the words of the answer with its id lowered
 pub answer-lowered : (t : ℕ) (z : Sizes) (s : State) (r : Request) → lowerAnswerOf t r (wordsOf (step z s r .1)) ≡ wordsOf (lowerAnswer t (step z s r .1))

@@ -26,7 +26,7 @@ use Rattle.answer.specs.Does.{idSpent}
 use Rattle.create.specs.Meets.{Asked, Meets as Creates}
 use Rattle.contract.specs.Meets.{Called, Passes, Meets}
 use Rattle.promises.specs.Terms.{Keeps, Each}
-use Rattle.promises.specs.Answers.{refused-words, number-0, in-range}
+use Rattle.promises.specs.Answers.{refused-words, number-0, isNumber, in-range}
 use Rattle.promises.specs.Calls.{went, not-short}
 
 -- ---- a request in a list
@@ -58,7 +58,7 @@ keeps s r ws us k p = go (decide till s r) refl (decide-fits till s r)
     go (accept u a) q f =
         let z : getD (wordsOf a) 0 0 ≡ 0 = number-0 a 0 (f .leaves) in
         record {
-          number = omega (arith, z);
+          number = ap isNumber z;
           zeros = λ h. absurd (h z);
           kept = λ h e. absurd (h z);
           spent = λ e. clash (both (isTransfer r) (judged 0) (ap (λ (n : ℕ). spends r n) (sym z) ∙ e) .1) refl;

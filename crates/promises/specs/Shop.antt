@@ -14,9 +14,9 @@ use Rattle.model.specs.Create.{created, permitted}
 use Rattle.model.specs.Request.{Route.buffered, Operation.asMove, Item, Answer}
 use Rattle.model.specs.Request.{Request, Request.newObject, Request.duplicate, Request.reserve, Request.publish, Request.prepareTransfer}
 use Rattle.model.specs.Step.{newObjectOf, duplicateOf, releaseParcelOf, retireObjectOf, reserveOf, trimOf, abortOf, publishOf, getInfoOf, closeOf, replaceOf, resolveOf, scanHandlesOf, prepareTransferOf}
-use Rattle.model.specs.Step.{prepareConsumptionOf, rollbackOf, commitOf, directCommitOf, directRollbackOf, removeStoppingOwnerOf, teardownStartOf, teardownStepOf, teardownFinishOf, takeEmptyPageOf, decide, step, run}
+use Rattle.model.specs.Step.{prepareConsumptionOf, rollbackOf, commitOf, directCommitOf, directRollbackOf, removeStoppingOwnerOf, teardownStartOf, teardownStepOf, teardownFinishOf, takeEmptyPageOf, decide, step, run, makePlanOf, usePlanOf, dropPlanOf}
 use Rattle.model.specs.Words.{readRequest, readList, usedWords, padded, wordsOf, allWords}
-use Rattle.model.specs.Cases.{sameList-equal}
+use Rattle.model.specs.Tests.{sameList-equal}
 use Rattle.noninterference.specs.Runs.{wantsRow, wantsId, lowered}
 use Rattle.layout.specs.declared.Shape.{Shape}
 use Rattle.representation.specs.Represents.{Rep}
@@ -34,7 +34,7 @@ unfoldable pub ran : State → List Request → State × List Answer
 unfolding contains encode payload maskOf payloadIn numberIn slotIn generationIn decodes nextGeneration maxBatch maxSlots knownFlags lastId place vacate takeFree
     pagesFor attach detach created parametersOf tablesIn objectsIn newObjectOf duplicateOf releaseParcelOf retireObjectOf reserveOf trimOf abortOf publishOf getInfoOf closeOf replaceOf resolveOf
     scanHandlesOf prepareTransferOf prepareConsumptionOf rollbackOf commitOf directCommitOf directRollbackOf removeStoppingOwnerOf teardownStartOf teardownStepOf
-    teardownFinishOf takeEmptyPageOf decide step usedWords wordsOf Rattle.noninterference.specs.Runs.permitted wantsRow wantsId lowered
+    teardownFinishOf takeEmptyPageOf makePlanOf usePlanOf dropPlanOf decide step usedWords wordsOf Rattle.noninterference.specs.Runs.permitted wantsRow wantsId lowered
 ran s rs = run till s rs
 
 -- a list read

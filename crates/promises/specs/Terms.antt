@@ -16,6 +16,7 @@ use Rattle.layout.specs.declared.Shape.{Shape}
 use Rattle.representation.specs.Represents.{Rep}
 use Rattle.answer.specs.Does.{idSpent}
 use Rattle.contract.specs.Meets.{Called, Meets}
+use Rattle.promises.specs.Answers.{isNumber}
 
 -- ---- calls
 
@@ -73,7 +74,7 @@ pub record Together (ws : List ℕ) (sh : Shape) (s : State) (cs : List Call) (r
 -- a request whose 72 answer words are a: the state's words were ws and are us. "a refused request carries a number from document 01 and changes nothing, save the one
 -- reservation id spent by a transfer preparation refused after its id step": `spends`
 pub record Keeps (r : Request) (a ws us : List ℕ) : Type 0 where
-  pub number : getD a 0 0 ≤ 18
+  pub number : isNumber (getD a 0 0) ≡ true
   pub zeros : (getD a 0 0 ≡ 0 → ⊥) → drop 1 a ≡ replicate 71 0
   pub kept : (getD a 0 0 ≡ 0 → ⊥) → spends r (getD a 0 0) ≡ false → us ≡ ws
   pub spent : spends r (getD a 0 0) ≡ true → us ≡ idSpent ws

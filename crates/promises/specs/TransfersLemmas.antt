@@ -243,7 +243,7 @@ module _ (z : Sizes) (s : State) (w : WellFormed z s) where
     claimed = owns (s .tables) (s .book .rows) (both-marks s (w .marks)) false i b (movedOf es) (claim b es) (keys-claim b es) row
 
     pub claim-in : b < s .tableCount
-    claim-in = found-range s (w .ranges .rows) i (claim b es) row .0
+    claim-in = found-range s w i (claim b es) row .0
 
     pub claim-active : isActive (s .tables b .life) ≡ true
     claim-active = bool (isActive (s .tables b .life)) (λ e. e) (λ e. clash (claim-open i b es (s .book .rows) row) (w .lifecycles .closing b e))
