@@ -1,7 +1,7 @@
 /* Any words: random, damaged and truncated states, lists and answer lengths through the C calls. What is known of any call is checked:
  *   - it ends with 0, 18, 19 or 20, and where it is not 0 no word has changed;
  *   - after 0 the state is well formed, its sizes and the words past its end are as they were, and so are the words after the last answer;
- *   - each answer's number is one that document 01's orders give to its request, and after a refusal the other 71 words are 0;
+ *   - each answer's number is one that document 01's orders, or document 02, give to its request, and after a refusal the other 71 words are 0;
  *   - requests that are refused, or only look, change no word of the state, save the next id, one higher for a refused transfer.
  * The words lent stand at the end of a mapping, before a page that can't be touched: a read or write past them ends the program. A request
  * that was never accepted or never refused, or a number that was not seen, is a failure too.
@@ -49,7 +49,7 @@ static struct lent lend(size_t most) {
     return words;
 }
 
-enum { TABLES = 2, PAGES = 3, FRAMES = 5, OBJECTS = 6, ROWS = 10, LIST = 1200, ANSWERS = 72 * 40, OPS = 25 };
+enum { TABLES = 2, PAGES = 3, FRAMES = 5, OBJECTS = 6, ROWS = 10, LIST = 1200, ANSWERS = 72 * 40, OPS = GURTXOZAL_OP_DROP_PLAN + 1, NUMBERS = GURTXOZAL_STALE_PLAN + 1 };
 /* where the state's regions stand (docs/formats.md); so few frames take one word in each of the three counts */
 enum {
     NEXT_ID = 5,
@@ -62,19 +62,20 @@ enum {
     GOOD = BOOK + 390 * ROWS,
     RESERVATION = 1,
     CLAIM = 2,
-    PARCEL = 3
+    PARCEL = 3,
+    PLAN = 4
 };
 static struct lent state, list, answers;
-static uint64_t results[21], numbers[19], accepted[OPS], refused[OPS], long_transfers, calls_that_kept;
+static uint64_t results[21], numbers[NUMBERS], accepted[OPS], refused[OPS], long_transfers, calls_that_kept;
 static uint64_t good_state[GOOD];
 
 static const uint64_t must[OPS] = {
     0, GURTXOZAL_MUST_NEW_OBJECT, GURTXOZAL_MUST_DUPLICATE, GURTXOZAL_MUST_RELEASE_PARCEL, GURTXOZAL_MUST_RETIRE_OBJECT, GURTXOZAL_MUST_RESERVE, GURTXOZAL_MUST_TRIM, GURTXOZAL_MUST_ABORT, GURTXOZAL_MUST_PUBLISH,
     GURTXOZAL_MUST_GET_INFO, GURTXOZAL_MUST_RESOLVE, GURTXOZAL_MUST_REPLACE, GURTXOZAL_MUST_CLOSE, GURTXOZAL_MUST_SCAN_HANDLES, GURTXOZAL_MUST_PREPARE_TRANSFER, GURTXOZAL_MUST_PREPARE_CONSUMPTION, GURTXOZAL_MUST_ROLLBACK,
     GURTXOZAL_MUST_COMMIT, GURTXOZAL_MUST_DIRECT_COMMIT, GURTXOZAL_MUST_DIRECT_ROLLBACK, GURTXOZAL_MUST_REMOVE_STOPPING_OWNER, GURTXOZAL_MUST_TEARDOWN_START, GURTXOZAL_MUST_TEARDOWN_STEP, GURTXOZAL_MUST_TEARDOWN_FINISH,
-    GURTXOZAL_MUST_TAKE_EMPTY_PAGE};
+    GURTXOZAL_MUST_TAKE_EMPTY_PAGE, GURTXOZAL_MUST_MAKE_PLAN, GURTXOZAL_MUST_USE_PLAN, GURTXOZAL_MUST_DROP_PLAN};
 
-/* The numbers that each request can answer, by document 01's "Orders", as bits. */
+/* The numbers that each request can answer, by document 01's "Orders" and document 02's ticket 1, as bits. */
 #define N(number) (UINT32_C(1) << (number))
 #define ONLY_MISUSE (N(0) | N(18))
 static const uint32_t possible[OPS] = {
@@ -102,6 +103,9 @@ static const uint32_t possible[OPS] = {
     ONLY_MISUSE | N(14) | N(16),
     ONLY_MISUSE,
     ONLY_MISUSE,
+    ONLY_MISUSE,
+    ONLY_MISUSE | N(1) | N(12) | N(13) | N(15) | N(16) | N(17),
+    ONLY_MISUSE | N(12) | N(16) | N(21),
     ONLY_MISUSE,
 };
 
@@ -240,7 +244,7 @@ static size_t put_parcel_items(uint64_t *at, size_t room, uint64_t count, uint64
 /* A request, whole, or with a map of its own. */
 static size_t put_request(uint64_t *at, size_t room) {
     /* what ends a table or an object is asked for seldom, what fills them often */
-    static const unsigned char often[OPS] = {0, 20, 70, 12, 1, 50, 15, 20, 80, 15, 15, 20, 20, 15, 90, 40, 20, 30, 45, 30, 3, 4, 20, 10, 10};
+    static const unsigned char often[OPS] = {0, 20, 70, 12, 1, 50, 15, 20, 80, 15, 15, 20, 20, 15, 90, 40, 20, 30, 45, 30, 3, 4, 20, 10, 10, 30, 45, 10};
     uint64_t all = 0, op = 1;
     for (int i = 1; i < OPS; i++) {
         all += often[i];
@@ -248,9 +252,9 @@ static size_t put_request(uint64_t *at, size_t room) {
     for (uint64_t roll = below(all); roll >= often[op]; op++) {
         roll -= often[op];
     }
-    op = below(200) ? op : below(30);
+    op = below(200) ? op : below(OPS + 5);
     uint64_t table = below(40) ? below(TABLES) : next(), map = op < OPS && below(60) ? must[op] : next() & 0x3FFFF;
-    uint64_t kind = op == GURTXOZAL_OP_RELEASE_PARCEL ? PARCEL : op >= GURTXOZAL_OP_ROLLBACK && op <= GURTXOZAL_OP_DIRECT_ROLLBACK ? CLAIM : RESERVATION;
+    uint64_t kind = op == GURTXOZAL_OP_RELEASE_PARCEL ? PARCEL : op >= GURTXOZAL_OP_ROLLBACK && op <= GURTXOZAL_OP_DIRECT_ROLLBACK ? CLAIM : op >= GURTXOZAL_OP_USE_PLAN ? PLAN : RESERVATION;
     uint64_t id = id_of(kind, 0), items = 0;
     if (op == GURTXOZAL_OP_PREPARE_TRANSFER) {
         map |= below(4) ? 0 : next() & GURTXOZAL_MAY_PREPARE_TRANSFER;
@@ -312,8 +316,8 @@ static size_t make_state(uint64_t *at, size_t most, bool *well, bool *kept) {
     }
     if (kind < 13) {
         for (uint64_t n = 1 + below(3); n > 0; n--) {
-            /* heads and entries are few among so many words: half of the damage goes there */
-            size_t place = below(2) ? below(SLOTS) : below(GOOD);
+            /* heads and entries are few among so many words, and so are the words of a plan, which stand in its row's first three blocks: most of the damage goes there */
+            size_t place = below(2) ? below(SLOTS) : below(2) ? below(GOOD) : BOOK + 390 * below(ROWS) + below(18);
             uint64_t old = at[place];
             uint64_t choice = below(5);
             at[place] = choice == 0 ? old + 1 : choice == 1 ? old - 1 : choice == 2 ? below(70) : choice == 3 ? next() : old ^ (UINT64_C(1) << below(64));
@@ -410,7 +414,7 @@ static void check_run(const uint64_t *words, size_t n, const uint64_t *requests,
         for (uint64_t ignored; items > 0; items--) {
             at += record_words(requests + at, &ignored);
         }
-        if (op == 0 || op >= OPS || number > 18 || !(possible[op] >> number & 1)) {
+        if (op == 0 || op >= OPS || number >= NUMBERS || !(possible[op] >> number & 1)) {
             fault("an answer has a number that its request can't give");
             return;
         }
@@ -512,9 +516,12 @@ int main(int argc, char **argv) {
         lacking = lacking || accepted[op] == 0 || refused[op] == 0;
     }
     printf("; accepted transfers of 60 and more: %" PRIu64 "\nnumbers:", long_transfers);
-    for (int number = 0; number < 19; number++) {
-        printf(" %d: %" PRIu64, number, numbers[number]);
-        lacking = lacking || numbers[number] == 0;
+    for (int number = 0; number < NUMBERS; number++) {
+        /* 19 and 20 are results of a call alone */
+        if (number != GURTXOZAL_MALFORMED && number != GURTXOZAL_ANSWER_SHORT) {
+            printf(" %d: %" PRIu64, number, numbers[number]);
+            lacking = lacking || numbers[number] == 0;
+        }
     }
     printf("\n");
     if (lacking) {

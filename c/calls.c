@@ -78,6 +78,9 @@ int main(void) {
     PUT(teardown_step, (11), 3, 22, 11);
     PUT(teardown_finish, (11), 3, 23, 11);
     PUT(take_empty_page, (11), 3, 24, 11);
+    PUT(make_plan, (11, 12), 11, 25, 11, 12);
+    PUT(use_plan, (11), 129, 26, 11);
+    PUT(drop_plan, (11), 129, 27, 11);
     PUT(creation_counts, (11, 12, 13, 14), 11, 12, 13, 14);
     PUT(creation_table, (11, 12), 11, 12);
     PUT(creation_object, (11, 12, 13, 14, 15, 16), 11, 12, 13, 14, 15, 16);
@@ -118,7 +121,7 @@ int main(void) {
     NUMBER(new_object), NUMBER(duplicate), NUMBER(release_parcel), NUMBER(retire_object), NUMBER(reserve), NUMBER(trim), NUMBER(abort), NUMBER(publish);
     NUMBER(get_info), NUMBER(resolve), NUMBER(replace), NUMBER(close), NUMBER(scan_handles), NUMBER(prepare_transfer), NUMBER(prepare_consumption);
     NUMBER(rollback), NUMBER(commit), NUMBER(direct_commit), NUMBER(direct_rollback), NUMBER(remove_stopping_owner), NUMBER(teardown_start);
-    NUMBER(teardown_step), NUMBER(teardown_finish), NUMBER(take_empty_page);
+    NUMBER(teardown_step), NUMBER(teardown_finish), NUMBER(take_empty_page), NUMBER(make_plan), NUMBER(use_plan), NUMBER(drop_plan);
     READ(new_object, id, 1), READ(duplicate, id, 1), READ(reserve, id, 1), READ(prepare_transfer, id, 1), READ(prepare_consumption, id, 1);
     READ(reserve, count, 2), READ(reserve, values[0], 3), READ(reserve, values[63], 66);
     READ(get_info, koid, 1), READ(get_info, kind, 2), READ(get_info, rights, 3), READ(get_info, flags, 4);
@@ -135,6 +138,8 @@ int main(void) {
     READ(remove_stopping_owner, koid, 4), READ(remove_stopping_owner, kind, 5), READ(remove_stopping_owner, rights, 6), READ(remove_stopping_owner, flags, 7);
     READ(teardown_step, removed, 1), READ(teardown_step, koid, 2), READ(teardown_step, kind, 3), READ(teardown_step, rights, 4), READ(teardown_step, flags, 5);
     READ(take_empty_page, taken, 1), READ(take_empty_page, page, 2);
+    READ(make_plan, id, 1), READ(make_plan, count, 2), READ(make_plan, frames, 3);
+    READ(use_plan, id, 1), READ(use_plan, count, 2), READ(use_plan, values[0], 3), READ(use_plan, values[63], 66);
 
     printf("gurtxozal_calls.h: %u comparisons, %u wrong\n", tried, wrong);
     return wrong != 0;

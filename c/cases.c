@@ -1,4 +1,4 @@
-/* P6, P7 and P9 to P12 of document 01, transfers, teardown and the other requests, through the C calls. Prints a line for each case; the
+/* P6, P7 and P9 to P12 of document 01, transfers, teardown, plans and the other requests, through the C calls. Prints a line for each case; the
  * status is 0 only if all hold. */
 #include <inttypes.h>
 #include <stdbool.h>
@@ -659,6 +659,109 @@ static void torn_down(void) {
     expect("the other table is in use", reserve_in(1, 1), GURTXOZAL_DONE);
 }
 
+static uint64_t make_plan(uint64_t table, uint64_t count) {
+    RECORD(GURTXOZAL_MUST_MAKE_PLAN, FIELD(OP, GURTXOZAL_OP_MAKE_PLAN), FIELD(TABLE, table), FIELD(COUNT, count));
+    return run();
+}
+static uint64_t use_plan(uint64_t id) {
+    RECORD(GURTXOZAL_MUST_USE_PLAN, FIELD(OP, GURTXOZAL_OP_USE_PLAN), FIELD(ID, id));
+    return run();
+}
+static uint64_t drop_plan(uint64_t id) {
+    RECORD(GURTXOZAL_MUST_DROP_PLAN, FIELD(OP, GURTXOZAL_OP_DROP_PLAN), FIELD(ID, id));
+    return run();
+}
+/* A plan, and how many frames it must hold: its id. */
+static uint64_t planned(uint64_t table, uint64_t count, uint64_t frames) {
+    expect("make plan", make_plan(table, count), GURTXOZAL_DONE);
+    expect("its count", answer[GURTXOZAL_ANSWER_PLAN_COUNT], count);
+    expect("the frames that it holds", answer[GURTXOZAL_ANSWER_PLAN_FRAMES], frames);
+    expect("the word after", answer[GURTXOZAL_ANSWER_PLAN_FRAMES + 1], 0);
+    return answer[GURTXOZAL_ANSWER_ID];
+}
+/* A plan used: the reservation's id, count and first value. */
+static void used_plan(uint64_t plan, uint64_t id, uint64_t count, uint64_t handle) {
+    expect("use plan", use_plan(plan), GURTXOZAL_DONE);
+    expect("the reservation's id", answer[GURTXOZAL_ANSWER_ID], id);
+    expect("its count", answer[GURTXOZAL_ANSWER_BATCH_COUNT], count);
+    expect("its first value", answer[GURTXOZAL_ANSWER_BATCH_VALUES], handle);
+    expect("the word after its values", answer[GURTXOZAL_ANSWER_BATCH_VALUES + count], 0);
+    expect("the plan is gone", use_plan(plan), GURTXOZAL_MISUSE);
+}
+
+/* Frames set aside: table 0 takes all but two, which two plans hold. The pool is dry then, and a plan's use goes through; the other plan, stale, keeps its frame until it is dropped. */
+static void frames_set_aside(void) {
+    fresh();
+    for (int i = 0; i < PAGES; i++) {
+        expect("reserve 64", reserve(64), GURTXOZAL_DONE);
+    }
+    for (uint64_t id = 1; id <= PAGES; id++) {
+        abort_row(id);
+    }
+    uint64_t plan = planned(1, 3, 1), other = planned(1, 64, 1);
+    expect("a plan of a table with free slots holds no frame", planned(0, 64, 0), other + 1);
+    expect("no frame left", reserve_in(1, 1), GURTXOZAL_ALLOCATION);
+    expect("no frame left for a plan", make_plan(1, 1), GURTXOZAL_ALLOCATION);
+    used_plan(plan, other + 2, 3, value_there(63, 1));
+    expect("a plan of a table that has changed", use_plan(other), GURTXOZAL_STALE_PLAN);
+    expect("it keeps its frame", reserve_in(1, 64), GURTXOZAL_ALLOCATION);
+    expect("drop plan", drop_plan(other), GURTXOZAL_DONE);
+    expect("drop plan again", drop_plan(other), GURTXOZAL_MISUSE);
+    expect("its frame is free", reserve_in(1, 64), GURTXOZAL_DONE);
+    expect("the next id", answer[GURTXOZAL_ANSWER_ID], other + 3);
+    expect("a page beyond the limit", make_plan(1, 64), GURTXOZAL_TABLE_FULL);
+}
+
+/* A plan's refusals, and what it does not stop; a plan is fresh again where its table is as it was, and a held transfer leaves it so. */
+static void plans(void) {
+    fresh();
+    expect("an unknown table", make_plan(TABLES, 1), GURTXOZAL_MISUSE);
+    expect("a plan of 0", make_plan(0, 0), GURTXOZAL_EMPTY_RESERVATION);
+    expect("a plan of 65", make_plan(0, GURTXOZAL_MAX_BATCH + 1), GURTXOZAL_RESERVATION_TOO_LARGE);
+    uint64_t first = publish_first(), plan = planned(0, 2, 0);
+    expect("reserve 1", reserve(1), GURTXOZAL_DONE);
+    uint64_t row = answer[GURTXOZAL_ANSWER_ID];
+    expect("use of a reservation", use_plan(row), GURTXOZAL_MISUSE);
+    expect("drop of a reservation", drop_plan(row), GURTXOZAL_MISUSE);
+    expect("rollback of a plan", rollback(plan), GURTXOZAL_MISUSE);
+    expect("release of a plan", release(plan), GURTXOZAL_MISUSE);
+    abort_row(row);
+    uint64_t kept = planned(0, 64, 1);
+    expect("reserve 1", reserve(1), GURTXOZAL_DONE);
+    row = answer[GURTXOZAL_ANSWER_ID];
+    expect("a free slot less", use_plan(plan), GURTXOZAL_STALE_PLAN);
+    abort_row(row);
+    expect("prepare transfer", prepare(GURTXOZAL_MOVE, first, 64), GURTXOZAL_DONE);
+    uint64_t claim = answer[GURTXOZAL_ANSWER_ID];
+    used_plan(plan, claim + 1, 2, value(62, 3)); /* as many free slots as before, and the transfer changes none */
+    abort_row(claim + 1);
+    expect("rollback", rollback(claim), GURTXOZAL_DONE);
+    has(0, first, RIGHTS);
+    expect("close", close_value(first), GURTXOZAL_DONE);
+    expect("a free slot more", use_plan(kept), GURTXOZAL_STALE_PLAN);
+    expect("start with a plan open", TEARDOWN(START), GURTXOZAL_DONE);
+    expect("use in a table that is torn down, though the plan is stale", use_plan(kept), GURTXOZAL_TABLE_RETIRED);
+    expect("a plan in it", make_plan(0, 1), GURTXOZAL_TABLE_RETIRED);
+    expect("finish", TEARDOWN(FINISH), GURTXOZAL_DONE);
+    expect("drop in a retired table", drop_plan(kept), GURTXOZAL_DONE);
+    /* no row and no id left */
+    fresh();
+    for (uint64_t i = 0; i < ROWS; i++) {
+        expect("a plan's id", planned(0, 1, 1), i + 1);
+    }
+    expect("no free row", make_plan(0, 1), GURTXOZAL_ALLOCATION);
+    used_plan(1, ROWS + 1, 1, value(63, 1));
+    expect("another plan of the table", use_plan(ROWS), GURTXOZAL_STALE_PLAN);
+    expect("drop plan", drop_plan(ROWS), GURTXOZAL_DONE);
+    state[5] = UINT64_MAX - 1; /* the next id (docs/formats.md) */
+    plan = planned(1, 1, 1);
+    expect("the last id", plan, UINT64_MAX - 1);
+    expect("no id left for its use", use_plan(plan), GURTXOZAL_RESERVATION_ID_EXHAUSTED);
+    expect("no id left, and stale", use_plan(2), GURTXOZAL_STALE_PLAN);
+    expect("drop plan", drop_plan(plan), GURTXOZAL_DONE);
+    expect("no id left for a plan", make_plan(1, 1), GURTXOZAL_RESERVATION_ID_EXHAUSTED);
+}
+
 /* The whole call's numbers, and no word changed by them. */
 static void whole_call(void) {
     fresh();
@@ -667,7 +770,7 @@ static void whole_call(void) {
         exit(2);
     }
     memcpy(before, state, state_words * sizeof *state);
-    const uint64_t unknown[] = {3, GURTXOZAL_OP_TAKE_EMPTY_PAGE + 1, 0}, cut[] = {GURTXOZAL_MUST_RESERVE, GURTXOZAL_OP_RESERVE, 0};
+    const uint64_t unknown[] = {3, GURTXOZAL_OP_DROP_PLAN + 1, 0}, cut[] = {GURTXOZAL_MUST_RESERVE, GURTXOZAL_OP_RESERVE, 0};
     const uint64_t whole[] = {GURTXOZAL_MUST_RESERVE, GURTXOZAL_OP_RESERVE, 0, 1};
     memset(answer, 0xA5, sizeof answer);
     expect("an unknown op", gurtxozal_run(state, state_words, unknown, 3, answer, 72), GURTXOZAL_MALFORMED);
@@ -710,6 +813,8 @@ int main(void) {
     direct(1), shown("direct commit and rollback between two tables");
     stopping_owner(), shown("remove_stopping_owner and its cursor");
     torn_down(), shown("teardown: start, steps, finish");
+    frames_set_aside(), shown("frames set aside: a dry pool does not stop a plan's use; a stale plan keeps its frame until it is dropped");
+    plans(), shown("a plan's refusals, fresh again, a held transfer, teardown, no row and no id left");
     whole_call(), shown("18, 19 and 20 change no word; an empty list is accepted");
     free(state);
     return failed != 0;

@@ -89,5 +89,26 @@ int main(void) {
     expect(here == GURTXOZAL_DONE && answers[0] == GURTXOZAL_DONE && there == here && memcmp(state, odd + 1, WORDS * sizeof *state) == 0
                && memcmp(answers, odd_answers + 1, ANSWER * sizeof *answers) == 0,
            "an alignment of 8 is enough for every slice");
+
+    /* in the place of the two parcels, two plans that hold all there is; one is used, which makes the other stale */
+    uint64_t *many = pages(5 * ANSWER);
+    size_t used = gurtxozal_put_release_parcel(list, 64, 1);
+    used += gurtxozal_put_release_parcel(list + used, 64 - used, 2);
+    used += gurtxozal_put_make_plan(list + used, 64 - used, 0, 1);
+    used += gurtxozal_put_make_plan(list + used, 64 - used, 0, 1);
+    used += gurtxozal_put_reserve(list + used, 64 - used, 0, 1);
+    const uint64_t planned = gurtxozal_run(state, WORDS, list, used, many, 5 * ANSWER);
+    const struct gurtxozal_make_plan_answer first = gurtxozal_read_make_plan(gurtxozal_answer(many, 2)), second = gurtxozal_read_make_plan(gurtxozal_answer(many, 3));
+    expect(planned == GURTXOZAL_DONE && first.frames == 1 && second.frames == 1 && gurtxozal_read_reserve(gurtxozal_answer(many, 4)).number == GURTXOZAL_ALLOCATION,
+           "two plans hold both frames and both rows, and a reservation gets none");
+    used = gurtxozal_put_use_plan(list, 64, first.id);
+    used += gurtxozal_put_use_plan(list + used, 64 - used, second.id);
+    used += gurtxozal_put_drop_plan(list + used, 64 - used, second.id);
+    used += gurtxozal_put_make_plan(list + used, 64 - used, 0, GURTXOZAL_MAX_BATCH);
+    const uint64_t ran = gurtxozal_run(state, WORDS, list, used, many, 5 * ANSWER);
+    expect(ran == GURTXOZAL_DONE && gurtxozal_read_use_plan(gurtxozal_answer(many, 0)).number == GURTXOZAL_DONE, "a plan is used where no frame and no row is free");
+    expect(gurtxozal_read_use_plan(gurtxozal_answer(many, 1)).number == GURTXOZAL_STALE_PLAN && gurtxozal_read_drop_plan(gurtxozal_answer(many, 2)).number == GURTXOZAL_DONE
+               && gurtxozal_read_make_plan(gurtxozal_answer(many, 3)).frames == 1,
+           "the other plan is stale then, and its frame is free once it is dropped");
     return failed;
 }

@@ -18,7 +18,7 @@ uint64_t gurtxozal_create(uint64_t *state, size_t state_words, const uint64_t *p
 /* Runs a list of requests. Its result is 18, 19 or 20, and no word has changed; or 0, and every request has run. */
 uint64_t gurtxozal_run(uint64_t *state, size_t state_words, const uint64_t *list, size_t list_words, uint64_t *answers, size_t answer_words);
 
-/* The numbers of document 01: a call's result, and the first of an answer's words. */
+/* The numbers of document 01, and 21 of document 02: a call's result, and the first of an answer's words. */
 enum {
     GURTXOZAL_DONE = 0,
     GURTXOZAL_ALLOCATION = 1,
@@ -40,7 +40,8 @@ enum {
     GURTXOZAL_EMPTY_RESERVATION = 17,
     GURTXOZAL_MISUSE = 18,
     GURTXOZAL_MALFORMED = 19,
-    GURTXOZAL_ANSWER_SHORT = 20
+    GURTXOZAL_ANSWER_SHORT = 20,
+    GURTXOZAL_STALE_PLAN = 21
 };
 
 /* Ops. Every other op is unknown (19). */
@@ -68,7 +69,10 @@ enum {
     GURTXOZAL_OP_TEARDOWN_START = 21,
     GURTXOZAL_OP_TEARDOWN_STEP = 22,
     GURTXOZAL_OP_TEARDOWN_FINISH = 23,
-    GURTXOZAL_OP_TAKE_EMPTY_PAGE = 24
+    GURTXOZAL_OP_TAKE_EMPTY_PAGE = 24,
+    GURTXOZAL_OP_MAKE_PLAN = 25,
+    GURTXOZAL_OP_USE_PLAN = 26,
+    GURTXOZAL_OP_DROP_PLAN = 27
 };
 
 /* Fields of a record, by bit. A record is its bit map, then one word for each bit that stands, lowest first. */
@@ -120,6 +124,9 @@ enum {
 #define GURTXOZAL_MUST_TEARDOWN_STEP UINT64_C(3)
 #define GURTXOZAL_MUST_TEARDOWN_FINISH UINT64_C(3)
 #define GURTXOZAL_MUST_TAKE_EMPTY_PAGE UINT64_C(3)
+#define GURTXOZAL_MUST_MAKE_PLAN UINT64_C(11)
+#define GURTXOZAL_MUST_USE_PLAN UINT64_C(129)
+#define GURTXOZAL_MUST_DROP_PLAN UINT64_C(129)
 #define GURTXOZAL_MUST_TRANSFER_ITEM UINT64_C(49)
 #define GURTXOZAL_MAY_TRANSFER_ITEM UINT64_C(57344)
 #define GURTXOZAL_MUST_PARCEL_ITEM UINT64_C(129)
@@ -129,9 +136,9 @@ enum {
 enum {
     GURTXOZAL_ANSWER_WORDS = 72,
     GURTXOZAL_ANSWER_NUMBER = 0,
-    /* new object, duplicate, reserve, both preparations */
+    /* new object, duplicate, reserve, both preparations, make plan, use plan */
     GURTXOZAL_ANSWER_ID = 1,
-    /* reserve */
+    /* reserve, use plan */
     GURTXOZAL_ANSWER_BATCH_COUNT = 2,
     GURTXOZAL_ANSWER_BATCH_VALUES = 3,
     /* get_info, close */
@@ -173,7 +180,10 @@ enum {
     GURTXOZAL_ANSWER_STEP_FLAGS = 5,
     /* take_empty_page */
     GURTXOZAL_ANSWER_TAKEN = 1,
-    GURTXOZAL_ANSWER_TAKEN_PAGE = 2
+    GURTXOZAL_ANSWER_TAKEN_PAGE = 2,
+    /* make plan */
+    GURTXOZAL_ANSWER_PLAN_COUNT = 2,
+    GURTXOZAL_ANSWER_PLAN_FRAMES = 3
 };
 
 /* A transfer's routes, and its items' operations. */

@@ -5,7 +5,7 @@
  * (GURTXOZAL_BIT(GURTXOZAL_FIELD_..)) of those that are given; NULL gives none, and with any other bit nothing is written and the result is 0. The items of a publish or of a transfer are written behind it, as many as its `count` says.
  *
  * gurtxozal_read_NAME reads the answer to a request from its 72 words; `number` is GURTXOZAL_DONE or the refusal, and after a refusal the rest is 0. The `values` of a
- * reservation point into those words. */
+ * reservation, and of a plan that is used, point into those words. */
 #ifndef GURTXOZAL_CALLS_H
 #define GURTXOZAL_CALLS_H
 
@@ -601,6 +601,70 @@ struct gurtxozal_take_empty_page_answer {
 };
 static inline struct gurtxozal_take_empty_page_answer gurtxozal_read_take_empty_page(const uint64_t *answer) {
     const struct gurtxozal_take_empty_page_answer read = {answer[0], answer[1], answer[2]};
+    return read;
+}
+
+/* 25: make plan: op, table, count. */
+static inline size_t gurtxozal_put_make_plan(uint64_t *words, size_t room, uint64_t table, uint64_t count) {
+    if (room < 4) {
+        return 0;
+    }
+    words[0] = GURTXOZAL_MUST_MAKE_PLAN;
+    words[1] = GURTXOZAL_OP_MAKE_PLAN;
+    words[2] = table;
+    words[3] = count;
+    return 4;
+}
+/* Its answer: 1 the plan's id, 2 the count, 3 how many frames it holds. */
+struct gurtxozal_make_plan_answer {
+    uint64_t number;
+    uint64_t id;
+    uint64_t count;
+    uint64_t frames;
+};
+static inline struct gurtxozal_make_plan_answer gurtxozal_read_make_plan(const uint64_t *answer) {
+    const struct gurtxozal_make_plan_answer read = {answer[0], answer[1], answer[2], answer[3]};
+    return read;
+}
+
+/* 26: use plan: op, id. */
+static inline size_t gurtxozal_put_use_plan(uint64_t *words, size_t room, uint64_t id) {
+    if (room < 3) {
+        return 0;
+    }
+    words[0] = GURTXOZAL_MUST_USE_PLAN;
+    words[1] = GURTXOZAL_OP_USE_PLAN;
+    words[2] = id;
+    return 3;
+}
+/* Its answer: 1 the reservation's id, 2 the count, 3 to 66 the future values, in the order in which a publish fills them. */
+struct gurtxozal_use_plan_answer {
+    uint64_t number;
+    uint64_t id;
+    uint64_t count;
+    const uint64_t *values;
+};
+static inline struct gurtxozal_use_plan_answer gurtxozal_read_use_plan(const uint64_t *answer) {
+    const struct gurtxozal_use_plan_answer read = {answer[0], answer[1], answer[2], answer + 3};
+    return read;
+}
+
+/* 27: drop plan: op, id. */
+static inline size_t gurtxozal_put_drop_plan(uint64_t *words, size_t room, uint64_t id) {
+    if (room < 3) {
+        return 0;
+    }
+    words[0] = GURTXOZAL_MUST_DROP_PLAN;
+    words[1] = GURTXOZAL_OP_DROP_PLAN;
+    words[2] = id;
+    return 3;
+}
+/* Its answer: none. */
+struct gurtxozal_drop_plan_answer {
+    uint64_t number;
+};
+static inline struct gurtxozal_drop_plan_answer gurtxozal_read_drop_plan(const uint64_t *answer) {
+    const struct gurtxozal_drop_plan_answer read = {answer[0]};
     return read;
 }
 

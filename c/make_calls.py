@@ -17,6 +17,7 @@ WORDS = {
     "the new parcel's id": "id",
     "the reservation's id": "id",
     "the claim's id": "id",
+    "the plan's id": "id",
     "the count": "count",
     "koid": "koid",
     "kind": "kind",
@@ -33,6 +34,7 @@ WORDS = {
     "the cursor as left": "cursor",
     "whether a page was taken": "taken",
     "its page number": "page",
+    "how many frames it holds": "frames",
 }
 VALUES = re.compile(r"^(\d+) to (\d+) the future values$")
 ENTRIES = re.compile(r"^then from word (\d+) for each entry: value$")
@@ -45,7 +47,7 @@ HEAD = """\
  * (GURTXOZAL_BIT(GURTXOZAL_FIELD_..)) of those that are given; NULL gives none, and with any other bit nothing is written and the result is 0. The items of a publish or of a transfer are written behind it, as many as its `count` says.
  *
  * gurtxozal_read_NAME reads the answer to a request from its 72 words; `number` is GURTXOZAL_DONE or the refusal, and after a refusal the rest is 0. The `values` of a
- * reservation point into those words. */
+ * reservation, and of a plan that is used, point into those words. */
 #ifndef GURTXOZAL_CALLS_H
 #define GURTXOZAL_CALLS_H
 

@@ -11,7 +11,7 @@
 
 #include "gurtxozal.h"
 
-enum { STACK = 1 << 18, BOUND = 4096, TABLES = 2, PAGES = 8, FRAMES = 16, OBJECTS = 2, ROWS = 80, BATCH = GURTXOZAL_MAX_BATCH };
+enum { STACK = 1 << 18, BOUND = 4096, TABLES = 3, PAGES = 8, FRAMES = 16, OBJECTS = 2, ROWS = 80, BATCH = GURTXOZAL_MAX_BATCH };
 
 static unsigned char *stack;
 static ucontext_t here, there;
@@ -21,9 +21,9 @@ static uint64_t list[1000], answers[GURTXOZAL_ANSWER_WORDS], result;
 static size_t used;
 static size_t most, empty;
 static const char *deepest = "none";
-static bool measured[GURTXOZAL_OP_TAKE_EMPTY_PAGE + 1];
+static bool measured[GURTXOZAL_OP_DROP_PLAN + 1];
 
-static const uint64_t parameters[] = {TABLES, FRAMES, OBJECTS, ROWS, PAGES, 0, PAGES, 77, 1, 7, 0, 15, 1, 1000, 2, 7, 0, 15, 1, 1000};
+static const uint64_t parameters[] = {TABLES, FRAMES, OBJECTS, ROWS, PAGES, 0, PAGES, 77, PAGES, 78, 1, 7, 0, 15, 1, 1000, 2, 7, 0, 15, 1, 1000};
 
 static void create(void) {
     result = gurtxozal_create(state, state_words, parameters, sizeof parameters / sizeof *parameters);
@@ -177,6 +177,12 @@ int main(void) {
     row = reserve(NULL, 1, false);
     REQUEST("abort of 64", ABORT, row);
     REQUEST("take_empty_page", TAKE_EMPTY_PAGE, 1);
+    /* in a table without pages, so that a plan of 64 holds a frame */
+    REQUEST("make plan of 64, a page more", MAKE_PLAN, 2, BATCH);
+    REQUEST("drop plan of 64", DROP_PLAN, answers[GURTXOZAL_ANSWER_ID]);
+    REQUEST(NULL, MAKE_PLAN, 2, BATCH);
+    REQUEST("use plan of 64, a page more", USE_PLAN, answers[GURTXOZAL_ANSWER_ID]);
+    REQUEST(NULL, ABORT, answers[GURTXOZAL_ANSWER_ID]);
     REQUEST("close", CLOSE, 0, first);
     REQUEST("remove_stopping_owner", REMOVE_STOPPING_OWNER, 0, 0);
     other = answers[GURTXOZAL_ANSWER_REMOVED];
@@ -192,7 +198,7 @@ int main(void) {
         printf("%" PRIu64 " handles were removed, not 64\n", other);
         return 1;
     }
-    for (int op = 1; op <= GURTXOZAL_OP_TAKE_EMPTY_PAGE; op++) {
+    for (int op = 1; op <= GURTXOZAL_OP_DROP_PLAN; op++) {
         if (!measured[op]) {
             printf("op %d was not measured\n", op);
             return 1;

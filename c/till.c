@@ -1,5 +1,5 @@
-/* Four processes at a counter pass a handle on: the scale has a weight and hands it to the till, the till gives the printer a copy, the scale is switched off. The
- * kernel's side of it, in the requests of gurtxozal_calls.h: no request is written by hand, and nothing is allocated. Prints the story; c/till.out is what it must be. */
+/* Four processes at a counter pass a handle on: the till sets a frame aside before the sale, the scale has a weight and hands it to the till, the till gives the printer a
+ * copy, the scale is switched off. The kernel's side of it, in the requests of gurtxozal_calls.h: no request is written by hand, and nothing is allocated. Prints the story; c/till.out is what it must be. */
 #include <inttypes.h>
 #include <stdio.h>
 #include <stdlib.h>
@@ -45,6 +45,7 @@ static const char *word_of(uint64_t number) {
         "Misuse",
         "Malformed",
         "AnswerShort",
+        "StalePlan",
     };
     return number < sizeof words / sizeof *words ? words[number] : "unknown";
 }
@@ -111,6 +112,12 @@ int main(void) {
     used = 0;
     printf("A counter: till, scale, printer and stock, a table each.\n");
 
+    printf("The till plans for what it will get, before the sale.\n");
+    PUT(make_plan, TILL, 1);
+    const struct gurtxozal_make_plan_answer plan = gurtxozal_read_make_plan(run());
+    done("make plan", plan.number);
+    printf("    a plan for %" PRIu64 " handle holds %" PRIu64 " frame\n", plan.count, plan.frames);
+
     printf("The scale gets its weight and its tare.\n");
     PUT(new_object, WEIGHT, DUPLICATE | TRANSFER | READ, 0);
     PUT(new_object, TARE, READ, 0);
@@ -135,8 +142,10 @@ int main(void) {
     done("prepare transfer", claim.number);
     look(SCALE, scales_weight); /* held: busy */
 
-    printf("It is committed, and the parcel is published to the till.\n");
-    const struct gurtxozal_reserve_answer place = reserve(TILL, 1);
+    printf("It is committed, the till uses its plan, and the parcel is published there.\n");
+    PUT(use_plan, plan.id);
+    const struct gurtxozal_use_plan_answer place = gurtxozal_read_use_plan(run());
+    done("use plan", place.number); /* no frame can be lacking: only another change of the till's table makes the plan stale */
     const uint64_t tills_weight = place.values[0];
     PUT(commit, claim.id);
     PUT(publish, 1, place.id);
