@@ -183,6 +183,12 @@ fn list_of(start: &Start, count: usize, mut next: impl FnMut(usize, &[[u64; ANSW
     (list, count)
 }
 
+/// Some requests, then a cycle over and over; its requests are made from the answers since then.
+fn cycle_of(start: &Start, count: usize, before: &[Make], turn: usize, next: Make) -> (Vec<u64>, usize) {
+    let first = before.len();
+    list_of(start, first + count / turn * turn, |at, answers| if at < first { before[at](at, answers) } else { next(at - first, &answers[first..]) })
+}
+
 /// One row of a table, in nanoseconds: the port, the Rust with its driver, and less what the driver takes to read the words.
 #[derive(Clone)]
 struct Row {
@@ -359,6 +365,7 @@ fn differences(settings: Settings, told: &mut Vec<Row>, slots: u64, start: &Star
     let copy: Make = &|_, _| duplicate(0, first, 1);
     let slot: Make = &|_, _| reserve(0, 1);
     let slots_2: Make = &|_, _| reserve(0, 2);
+    let plan: Make = &|_, _| make_plan(0, 1);
     let claim: Make = &|k, _| moves(&handles[k..k + 1]);
     let claim_8: Make = &|k, _| moves(&handles[8 * k..8 * k + 8]);
     let claim_all: Make = &|_, _| moves(handles);
@@ -385,6 +392,8 @@ fn differences(settings: Settings, told: &mut Vec<Row>, slots: u64, start: &Star
         split(start, first, "commit of 48", &[(1, claim_all)], (1, &|_, answers| commit(id(answers, 0)))),
         split(start, first, "prepare consumption", &[], (rows, &|k, _| consume(0, handles[k], 1, 7, 1000))),
         split(start, first, "remove_stopping_owner", &[], (handles.len(), &|k, answers| stopping(0, if k == 0 { 0 } else { answers[k - 1][2] }))),
+        split(start, first, "make plan of 1", &[], (rows, plan)),
+        split(start, first, "drop plan of 1", &[(rows, plan)], (rows, &|k, answers| drop_plan(id(answers, k)))),
         split(start, first, "teardown step", &[(1, &|_, _| teardown_start(0))], (handles.len(), &|_, _| teardown_step(0))),
         // 80 slots are two pages more than the 16 that are free, and both are empty after the aborts
         split(
@@ -526,6 +535,27 @@ fn pass(settings: Settings) -> Pass {
                 }),
             ),
         ];
+        // Plans of 1 and of 64 slots. Of the 16 free slots one does and 64 do not, which need a page then; with the 16 reserved before, one slot needs a page too, and with an
+        // empty page more, 64 need none.
+        let sixteen: Make = &|_, _| reserve(0, 16);
+        let whole_page: Make = &|_, _| reserve(0, 64);
+        let given_back: Make = &|_, answers| abort(answers[0][1]);
+        for (count, before, page) in [(1, &[][..], false), (1, &[sixteen][..], true), (64, &[whole_page, given_back][..], false), (64, &[][..], true)] {
+            let name = format!("make plan of {count}{}", if page { " (a page)" } else { "" });
+            lists.push((format!("{name}, drop plan"), 2.0, cycle_of(&start, long, before, 2, &|at, answers| if at % 2 == 0 { make_plan(0, count) } else { drop_plan(answers[at - 1][1]) })));
+            // The page that came with the plan is empty after the abort, and is taken.
+            let turn = if page { 4 } else { 3 };
+            lists.push((
+                format!("{name}, use plan, abort{}", if page { ", take_empty_page" } else { "" }),
+                turn as f64,
+                cycle_of(&start, long, before, turn, &|at, answers| match at % turn {
+                    0 => make_plan(0, count),
+                    1 => use_plan(answers[at - 1][1]),
+                    2 => abort(answers[at - 1][1]),
+                    _ => take_page(0),
+                }),
+            ));
+        }
         for count in [1, 8, 64.min(handles.len())] {
             let (turns, held) = (long / (2 * count) + 2, handles[..count].to_vec());
             let claim = |operation: u64, values: &[u64]| transfer(0, 0, values.iter().map(|value| item(operation, *value, u64::MAX)).collect());

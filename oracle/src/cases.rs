@@ -7,6 +7,8 @@ use crate::state::*;
 use crate::subject::{Call, Start};
 use crate::words;
 
+pub mod plans;
+
 pub type Look = Box<dyn Fn(&State) -> bool>;
 
 /// What a call must give.
@@ -961,7 +963,7 @@ fn calls(cases: &mut Vec<Case>) {
     c.refused(good.clone(), 71, 20);
     c.refused([good.clone(), good.clone()].concat(), 143, 20);
     for list in [
-        vec![0], vec![10, 5, 0, 1], vec![11], vec![11, 5], vec![11, 5, 0], vec![11, 0, 0, 1], vec![11, 25, 0, 1], vec![3, 5, 0],
+        vec![0], vec![10, 5, 0, 1], vec![11], vec![11, 5], vec![11, 5, 0], vec![11, 0, 0, 1], vec![11, 99, 0, 1], vec![3, 5, 0],
         vec![27, 5, 0, 1, 9], vec![11 | 1 << 18, 5, 0, 1, 0], vec![11 | 1 << 63, 5, 0, 1, 0],
         new_object(0, 0, 1 << 32).words(), resolve(0, 1, 0, 1 << 32).words(), consume(0, 1, 0, 7, 0).words(),
         consume(0, 1, 0, 1 << 32, 1).words(), transfer(0, 3, vec![]).words(), transfer(0, 0, vec![item(2, 1, 0)]).words(),

@@ -4,10 +4,12 @@ use std::sync::{Arc, Mutex};
 
 use crate::capability::handle::wire::{Machine, bare};
 use crate::cases::{self, Want, v};
+use crate::generate::{Kind, Ops, sequence_with};
 use crate::oracle::Oracle;
+use crate::reading::{Reading, Slip};
 use crate::requests::{self, ANSWER};
 use crate::state;
-use crate::subject::{FILL, Runs, Start, Subject};
+use crate::subject::{FILL, Runs, Start, Subject, Texts};
 use crate::tally::Tally;
 use crate::violation::Place;
 
@@ -19,27 +21,38 @@ pub fn explained(place: &Place) -> Option<&'static str> {
     }
     None
 }
+/// The line of `invariant_violation` in `reserve_batch_with_plan` of mod.rs where the snapshots differ.
+const STALE_PLAN_LINE: u32 = 497;
 /// The line of `invariant_violation` in `advance_epoch` of storage.rs.
 pub const ADVANCE_EPOCH_LINE: u32 = 331;
 
 pub fn run(tally: &mut Tally) {
     let mut oracle = Oracle::default();
-    for case in cases::all() {
+    for case in cases::all().into_iter().chain(cases::plans::all()) {
         let calls: Vec<_> = case.asks.iter().map(|ask| ask.call.clone()).collect();
         let trace = oracle.run(&case.start, &calls);
+        let read = Reading::new(Slip::None).run(&case.start, &calls);
         let mut wrong = Vec::new();
         let mut looks = Vec::new();
         let (mut answers, mut violations) = (0, 0);
-        if trace.start != 0 && case.name != "bad-state" {
+        if (trace.start != 0) != case.name.starts_with("bad-state") {
             wrong.push(format!("the start gives {}", trace.start));
         }
         for (at, ask) in case.asks.iter().enumerate() {
             let step = trace.steps.get(at);
             match (&ask.want, step) {
-                (Want::Violation(_), None) if trace.steps.len() == at => match trace.stopped.as_ref() {
-                    Some(place) if explained(place).is_some() => violations += 1,
-                    other => wrong.push(format!("request {at}: a violation was expected, got {other:?}")),
-                },
+                // From the violation on, the paper's answers are the reading's.
+                (Want::Violation(paper), None) => {
+                    match trace.stopped.as_ref() {
+                        Some(place) if explained(place).is_some() => violations += usize::from(trace.steps.len() == at),
+                        other => wrong.push(format!("request {at}: a violation was expected, got {other:?}")),
+                    }
+                    let mut full = paper.clone();
+                    full.resize(ANSWER, 0);
+                    if read.steps.get(at).is_none_or(|step| step.answers[..ANSWER] != full) {
+                        wrong.push(format!("request {at}: the reading does not give the paper's answer {paper:x?}"));
+                    }
+                }
                 (Want::Violation(_), _) => wrong.push(format!("request {at}: no violation")),
                 (_, None) => {
                     wrong.push(format!("request {at} was not reached: {:?}", trace.stopped));
@@ -96,6 +109,7 @@ pub fn run(tally: &mut Tally) {
     }
     facts(tally, &mut oracle);
     table_full(tally, &mut oracle);
+    stale_plans(tally, &mut oracle);
 }
 
 /// Runs on the Rust and brings a result back; Err with the place of a violation.
@@ -225,6 +239,66 @@ fn table_full(tally: &mut Tally, oracle: &mut Oracle) {
     tally.line(
         found == Ok([17, 13, 15, 15]),
         &format!("table-full on the Rust: a table that has had 262,144 pages and has none to attach: reserve 0, 65, 1, 64 give 17, 13, 15, 15 ({found:?})"),
+    );
+}
+
+/// Where a plan is stale the Rust stops, or gives 15: in the smallest case, in a full table, and for stale plans of random lists, each used as the driver does not use them.
+fn stale_plans(tally: &mut Tally, oracle: &mut Oracle) {
+    let stops = |found: &Result<Option<Result<(), u64>>, Place>| matches!(found, Err(place) if place.file.ends_with("handle/mod.rs") && place.line == STALE_PLAN_LINE);
+    let found = ask(oracle, |direct| {
+        direct.start(&Start::Create(cases::params(&[(2, 0)], 2, &[[50, 7, 0, 0, 1, 9]], 4)));
+        for request in [requests::make_plan(0, 1), requests::reserve(0, 1)] {
+            direct.call(&request.words(), &mut [0; ANSWER]);
+        }
+        direct.machine.as_mut().map(|machine| bare::use_plan_raw(machine, 1))
+    });
+    tally.line(stops(&found), &format!("difference-stale-plan on the Rust: a plan used after a reservation reaches invariant_violation ({})", shown(&found)));
+    let found = ask(oracle, |direct| {
+        let mut state = cases::last_page_state(state::MAX_PAGES);
+        state.tables[0].detached.clear();
+        state.rows.push(state::Row {
+            id: 1,
+            kind: state::RowKind::Plan { table: 0, count: 1, kept: state::Snapshot { epoch: 9, free_slots: 0, pages: vec![0] }, frames: vec![0] },
+        });
+        state.free_frames.remove(0);
+        direct.end();
+        direct.machine = Some(Machine::load(&state));
+        let mut answers = vec![0; ANSWER];
+        direct.call(&requests::use_plan(1).words(), &mut answers);
+        (answers[0], direct.machine.as_mut().map(|machine| bare::use_plan_raw(machine, 1)))
+    });
+    tally.line(
+        found == Ok((21, Some(Err(15)))),
+        &format!("difference-stale-plan on the Rust: a plan used in a table that has no page to attach gives 15, and the driver 21 ({found:?})"),
+    );
+    let (mut stopped, mut full, mut strange, mut seed) = (0, 0, 0, 0);
+    while stopped + full + strange < 60 {
+        seed += 1;
+        let kind = [Kind::Plain, Kind::Edges, Kind::Scrambled][seed as usize % 3];
+        let made = sequence_with(seed, kind, 120, Ops::All, Texts::Last);
+        let Some(at) = (0..made.calls.len()).find(|at| made.calls[*at].list.first() == Some(&129) && made.calls[*at].list[1] == requests::USE_PLAN && made.trace.steps[*at].answers[0] == 21) else { continue };
+        let (start, calls, id) = (made.start.clone(), made.calls[..at].to_vec(), made.calls[at].list[2]);
+        let found = ask(oracle, move |direct| {
+            direct.start(&start);
+            for call in &calls {
+                let mut answers = vec![0; call.lent];
+                direct.call(&call.list, &mut answers);
+            }
+            direct.machine.as_mut().map(|machine| bare::use_plan_raw(machine, id))
+        });
+        match &found {
+            found if stops(found) => stopped += 1,
+            Ok(Some(Err(15))) => full += 1,
+            Err(place) if explained(place).is_some() => {}
+            other => {
+                strange += 1;
+                println!("seed {seed}, {kind:?}, call {at}: {}", shown(other));
+            }
+        }
+    }
+    tally.line(
+        strange == 0,
+        &format!("stale plans on the Rust: of {} stale plans of random lists, used all the same, {stopped} reach invariant_violation where snapshots are compared, {full} give 15, {strange} neither", stopped + full + strange),
     );
 }
 

@@ -3,16 +3,22 @@
 use crate::requests::*;
 use crate::subject::{Call, Trace};
 
+/// The numbers that there are; 19 and 20 are of whole calls.
+pub const NUMBERS: usize = 22;
+fn of_requests() -> impl Iterator<Item = usize> {
+    (0..NUMBERS).filter(|number| ![19, 20].contains(number))
+}
+
 #[derive(Clone)]
 pub struct Coverage {
-    pub cells: [[u64; 19]; OPS],
-    pub results: [u64; 21],
+    pub cells: [[u64; NUMBERS]; OPS],
+    pub results: [u64; NUMBERS],
     pub requests: u64,
 }
 
 impl Default for Coverage {
     fn default() -> Self {
-        Self { cells: [[0; 19]; OPS], results: [0; 21], requests: 0 }
+        Self { cells: [[0; NUMBERS]; OPS], results: [0; NUMBERS], requests: 0 }
     }
 }
 
@@ -43,6 +49,9 @@ const POSSIBLE: [&[usize]; OPS] = [
     &[0, 18],
     &[0, 18],
     &[0, 18],
+    &[0, 1, 12, 13, 15, 16, 17, 18],
+    &[0, 12, 16, 18, 21],
+    &[0, 18],
 ];
 
 /// Which pairs of a request and a number can occur.
@@ -51,15 +60,16 @@ pub type Possible = fn(u64, usize) -> bool;
 pub fn possible(op: u64, number: usize) -> bool {
     POSSIBLE[op as usize].contains(&number)
 }
-/// In the list of a held and a plain run: "H refuses nothing for want of a row or an id". A reservation can lack frames.
+/// In the list of a held and a plain run: "H refuses nothing for want of a row or an id". A reservation and a plan can lack frames.
 pub fn possible_while_held(op: u64, number: usize) -> bool {
-    possible(op, number) && number != 12 && (number != 1 || op == RESERVE)
+    possible(op, number) && number != 12 && (number != 1 || [RESERVE, MAKE_PLAN].contains(&op))
 }
 
 /// Why a number can't be a request's answer.
 fn why_not(op: u64, number: usize) -> &'static str {
     match number {
         1 | 12 if possible(op, number) => "would want a row or an id, which the held run's list does not",
+        1 if op == USE_PLAN => "has its frames and its row",
         1 => "takes no row and no frame",
         2 | 3 => "names no handle value",
         4 => "compares no kind",
@@ -69,15 +79,19 @@ fn why_not(op: u64, number: usize) -> &'static str {
         9 | 11 => "raises no object's count",
         10 => "activates no object",
         12 => "spends no id",
+        13 | 17 if op == USE_PLAN => "has its count, which was tested",
         13 | 17 => "reserves or transfers no batch",
         14 => "does not start a teardown",
+        15 if op == USE_PLAN => "is stale then: 21",
         15 => "adds no page",
         16 => match op {
             STOPPING | TAKE_PAGE => "answers none on a table that is not active",
             TEARDOWN_STEP | TEARDOWN_FINISH => "on a table that is not tearing down is out of turn: 18",
             NEW_OBJECT | RETIRE => "names no table",
+            DROP_PLAN => "is accepted in any state of the table",
             _ => "names a row, whose table is active",
         },
+        21 => "uses no plan",
         _ => "",
     }
 }
@@ -111,7 +125,7 @@ impl Coverage {
     pub fn unseen(&self, possible: Possible) -> (Vec<(usize, usize)>, usize) {
         let (mut none, mut some) = (Vec::new(), 0);
         for op in 1..OPS {
-            for number in (0..19).filter(|number| possible(op as u64, *number)) {
+            for number in of_requests().filter(|number| possible(op as u64, *number)) {
                 if self.cells[op][number] == 0 {
                     none.push((op, number));
                 } else {
@@ -125,13 +139,13 @@ impl Coverage {
     pub fn print(&self, possible: Possible) -> (usize, usize) {
         let (mut unseen, mut strange) = (0, 0);
         print!("{:>22} |", "request \\ answer");
-        for number in 0..19 {
+        for number in of_requests() {
             print!("{number:>8}");
         }
         println!();
         for op in 1..OPS {
             print!("{op:>2} {:>19} |", &NAMES[op][..NAMES[op].len().min(19)]);
-            for number in 0..19 {
+            for number in of_requests() {
                 let count = self.cells[op][number];
                 match (possible(op as u64, number), count) {
                     (true, 0) => {
@@ -150,7 +164,7 @@ impl Coverage {
         }
         println!("whole calls: 0 {}, 19 {}, 20 {}", self.results[0], self.results[19], self.results[20]);
         println!("cells marked '.' can't occur:");
-        for number in 1..18 {
+        for number in of_requests().filter(|number| ![0, 18].contains(number)) {
             let mut reasons: Vec<(&str, Vec<String>)> = Vec::new();
             for op in 1..OPS {
                 if !possible(op as u64, number) {

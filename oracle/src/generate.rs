@@ -1,6 +1,7 @@
 //! Random lists with seeds: plain ones from creation, edges, scrambled well-formed states, and invalid values of every kind in all
 //! of them. The reading's state says which values and ids there are; every answer that counts is the other side's.
 
+use crate::plans::{Seen, Watch, is_stale};
 use crate::reading::{Reading, Slip};
 use crate::requests::*;
 use crate::state::*;
@@ -49,6 +50,10 @@ pub enum Kind {
 pub const KINDS: [(Kind, &str); 4] =
     [(Kind::Plain, "plain"), (Kind::Edges, "edges"), (Kind::Scrambled, "scrambled"), (Kind::LastPage, "last-page")];
 
+fn is_plan(kind: &RowKind) -> bool {
+    matches!(kind, RowKind::Plan { .. })
+}
+
 fn parameters(rng: &mut Rng) -> Vec<u64> {
     let tables = 1 + rng.below(3);
     let frames = if rng.chance(30) { 0 } else { 1 + rng.below(8) };
@@ -80,8 +85,16 @@ fn parameters(rng: &mut Rng) -> Vec<u64> {
     words
 }
 
+/// Which requests a list may hold. The lists that were recorded before there were plans are made without them, so that they stay as they are.
+#[derive(Clone, Copy, Debug, Eq, PartialEq)]
+pub enum Ops {
+    WithoutPlans,
+    All,
+}
+
 /// What a request can name in a state.
 struct View<'a> {
+    ops: Ops,
     s: &'a State,
     rng: &'a mut Rng,
 }
@@ -231,18 +244,19 @@ impl View<'_> {
     }
 
     fn request(&mut self) -> Request {
-        let weights: [(u64, u64); 24] = [
+        let weights: [(u64, u64); 27] = [
             (NEW_OBJECT, 60), (DUPLICATE, 160), (RELEASE, 10), (RETIRE, 2), (RESERVE, 110), (TRIM, 15), (ABORT, 15), (PUBLISH, 170),
             (GET_INFO, 25), (RESOLVE, 25), (REPLACE, 35), (CLOSE, 30), (SCAN, 30), (TRANSFER, 120), (CONSUME, 25), (ROLLBACK, 45),
             (COMMIT, 45), (DIRECT_COMMIT, 60), (DIRECT_ROLLBACK, 25), (STOPPING, 6), (TEARDOWN_START, 2), (TEARDOWN_STEP, 25),
-            (TEARDOWN_FINISH, 10), (TAKE_PAGE, 40),
+            (TEARDOWN_FINISH, 10), (TAKE_PAGE, 40), (MAKE_PLAN, 70), (USE_PLAN, 75), (DROP_PLAN, 20),
         ];
+        let weights = if self.ops == Ops::All { &weights[..] } else { &weights[..24] };
         let total: u64 = weights.iter().map(|(_, weight)| weight).sum();
         let mut op = TAKE_PAGE;
         // Requests that have nothing to work on are mostly passed over.
         for _ in 0..6 {
             let mut roll = self.rng.below(total);
-            for (candidate, weight) in weights {
+            for (candidate, weight) in weights.iter().copied() {
                 if roll < weight {
                     op = candidate;
                     break;
@@ -252,6 +266,15 @@ impl View<'_> {
             if self.useful(op) || self.rng.chance(120) {
                 break;
             }
+        }
+        // Only where the last page comes first and no slot is free has a plan two pages, and such lists are few.
+        let table = &self.s.tables[0];
+        if self.ops == Ops::All && table.detached.first() == Some(&(MAX_PAGES - 1)) && table.free_count == 0 && self.rng.chance(300) {
+            let wide = self.ids(|kind| kind.frames().len() == 2 && !is_stale(self.s, kind));
+            return match self.rng.pick(&wide).copied() {
+                Some(id) => use_plan(id),
+                None => make_plan(0, 64),
+            };
         }
         let tearing: Vec<u64> = (0..self.s.tables.len() as u64)
             .filter(|table| matches!(self.s.tables[*table as usize].life, Life::TearingDown(_)))
@@ -377,8 +400,32 @@ impl View<'_> {
                 };
                 if op == TEARDOWN_STEP { teardown_step(table) } else { teardown_finish(table) }
             }
+            MAKE_PLAN => {
+                let number = self.table();
+                let count = match self.s.tables.get(number as usize) {
+                    // More than the free slots, so that it needs a page.
+                    Some(table) if table.free_count < 64 && self.rng.chance(500) => table.free_count + 1 + self.rng.below(64 - table.free_count),
+                    _ => self.count(),
+                };
+                make_plan(number, count)
+            }
+            USE_PLAN => {
+                let fresh = self.rng.chance(500);
+                use_plan(self.plan(fresh, |stale| !stale))
+            }
+            DROP_PLAN => {
+                let stale = self.rng.chance(600);
+                drop_plan(self.plan(stale, |stale| stale))
+            }
             _ => take_page(self.table()),
         }
+    }
+
+    /// A plan's id, of those that are as wanted if there are any and only they will do.
+    fn plan(&mut self, only: bool, wanted: impl Fn(bool) -> bool) -> u64 {
+        let s = self.s;
+        let good = |kind: &RowKind| is_plan(kind) && wanted(is_stale(s, kind));
+        if only && s.rows.iter().any(|row| good(&row.kind)) { self.id(good) } else { self.id(is_plan) }
     }
 
     fn useful(&self, op: u64) -> bool {
@@ -394,7 +441,8 @@ impl View<'_> {
             NEW_OBJECT => free_row && self.s.objects.iter().any(|object| object.state == NEW),
             DUPLICATE | TRANSFER | CONSUME => free_row && handles(),
             GET_INFO | RESOLVE | REPLACE | CLOSE => handles(),
-            RESERVE => free_row,
+            RESERVE | MAKE_PLAN => free_row,
+            USE_PLAN | DROP_PLAN => row(is_plan),
             RELEASE => row(|kind| matches!(kind, RowKind::Parcel(_))),
             TRIM | ABORT => row(|kind| matches!(kind, RowKind::Reservation { .. })),
             PUBLISH => row(|kind| matches!(kind, RowKind::Reservation { .. })) && row(|kind| matches!(kind, RowKind::Parcel(_))),
@@ -413,6 +461,7 @@ impl View<'_> {
             RowKind::Reservation { slots, .. } => slots.len() as u64,
             RowKind::Claim { entries, .. } => entries.len() as u64,
             RowKind::Parcel(handles) => handles.len() as u64,
+            RowKind::Plan { .. } => 0,
         })
     }
 
@@ -534,13 +583,15 @@ impl View<'_> {
 }
 
 /// A list spoilt on purpose: most of these are malformed.
-fn spoil(rng: &mut Rng, words: &mut Vec<u64>) {
+fn spoil(rng: &mut Rng, words: &mut Vec<u64>, ops: Ops) {
+    let last = OPS as u64 - 1;
+    let edges = if ops == Ops::All { [0, last + 1, u64::MAX, last] } else { [0, 99, u64::MAX, TAKE_PAGE] };
     match rng.below(8) {
         0 => {
             words.pop();
         }
         1 => words[0] ^= 1 << rng.below(20),
-        2 if words.len() > 1 => words[1] = [0, 25, u64::MAX, 24][rng.below(4) as usize],
+        2 if words.len() > 1 => words[1] = edges[rng.below(4) as usize],
         3 => {
             let at = rng.below(words.len() as u64) as usize;
             words[at] = rng.next();
@@ -559,28 +610,28 @@ fn spoil(rng: &mut Rng, words: &mut Vec<u64>) {
 }
 
 /// A request on this state.
-pub fn next_request(rng: &mut Rng, state: &State) -> Request {
-    View { s: state, rng }.request()
+pub fn next_request(rng: &mut Rng, state: &State, ops: Ops) -> Request {
+    View { ops, s: state, rng }.request()
 }
 
-pub fn next_call(rng: &mut Rng, state: &State) -> Call {
-    let mut list = next_request(rng, state).words();
+pub fn next_call(rng: &mut Rng, state: &State, ops: Ops) -> Call {
+    let mut list = next_request(rng, state, ops).words();
     if rng.chance(15) {
-        spoil(rng, &mut list);
+        spoil(rng, &mut list, ops);
     }
     let lent = if rng.chance(5) { rng.below(72) as usize } else { ANSWER + 1 };
     Call { list, lent }
 }
 
 /// Plain steps of the reading, thrown away but for the state.
-fn grown(rng: &mut Rng, params: &[u64], steps: usize) -> State {
+fn grown(rng: &mut Rng, params: &[u64], steps: usize, ops: Ops) -> State {
     let mut reading = Reading::new(Slip::None);
     if reading.start(&Start::Create(params.to_vec())) != 0 {
         unreachable!("the generator's parameters are permitted");
     }
     for _ in 0..steps {
         let Some(state) = reading.state() else { break };
-        let list = next_request(rng, state).words();
+        let list = next_request(rng, state, ops).words();
         let mut answers = vec![0; ANSWER];
         reading.call(&list, &mut answers);
     }
@@ -592,7 +643,7 @@ fn grown(rng: &mut Rng, params: &[u64], steps: usize) -> State {
 
 /// Mixes what document 01 leaves free in a well-formed state.
 fn scramble(rng: &mut Rng, s: &mut State) {
-    // Frames: another place for each page, and some free ones more.
+    // Frames: another place for each page, and some free ones more. Plans hold none until they are made anew.
     s.frames += rng.below(4);
     let mut frames: Vec<u64> = (0..s.frames).collect();
     rng.shuffle(&mut frames);
@@ -660,6 +711,7 @@ fn scramble(rng: &mut Rng, s: &mut State) {
                 }
             }
             RowKind::Parcel(handles) => rng.shuffle(handles),
+            RowKind::Plan { .. } => {}
         }
     }
     for object in &mut s.objects {
@@ -679,6 +731,69 @@ fn scramble(rng: &mut Rng, s: &mut State) {
     }
     s.next = id + 1 + rng.below(5);
     s.row_capacity = (s.row_capacity + rng.below(3)).min(256);
+    for at in 0..s.rows.len() {
+        if let RowKind::Plan { frames, .. } = &mut s.rows[at].kind {
+            frames.clear();
+            other_plan(rng, s, at);
+        }
+    }
+}
+
+/// Another plan in the place of one: a count, and either the snapshot of its table as it is, or any that a state check lets pass. It holds any frames.
+fn other_plan(rng: &mut Rng, s: &mut State, at: usize) {
+    let RowKind::Plan { table, frames, .. } = &s.rows[at].kind else { return };
+    let (number, held) = (*table, frames.clone());
+    let table = &s.tables[number as usize];
+    s.free_frames.extend(held);
+    s.free_frames.sort_unstable();
+    let mut count = if rng.chance(300) { 1 + rng.below(64) } else { 1 + rng.below(5) };
+    if rng.chance(500) && table.free_count < 64 {
+        count = table.free_count + 1 + rng.below(64 - table.free_count);
+    }
+    let how = rng.below(10);
+    let fresh = if how < 7 { table.snapshot(count, Slip::None).ok() } else { None };
+    let mut kept = fresh.unwrap_or_else(|| {
+        // Mostly near the table as it is, so that it can come to this.
+        let epoch = match rng.below(8) {
+            0 => rng.next(),
+            1..=4 => table.epoch,
+            _ => table.epoch.wrapping_add(1 + rng.below(2)),
+        };
+        let free_slots = match rng.below(4) {
+            0 => rng.below(MAX_SLOTS + 1),
+            1 => table.free_count,
+            _ => (table.free_count + rng.below(4)).saturating_sub(rng.below(4)),
+        };
+        let mut kept = Snapshot { epoch, free_slots, pages: Vec::new() };
+        let mut missing = count.saturating_sub(free_slots);
+        while missing > 0 {
+            let page = match rng.below(6) {
+                0 => rng.below(MAX_PAGES),
+                1 => MAX_PAGES - 1,
+                2 if !table.detached.is_empty() => table.detached[0],
+                _ => (table.pages.len() as u64 + rng.below(2)).min(MAX_PAGES - 1),
+            };
+            missing = missing.saturating_sub(page_slots(page));
+            kept.pages.push(page);
+        }
+        kept
+    });
+    if how == 6 {
+        // Other pages, and as many: the page after each.
+        for page in &mut kept.pages {
+            *page = (*page + 1).min(MAX_PAGES - 2);
+        }
+    }
+    if kept.pages.len() > s.free_frames.len() {
+        count = 1;
+        kept = Snapshot { pages: Vec::new(), free_slots: kept.free_slots.max(1), ..kept };
+    }
+    let mut frames: Vec<u64> = Vec::new();
+    while frames.len() < kept.pages.len() {
+        frames.push(s.free_frames.remove(rng.below(s.free_frames.len() as u64) as usize));
+    }
+    frames.sort_unstable();
+    s.rows[at].kind = RowKind::Plan { table: number, count, kept, frames };
 }
 
 /// Fills vacant slots with handles, so that long transfers, parcels and scans find something.
@@ -737,7 +852,8 @@ fn to_the_edge(rng: &mut Rng, s: &mut State) {
             2 => {
                 // No frames, or few.
                 let keep = rng.below(2);
-                let used: Vec<u64> = s.tables.iter().flat_map(|table| table.pages.iter().filter_map(|page| page.frame)).collect();
+                let mut used: Vec<u64> = s.tables.iter().flat_map(|table| table.pages.iter().filter_map(|page| page.frame)).collect();
+                used.extend(s.rows.iter().flat_map(|row| row.kind.frames()));
                 s.frames = used.iter().max().map_or(0, |top| top + 1);
                 s.free_frames.retain(|frame| *frame < s.frames);
                 s.frames += keep;
@@ -774,26 +890,30 @@ fn to_the_edge(rng: &mut Rng, s: &mut State) {
                 }
             }
             _ => {
-                // A table with nothing free: its vacant slots become one-slot-wide reservations' slots, as far as rows go.
                 for number in 0..s.tables.len() {
-                    while !s.tables[number].free.is_empty() && (s.rows.len() as u64) < s.row_capacity && s.next < u64::MAX - 64 && s.tables[number].life == Life::Active {
-                        let take = s.tables[number].free.len().min(64);
-                        let slots: Vec<u64> = s.tables[number].free.drain(..take).collect();
-                        let table = &mut s.tables[number];
-                        table.free_count -= take as u64;
-                        for slot in &slots {
-                            let page = &mut table.pages[(slot / 64) as usize];
-                            let place = &mut page.slots[(slot % 64) as usize];
-                            *place = Slot::Reserved(place.generation());
-                            page.busy += 1;
-                            table.empty.retain(|page| *page != slot / 64);
-                        }
-                        s.rows.push(Row { id: s.next, kind: RowKind::Reservation { table: number as u64, slots } });
-                        s.next += 1;
-                    }
+                    reserve_all(s, number);
                 }
             }
         }
+    }
+}
+
+/// A table with nothing free: its vacant slots become reservations' slots, as far as rows go.
+fn reserve_all(s: &mut State, number: usize) {
+    while !s.tables[number].free.is_empty() && (s.rows.len() as u64) < s.row_capacity && s.next < u64::MAX - 64 && s.tables[number].life == Life::Active {
+        let take = s.tables[number].free.len().min(64);
+        let slots: Vec<u64> = s.tables[number].free.drain(..take).collect();
+        let table = &mut s.tables[number];
+        table.free_count -= take as u64;
+        for slot in &slots {
+            let page = &mut table.pages[(slot / 64) as usize];
+            let place = &mut page.slots[(slot % 64) as usize];
+            *place = Slot::Reserved(place.generation());
+            page.busy += 1;
+            table.empty.retain(|page| *page != slot / 64);
+        }
+        s.rows.push(Row { id: s.next, kind: RowKind::Reservation { table: number as u64, slots } });
+        s.next += 1;
     }
 }
 
@@ -816,17 +936,29 @@ fn widen(rng: &mut Rng, s: &mut State) {
     s.free_frames.extend(s.frames - 3..s.frames);
 }
 
+/// A plan of 64 slots of table 0 in the lowest free frames, if there is room for it: of two pages, where no slot is free and the last page comes first.
+fn plan_64(s: &mut State) {
+    let table = &s.tables[0];
+    let Ok(kept) = table.snapshot(64, Slip::None) else { return };
+    if table.life == Life::Active && (s.rows.len() as u64) < s.row_capacity && s.next < u64::MAX && kept.pages.len() <= s.free_frames.len() {
+        let frames = s.free_frames.drain(..kept.pages.len()).collect();
+        s.rows.push(Row { id: s.next, kind: RowKind::Plan { table: 0, count: 64, kept, frames } });
+        s.next += 1;
+    }
+}
+
 pub struct Sequence {
     pub start: Start,
     pub calls: Vec<Call>,
     /// The reading's trace.
     pub trace: Trace,
+    pub plans: Seen,
 }
 
 /// A state some requests old, changed as its kind says.
-fn old_state(rng: &mut Rng, kind: Kind, params: &[u64]) -> State {
+fn old_state(rng: &mut Rng, kind: Kind, params: &[u64], ops: Ops) -> State {
     let steps = 20 + rng.below(120) as usize;
-    let mut state = grown(rng, params, steps);
+    let mut state = grown(rng, params, steps, ops);
     match kind {
         Kind::Plain => {}
         Kind::Edges => {
@@ -844,7 +976,23 @@ fn old_state(rng: &mut Rng, kind: Kind, params: &[u64]) -> State {
                 to_the_edge(rng, &mut state);
             }
         }
-        Kind::LastPage => widen(rng, &mut state),
+        Kind::LastPage => {
+            widen(rng, &mut state);
+            if ops == Ops::All && rng.chance(600) {
+                reserve_all(&mut state, 0);
+                if rng.chance(400) {
+                    plan_64(&mut state);
+                }
+            }
+        }
+    }
+    // What was changed makes most plans stale: others for some of them.
+    if kind != Kind::Plain {
+        for at in 0..state.rows.len() {
+            if is_plan(&state.rows[at].kind) && rng.chance(500) {
+                other_plan(rng, &mut state, at);
+            }
+        }
     }
     state
 }
@@ -852,7 +1000,7 @@ fn old_state(rng: &mut Rng, kind: Kind, params: &[u64]) -> State {
 /// A state that any requests can have left.
 pub fn any_state(rng: &mut Rng, kind: Kind) -> State {
     let params = parameters(rng);
-    old_state(rng, kind, &params)
+    old_state(rng, kind, &params, Ops::All)
 }
 
 /// The words of a state, its rows in any places.
@@ -862,17 +1010,17 @@ pub fn words_of(rng: &mut Rng, state: &State) -> Vec<u64> {
     words::encode_with(state, |rank| places[rank])
 }
 
-pub fn sequence(seed: u64, kind: Kind, length: usize) -> Sequence {
-    sequence_with(seed, kind, length, Texts::Each)
+pub fn sequence(seed: u64, kind: Kind, length: usize, ops: Ops) -> Sequence {
+    sequence_with(seed, kind, length, ops, Texts::Each)
 }
 
-pub fn sequence_with(seed: u64, kind: Kind, length: usize, texts: Texts) -> Sequence {
+pub fn sequence_with(seed: u64, kind: Kind, length: usize, ops: Ops, texts: Texts) -> Sequence {
     let mut rng = Rng::new(seed ^ (kind as u64) << 56);
     let params = parameters(&mut rng);
     let start = match kind {
         Kind::Plain => Start::Create(params),
         _ => {
-            let state = old_state(&mut rng, kind, &params);
+            let state = old_state(&mut rng, kind, &params, ops);
             let words = words_of(&mut rng, &state);
             if let Err(what) = words::decode(&words) {
                 unreachable!("the generator made a state that is not well formed (seed {seed}, {kind:?}): {what}");
@@ -883,16 +1031,24 @@ pub fn sequence_with(seed: u64, kind: Kind, length: usize, texts: Texts) -> Sequ
     let mut reading = Reading::new(Slip::None);
     let mut trace = Trace { start: reading.start(&start), text: reading.text().unwrap_or_default(), ..Trace::default() };
     let mut calls = Vec::new();
+    let mut watch = Watch::default();
     for at in 0..length {
         let Some(state) = reading.state() else { break };
-        let call = next_call(&mut rng, state);
+        let call = next_call(&mut rng, state, ops);
+        let requests = read_list(&call.list).unwrap_or_default();
+        if let [request] = requests.as_slice() {
+            watch.before(state, request);
+        }
         let mut answers = vec![FILL; call.lent];
         let result = reading.call(&call.list, &mut answers);
+        if let ([request], Some(state), 0) = (requests.as_slice(), reading.state(), result) {
+            watch.after(state, request, &answers);
+        }
         let text = if texts == Texts::Each || at + 1 == length { reading.text().unwrap_or_default() } else { String::new() };
         trace.steps.push(Step { result, answers, text });
         calls.push(call);
     }
-    Sequence { start, calls, trace }
+    Sequence { start, calls, trace, plans: watch.seen }
 }
 
 /// The calls kept, with the ids and values that their answers give now in place of those that they gave in the whole list.
@@ -927,10 +1083,10 @@ fn kept_calls(start: &Start, calls: &[Call], whole: &Trace, kept: &[usize]) -> V
             {
                 let (old, new) = (&step.answers, &answers);
                 match request.op() {
-                    NEW_OBJECT | DUPLICATE | TRANSFER | CONSUME => {
+                    NEW_OBJECT | DUPLICATE | TRANSFER | CONSUME | MAKE_PLAN => {
                         now.insert((false, old[1]), new[1]);
                     }
-                    RESERVE => {
+                    RESERVE | USE_PLAN => {
                         now.insert((false, old[1]), new[1]);
                         for place in 3..3 + old[2].min(64) as usize {
                             now.insert((true, old[place]), new[place]);

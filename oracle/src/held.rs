@@ -3,10 +3,10 @@
 //! reading), from two lots of words of one state, each cut into calls at random places.
 
 use crate::coverage::{Coverage, possible_while_held};
-use crate::generate::{Kind, Rng, any_state, next_request, words_of};
+use crate::generate::{Kind, Ops, Rng, any_state, next_request, words_of};
 use crate::reading::{Reading, Slip};
 use crate::requests::*;
-use crate::state::{self, Life, Slot, State};
+use crate::state::{self, Life, RowKind, Slot, State};
 use crate::subject::{Call, FILL, Runs, Start, Subject, Texts, Trace};
 use crate::tally::Tally;
 use crate::words;
@@ -53,7 +53,7 @@ fn plain(request: &Request, held: u64) -> Request {
 /// The answer of the plain run: the ids that answers give are word 1 of these requests.
 fn plain_answer(request: &Request, answer: &[u64], held: u64) -> Vec<u64> {
     let mut answer = answer.to_vec();
-    if [NEW_OBJECT, DUPLICATE, RESERVE, TRANSFER, CONSUME].contains(&request.op()) && answer[0] == 0 {
+    if [NEW_OBJECT, DUPLICATE, RESERVE, TRANSFER, CONSUME, MAKE_PLAN, USE_PLAN].contains(&request.op()) && answer[0] == 0 {
         answer[1] = lower(answer[1], held);
     }
     answer
@@ -84,7 +84,7 @@ fn permitted(request: &Request, table: u64, values: &[u64], held: u64) -> bool {
 /// "It wants a row if it gives 1 with frames enough for the pages it needs, an id if it gives 12." The state is the one it was refused in.
 fn wants(request: &Request, number: u64, state: &State) -> bool {
     let lacks_frames = || {
-        request.op() == RESERVE
+        [RESERVE, MAKE_PLAN].contains(&request.op())
             && state.tables.get(request.get(TABLE) as usize).is_some_and(|table| {
                 table.pages_needed(request.get(COUNT), Slip::None).is_ok_and(|pages| pages.len() > state.free_frames.len())
             })
@@ -100,6 +100,12 @@ pub struct Pair {
     transfer: Request,
     list: Vec<Request>,
     commits: bool,
+    /// The plans that are open after the list, by the held run's ids.
+    plans: Vec<u64>,
+}
+
+fn plans_of(state: &State) -> Vec<u64> {
+    state.rows.iter().filter(|row| matches!(row.kind, RowKind::Plan { .. })).map(|row| row.id).collect()
 }
 
 /// The transfer of moves, accepted, and the list, made along the reading's held run. None if nothing can be moved in the state.
@@ -175,7 +181,7 @@ fn pair(seed: u64) -> Option<Pair> {
     let mut list = Vec::new();
     for _ in 0..4 * length {
         let now = reading.state()?;
-        let request = next_request(&mut rng, now);
+        let request = next_request(&mut rng, now, Ops::All);
         if !permitted(&request, table, &values, id) {
             continue;
         }
@@ -189,7 +195,8 @@ fn pair(seed: u64) -> Option<Pair> {
             break;
         }
     }
-    (!list.is_empty()).then_some(Pair { from, table, values, transfer, list, commits })
+    let plans = plans_of(reading.state()?);
+    (!list.is_empty()).then_some(Pair { from, table, values, transfer, list, commits, plans })
 }
 
 /// Requests cut into calls at random places, each with one answer word more than it needs.
@@ -260,6 +267,45 @@ struct Seen {
     there: u64,
     /// Transfers of more than 32 moves.
     long: u64,
+    /// Plans compared after the list and while the transfer is held: fresh, and stale.
+    plans: [u64; 2],
+}
+
+/// Whether a plan is stale after some requests: whether using it then gives 21. At the end of the epoch the Rust stops where it has found the plan fresh.
+fn stale(subject: &mut dyn Runs, from: &Start, requests: &[Request], plan: u64) -> Result<bool, String> {
+    let mut list: Vec<u64> = requests.iter().flat_map(Request::words).collect();
+    list.extend(use_plan(plan).words());
+    let lent = (requests.len() + 1) * ANSWER;
+    let trace = subject.run_with(from, &[Call { list, lent }], Texts::None);
+    match (stop(&[&trace]), trace.steps.first()) {
+        (Some(place), _) if explained(place) => Ok(false),
+        (None, Some(step)) if step.result == 0 => Ok(step.answers[lent - ANSWER] == 21),
+        _ => Err(format!("plan {plan} could not be used")),
+    }
+}
+
+/// "A held transfer makes no plan stale": a plan of the first state is as stale as it was with the transfer prepared, and with it rolled back; one that is open after the list as it
+/// is in the plain run.
+fn compare_plans(pair: &Pair, from: [&Start; 2], subject: &mut dyn Runs, lists: [&[Request]; 2], seen: &mut Seen) -> Vec<String> {
+    let held = pair.from.next;
+    let prepared = [pair.transfer.clone()];
+    let ended = [pair.transfer.clone(), rollback(held)];
+    let mut pairs: Vec<(u64, &[Request], u64, &[Request], &str)> = Vec::new();
+    for id in plans_of(&pair.from) {
+        pairs.push((id, &prepared, id, &[], "with the transfer prepared"));
+        pairs.push((id, &ended, id, &[], "with the transfer rolled back"));
+    }
+    for id in &pair.plans {
+        pairs.push((*id, lists[0], lower(*id, held), lists[1], "after the list"));
+    }
+    let mut faults = Vec::new();
+    for (id_h, list_h, id_p, list_p, when) in pairs {
+        match (stale(subject, from[0], list_h, id_h), stale(subject, from[1], list_p, id_p)) {
+            (Ok(left), Ok(right)) if left == right => seen.plans[usize::from(left)] += 1,
+            (left, right) => faults.push(format!("plan {id_h} is stale {when}: held {left:?}, plain {right:?}")),
+        }
+    }
+    faults
 }
 
 fn compare(pair: &Pair, seed: u64, subject: &mut dyn Runs, mistake: Mistake, seen: &mut Seen) -> Shown {
@@ -288,6 +334,7 @@ fn compare(pair: &Pair, seed: u64, subject: &mut dyn Runs, mistake: Mistake, see
         }
         p.extend(values.iter().map(|value| close(pair.table, *value)));
     }
+    let plans = compare_plans(pair, [&from_h, &from_p], subject, [&h[..h.len() - 1], &p[..compared]], seen);
     let (calls_h, calls_p) = (cut(&mut rng, &h), cut(&mut rng, &p));
     let run_h = subject.run_with(&from_h, &calls_h, Texts::Last);
     // After a commit, what the parcel holds is given back too: then the whole states are to be the same.
@@ -312,7 +359,7 @@ fn compare(pair: &Pair, seed: u64, subject: &mut dyn Runs, mistake: Mistake, see
     };
     seen.coverage.results[0] += (calls_h.len() + calls_p.len()) as u64;
     seen.long += u64::from(pair.values.len() > 32);
-    let mut faults = Vec::new();
+    let mut faults = plans;
     if left[0][..2] != [0, held] || left[0][2..].iter().any(|word| *word != 0) {
         faults.push(format!("the held transfer answers {:x?}", &left[0][..3]));
     }
@@ -403,10 +450,10 @@ pub fn run(settings: &Settings, subject: &mut dyn Runs, tally: &mut Tally) {
         tally.line(unseen == 0 && strange == 0, &format!("held and plain run on {name}: coverage, {unseen} possible cells unseen, {strange} impossible cells seen"));
     }
     tally.line(
-        wrong == 0 && compared.iter().all(|count| *count > 0) && seen.there > 0 && seen.long > 0,
+        wrong == 0 && compared.iter().chain(&seen.plans).all(|count| *count > 0) && seen.there > 0 && seen.long > 0,
         &format!(
-            "held and plain run on {name}: {} pairs with a rollback (whole end state), {} with a commit (every table; the whole state once the parcel is released), {} transfers of more than 32 moves; {} requests between, {} of them accepted in the held transfer's table, all 72 words of each answer compared with ids one lower: {wrong} differ, {stopped} not comparable (explained violations)",
-            compared[0], compared[1], seen.long, seen.coverage.requests, seen.there
+            "held and plain run on {name}: {} pairs with a rollback (whole end state), {} with a commit (every table; the whole state once the parcel is released), {} transfers of more than 32 moves; {} requests between, {} of them accepted in the held transfer's table, all 72 words of each answer compared with ids one lower; {} plans fresh in both runs and {} stale in both: {wrong} differ, {stopped} not comparable (explained violations)",
+            compared[0], compared[1], seen.long, seen.coverage.requests, seen.there, seen.plans[0], seen.plans[1]
         ),
     );
     // A comparison that can't fail shows nothing.
@@ -419,7 +466,7 @@ pub fn run(settings: &Settings, subject: &mut dyn Runs, tally: &mut Tally) {
 
 /// Wrong readings that the two runs must tell apart.
 pub fn slips(seed: u64, tally: &mut Tally) {
-    for slip in [Slip::CommitPutsSlotsBackwards, Slip::BusyCountedTwice] {
+    for slip in [Slip::CommitPutsSlotsBackwards, Slip::BusyCountedTwice, Slip::HeldSlotsCountAsFree] {
         let settings = Settings { name: "a wrong reading", seed, pairs: 400, covers: false };
         let (compared, wrong, _) = pairs(&settings, &mut Reading::new(slip), Mistake::None, &mut Seen::default(), false);
         tally.line(wrong > 0, &format!("held and plain run on a wrong reading ({slip:?}): {wrong} of {} pairs differ", compared[0] + compared[1]));

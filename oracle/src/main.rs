@@ -365,14 +365,14 @@ fn slips(tally: &mut Tally, dir: &Path) -> Result<(), String> {
 
 #[cfg(rust_sources)]
 fn shrink(tally: &mut Tally, seed: u64) -> Result<(), String> {
-    use oracle::generate::{Kind, last_call, sequence, shrink};
+    use oracle::generate::{Kind, Ops, last_call, sequence, shrink};
     use oracle::subject::difference;
     let mut rust = oracle::oracle::Oracle::default();
     for slip in [Slip::RollbackByPlaceAmongMoves, Slip::ReplaceLeavesHighMark, Slip::CommitPutsSlotsBackwards] {
         let mut reading = Reading::new(slip);
         let mut line = (false, format!("{slip:?}: not found by 400 random lists"));
         for seed in seed..seed + 400 {
-            let made = sequence(seed, Kind::Plain, 120);
+            let made = sequence(seed, Kind::Plain, 120, Ops::All);
             if difference(&rust.run(&made.start, &made.calls), &reading.run(&made.start, &made.calls)).is_some() {
                 let short = shrink(&mut rust, &mut reading, &made.start, &made.calls);
                 let still = difference(&rust.run(&made.start, &short), &reading.run(&made.start, &short)).is_some();

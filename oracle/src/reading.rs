@@ -1,4 +1,4 @@
-//! Document 01, read directly on plain lists: no links, no tokens, nothing of the Rust. It is compared with the oracle, and the
+//! Document 01 and the first request of document 02, read directly on plain lists: no links, no tokens, nothing of the Rust. It is compared with the oracle, and the
 //! recorded lists are replayed against it where there is no Rust. A `Slip` makes it wrong on purpose.
 
 use crate::requests::{self as rq, ANSWER, Request, read_list};
@@ -30,9 +30,25 @@ pub enum Slip {
     RefusedCopiesStayCounted,
     StoppingCursorKeptAtEnd,
     LastPageHas64Slots,
+    PlanAttachesItsPages,
+    PlanTakesItsSlots,
+    StalePlanLosesItsFrames,
+    PlanFramesHighestFirst,
+    StaleBeforeRetired,
+    UseKeepsThePlansId,
+    UseLeavesThePlan,
+    UseWantsARow,
+    UseWantsFreeFrames,
+    IdBeforeStale,
+    FullTableAtUse,
+    DropRefusedWhereNotActive,
+    PlanStopsTeardown,
+    StaleByEpochAlone,
+    StaleByFreeSlotsAlone,
+    HeldSlotsCountAsFree,
 }
 
-pub const SLIPS: [(Slip, &str); 15] = [
+pub const SLIPS: [(Slip, &str); 31] = [
     (Slip::RollbackByPlaceAmongMoves, "rollback takes a moved handle by its place among the moves"),
     (Slip::ScanStopsAt255, "a scan stops after 255 slots"),
     (Slip::NewPageDownward, "a new page is published downward"),
@@ -48,6 +64,22 @@ pub const SLIPS: [(Slip, &str); 15] = [
     (Slip::RefusedCopiesStayCounted, "copies made before a refused one stay counted"),
     (Slip::StoppingCursorKeptAtEnd, "the stopping cursor stays where the walk ended"),
     (Slip::LastPageHas64Slots, "page 262,143 has 64 slots"),
+    (Slip::PlanAttachesItsPages, "a plan attaches its pages at once"),
+    (Slip::PlanTakesItsSlots, "a plan takes slots off the free order"),
+    (Slip::StalePlanLosesItsFrames, "a stale plan that is used loses its frames"),
+    (Slip::PlanFramesHighestFirst, "a plan's frames are used highest first"),
+    (Slip::StaleBeforeRetired, "using a stale plan gives 21 before 16"),
+    (Slip::UseKeepsThePlansId, "a plan that is used keeps its id"),
+    (Slip::UseLeavesThePlan, "a plan that is used stays in the book"),
+    (Slip::UseWantsARow, "using a plan wants a further row"),
+    (Slip::UseWantsFreeFrames, "a snapshot looks at the free frames"),
+    (Slip::IdBeforeStale, "using a stale plan gives 12 before 21"),
+    (Slip::FullTableAtUse, "using a plan gives 15 where a snapshot is refused"),
+    (Slip::DropRefusedWhereNotActive, "dropping a plan is refused where its table is not active"),
+    (Slip::PlanStopsTeardown, "a plan stops a teardown"),
+    (Slip::StaleByEpochAlone, "a plan is stale by the epoch alone"),
+    (Slip::StaleByFreeSlotsAlone, "a plan is stale by the number of free slots alone"),
+    (Slip::HeldSlotsCountAsFree, "a snapshot counts the slots of open claims as free"),
 ];
 
 pub struct Reading {
@@ -56,6 +88,14 @@ pub struct Reading {
 }
 
 type Answer = Result<Vec<u64>, u64>;
+
+/// A plan's row.
+struct Plan {
+    table: usize,
+    count: u64,
+    kept: Snapshot,
+    frames: Vec<u64>,
+}
 
 fn contains(all: u64, some: u64) -> bool {
     all & some == some
@@ -165,6 +205,26 @@ impl Table {
             needed.push(page);
         }
         Ok(needed)
+    }
+
+    /// The snapshot for a reservation of this many slots: "a snapshot looks at the table alone".
+    pub(crate) fn snapshot(&self, count: u64, slip: Slip) -> Result<Snapshot, u64> {
+        let pages = self.pages_needed(count, slip)?;
+        let mut free_slots = self.free_count;
+        if slip == Slip::HeldSlotsCountAsFree {
+            free_slots += self.pages.iter().flat_map(|page| &page.slots).filter(|slot| matches!(slot, Slot::Moving(_))).count() as u64;
+        }
+        Ok(Snapshot { epoch: self.epoch, free_slots, pages })
+    }
+
+    /// "It is stale exactly when a snapshot for its count taken now would differ or be refused."
+    pub(crate) fn stale(&self, count: u64, kept: &Snapshot, slip: Slip) -> bool {
+        match self.snapshot(count, slip) {
+            Ok(now) if slip == Slip::StaleByEpochAlone => now.epoch != kept.epoch,
+            Ok(now) if slip == Slip::StaleByFreeSlotsAlone => now.free_slots != kept.free_slots,
+            Ok(now) => now != *kept,
+            Err(_) => true,
+        }
     }
 
     fn slots_of(&self, page: u64, slip: Slip) -> u64 {
@@ -309,6 +369,59 @@ impl State {
         }
         Err(18)
     }
+    fn plan(&self, id: u64) -> Result<(usize, Plan), u64> {
+        for (at, row) in self.rows.iter().enumerate() {
+            if let RowKind::Plan { table, count, kept, frames } = &row.kind
+                && row.id == id
+            {
+                return Ok((at, Plan { table: *table as usize, count: *count, kept: kept.clone(), frames: frames.clone() }));
+            }
+        }
+        Err(18)
+    }
+
+    /// What a reservation and a plan ask for, in the order of a reservation: 16, 17, 13, 15, 1, 12. The table and the snapshot.
+    fn room(&self, request: &Request, slip: Slip) -> Result<(usize, Snapshot), u64> {
+        let number = self.table_of(request)?;
+        let count = request.get(rq::COUNT);
+        self.tables[number].active()?;
+        if count == 0 {
+            return Err(17);
+        }
+        if count > 64 {
+            return Err(13);
+        }
+        let snapshot = self.tables[number].snapshot(count, slip)?;
+        if self.free_frames.len() < snapshot.pages.len() {
+            return Err(1);
+        }
+        self.free_row()?;
+        self.ids_left()?;
+        Ok((number, snapshot))
+    }
+    /// The lowest free frames, as many as the snapshot needs.
+    fn take_frames(&mut self, snapshot: &Snapshot) -> Vec<u64> {
+        self.free_frames.drain(..snapshot.pages.len()).collect()
+    }
+    fn give_back(&mut self, frames: &[u64]) {
+        self.free_frames.extend(frames);
+        self.free_frames.sort_unstable();
+    }
+    /// The pages come in, and the first free slots are Reserved under the next id, in a row that stands last. The answer.
+    fn reserve(&mut self, number: usize, count: u64, pages: &[u64], frames: &[u64], slip: Slip) -> Vec<u64> {
+        let id = self.spend();
+        let table = &mut self.tables[number];
+        table.attach(pages, frames, slip);
+        let mut words = vec![id, count];
+        let mut slots = Vec::new();
+        for _ in 0..count {
+            let (slot, generation) = table.take_free();
+            slots.push(slot);
+            words.push(encode(table.mask, slot, generation));
+        }
+        self.rows.push(Row { id, kind: RowKind::Reservation { table: number as u64, slots } });
+        words
+    }
 
     fn abort_slots(&mut self, table: usize, slots: &[u64]) {
         let table = &mut self.tables[table];
@@ -441,34 +554,79 @@ impl State {
                 Ok(vec![])
             }
             rq::RESERVE => {
-                let number = self.table_of(request)?;
+                let (number, snapshot) = self.room(request, slip)?;
+                let frames = self.take_frames(&snapshot);
+                Ok(self.reserve(number, request.get(rq::COUNT), &snapshot.pages, &frames, slip))
+            }
+            rq::MAKE_PLAN => {
+                let (number, kept) = self.room(request, slip)?;
                 let count = request.get(rq::COUNT);
-                self.tables[number].active()?;
-                if count == 0 {
-                    return Err(17);
+                let frames = self.take_frames(&kept);
+                if slip == Slip::PlanAttachesItsPages {
+                    self.tables[number].attach(&kept.pages, &frames, slip);
                 }
-                if count > 64 {
-                    return Err(13);
+                if slip == Slip::PlanTakesItsSlots {
+                    for _ in 0..count.min(self.tables[number].free_count) {
+                        self.tables[number].take_free();
+                    }
                 }
-                let pages = self.tables[number].pages_needed(count, slip)?;
-                if self.free_frames.len() < pages.len() {
-                    return Err(1);
-                }
-                self.free_row()?;
-                self.ids_left()?;
-                let frames: Vec<u64> = self.free_frames.drain(..pages.len()).collect();
                 let id = self.spend();
-                let table = &mut self.tables[number];
-                table.attach(&pages, &frames, slip);
-                let mut words = vec![id, count];
-                let mut slots = Vec::new();
-                for _ in 0..count {
-                    let (slot, generation) = table.take_free();
-                    slots.push(slot);
-                    words.push(encode(table.mask, slot, generation));
+                let held = frames.len() as u64;
+                self.rows.push(Row { id, kind: RowKind::Plan { table: number as u64, count, kept, frames } });
+                Ok(vec![id, count, held])
+            }
+            rq::USE_PLAN => {
+                let (at, plan) = self.plan(request.get(rq::ID))?;
+                let table = &self.tables[plan.table];
+                let stale = table.stale(plan.count, &plan.kept, slip);
+                if slip == Slip::StaleBeforeRetired && stale {
+                    return Err(21);
                 }
-                self.rows.push(Row { id, kind: RowKind::Reservation { table: number as u64, slots } });
+                table.active()?;
+                if slip == Slip::IdBeforeStale {
+                    self.ids_left()?;
+                }
+                if slip == Slip::FullTableAtUse {
+                    table.snapshot(plan.count, slip)?;
+                }
+                if slip == Slip::UseWantsFreeFrames && self.free_frames.len() < plan.frames.len() {
+                    return Err(21);
+                }
+                if stale {
+                    if slip == Slip::StalePlanLosesItsFrames {
+                        self.rows.remove(at);
+                        self.give_back(&plan.frames);
+                    }
+                    return Err(21);
+                }
+                if slip == Slip::UseWantsARow {
+                    self.free_row()?;
+                }
+                self.ids_left()?;
+                if slip != Slip::UseLeavesThePlan {
+                    self.rows.remove(at);
+                }
+                let mut frames = plan.frames.clone();
+                if slip == Slip::PlanFramesHighestFirst {
+                    frames.reverse();
+                }
+                let mut words = self.reserve(plan.table, plan.count, &plan.kept.pages, &frames, slip);
+                if slip == Slip::UseKeepsThePlansId
+                    && let Some(row) = self.rows.last_mut()
+                {
+                    row.id = request.get(rq::ID);
+                    words[0] = row.id;
+                }
                 Ok(words)
+            }
+            rq::DROP_PLAN => {
+                let (at, plan) = self.plan(request.get(rq::ID))?;
+                if slip == Slip::DropRefusedWhereNotActive {
+                    self.tables[plan.table].active()?;
+                }
+                self.rows.remove(at);
+                self.give_back(&plan.frames);
+                Ok(vec![])
             }
             rq::TRIM => {
                 let (at, table, slots) = self.reservation(request.get(rq::ID))?;
@@ -651,6 +809,7 @@ impl State {
                 self.tables[number].active()?;
                 let open = self.rows.iter().any(|row| match &row.kind {
                     RowKind::Reservation { table, .. } | RowKind::Claim { table, .. } => *table == number as u64,
+                    RowKind::Plan { table, .. } => *table == number as u64 && slip == Slip::PlanStopsTeardown,
                     RowKind::Parcel(_) => false,
                 });
                 if open {

@@ -1,7 +1,7 @@
 //! Request lists in words (docs/formats.md): reading, and building for tests. Number 19 is decided here, not by the Rust.
 
 pub const ANSWER: usize = 72;
-pub const OPS: usize = 25;
+pub const OPS: usize = 28;
 
 pub const NEW_OBJECT: u64 = 1;
 pub const DUPLICATE: u64 = 2;
@@ -27,12 +27,15 @@ pub const TEARDOWN_START: u64 = 21;
 pub const TEARDOWN_STEP: u64 = 22;
 pub const TEARDOWN_FINISH: u64 = 23;
 pub const TAKE_PAGE: u64 = 24;
+pub const MAKE_PLAN: u64 = 25;
+pub const USE_PLAN: u64 = 26;
+pub const DROP_PLAN: u64 = 27;
 
 pub const NAMES: [&str; OPS] = [
     "-", "new object", "duplicate", "release parcel", "retire object", "reserve", "trim", "abort", "publish", "get_info",
     "resolve", "replace", "close", "scan_handles", "prepare transfer", "prepare consumption", "rollback", "commit",
     "direct commit", "direct rollback", "remove_stopping_owner", "teardown start", "teardown step", "teardown finish",
-    "take_empty_page",
+    "take_empty_page", "make plan", "use plan", "drop plan",
 ];
 
 // Bits of a record.
@@ -60,6 +63,7 @@ pub const FIELDS: usize = 18;
 pub const MUST_MAY: [(u64, u64); OPS] = [
     (0, 0), (101, 0), (51, 0), (129, 0), (5, 0), (11, 0), (137, 0), (129, 0), (137, 0), (19, 0), (563, 0), (51, 0), (19, 0),
     (2051, 0), (4107, 196_608), (1587, 0), (129, 0), (129, 0), (385, 0), (385, 0), (2051, 0), (3, 0), (3, 0), (3, 0), (3, 0),
+    (11, 0), (129, 0), (129, 0),
 ];
 pub const TRANSFER_ITEM: (u64, u64) = (49, 57_344);
 pub const PARCEL_ITEM: (u64, u64) = (129, 0);
@@ -272,4 +276,13 @@ pub fn teardown_finish(table: u64) -> Request {
 }
 pub fn take_page(table: u64) -> Request {
     Request::new(TAKE_PAGE).with(TABLE, table)
+}
+pub fn make_plan(table: u64, count: u64) -> Request {
+    Request::new(MAKE_PLAN).with(TABLE, table).with(COUNT, count)
+}
+pub fn use_plan(id: u64) -> Request {
+    Request::new(USE_PLAN).with(ID, id)
+}
+pub fn drop_plan(id: u64) -> Request {
+    Request::new(DROP_PLAN).with(ID, id)
 }

@@ -276,6 +276,7 @@ pub fn text(words: &[u64]) -> Result<String, String> {
         }
     }
 
+    let mut planned = 0;
     for rank in 0..rows_used {
         let place = words.at(index + 2 * rank)?;
         if place >= r {
@@ -286,7 +287,7 @@ pub fn text(words: &[u64]) -> Result<String, String> {
             return wrong(format!("the rank of row {place} is not its position in the row index"));
         }
         let count = words.at(row + 3)?;
-        if count == 0 || count > 64 {
+        if (count == 0 && words.at(row + 1)? != 4) || count > 64 {
             return wrong(format!("row {place} has count {count}"));
         }
         out += &format!("row {rank} id {} ", words.at(row)?);
@@ -317,9 +318,37 @@ pub fn text(words: &[u64]) -> Result<String, String> {
                     out += &format!(" {}/{:x}/{}", words.at(e + 2)?, words.at(e + 3)?, words.at(e + 4)?);
                 }
             }
+            4 => {
+                let (mut pages, mut frames) = (Runs::default(), Runs::default());
+                for position in 0..count {
+                    let frame = words.at(row + 6 + 6 * position + 1)?;
+                    if frame >= f || words.at(owners + frame)? != 16 * 262_144 + 1 + place {
+                        return wrong(format!("row {place}: frame {frame} is not held by it"));
+                    }
+                    pages.add(words.at(row + 6 + 6 * position)?);
+                    frames.add(frame);
+                }
+                planned += count;
+                out += &format!(
+                    "plan table {} count {} epoch {} free {} pages {} frames {}",
+                    words.at(row + 2)?,
+                    words.at(row + 4)?,
+                    words.at(row + 5)?,
+                    words.at(row + 6 + 2)?,
+                    pages.finish(),
+                    frames.finish()
+                );
+            }
             other => return wrong(format!("row {place} is of kind {other}")),
         }
         out.push('\n');
+    }
+    let mut held = 0;
+    for frame in 0..f {
+        held += u64::from(words.at(owners + frame)? > 16 * 262_144);
+    }
+    if held != planned {
+        return wrong(format!("{held} frames are said to be held by plans, {planned} are"));
     }
     out += "end\n";
     Ok(out)

@@ -89,11 +89,21 @@ impl ClaimEntry {
     }
 }
 
+/// What a reservation finds in its table, and the pages that it would attach, in order.
+#[derive(Clone, Debug, Eq, PartialEq)]
+pub struct Snapshot {
+    pub epoch: u64,
+    pub free_slots: u64,
+    pub pages: Vec<u64>,
+}
+
 #[derive(Clone, Debug, Eq, PartialEq)]
 pub enum RowKind {
     Reservation { table: u64, slots: Vec<u64> },
     Claim { table: u64, entries: Vec<ClaimEntry> },
     Parcel(Vec<Handle>),
+    /// Frames, rising, held for a reservation of so many slots, with the snapshot kept when they were taken.
+    Plan { table: u64, count: u64, kept: Snapshot, frames: Vec<u64> },
 }
 
 #[derive(Clone, Debug, Eq, PartialEq)]
@@ -149,10 +159,20 @@ impl State {
             match &row.kind {
                 RowKind::Claim { entries, .. } => all.extend(entries.iter().map(ClaimEntry::handle)),
                 RowKind::Parcel(handles) => all.extend(handles),
-                RowKind::Reservation { .. } => {}
+                RowKind::Reservation { .. } | RowKind::Plan { .. } => {}
             }
         }
         all
+    }
+}
+
+impl RowKind {
+    /// The frames that a row holds.
+    pub fn frames(&self) -> &[u64] {
+        match self {
+            RowKind::Plan { frames, .. } => frames,
+            _ => &[],
+        }
     }
 }
 
@@ -313,6 +333,12 @@ pub fn text(state: &State) -> String {
                     out.push(' ');
                     handle_text(&mut out, *handle);
                 }
+            }
+            RowKind::Plan { table, count, kept, frames } => {
+                let _ = write!(out, "plan table {table} count {count} epoch {} free {} pages ", kept.epoch, kept.free_slots);
+                runs(&mut out, &kept.pages);
+                out.push_str(" frames ");
+                runs(&mut out, frames);
             }
         }
         out.push('\n');
@@ -552,6 +578,12 @@ pub fn parse(text: &str) -> Result<State, String> {
                         }
                         RowKind::Parcel(handles)
                     }
+                    "plan" => RowKind::Plan {
+                        table: line.dec(6)?,
+                        count: line.dec(8)?,
+                        kept: Snapshot { epoch: line.dec(10)?, free_slots: line.dec(12)?, pages: line.runs(line.word(14)?)? },
+                        frames: line.runs(line.word(16)?)?,
+                    },
                     _ => return line.fail("unknown kind of row"),
                 };
                 state.rows.push(Row { id, kind });

@@ -57,6 +57,8 @@ pub trait Subject {
 pub enum Texts {
     Each,
     Last,
+    /// Answers alone.
+    None,
 }
 
 /// Runs whole traces. Every `Subject` does so step by step; the oracle does it on a thread of its own.
@@ -84,7 +86,10 @@ pub fn run_into<S: Subject + ?Sized>(
     mut keep: impl FnMut(&mut dyn FnMut(&mut Trace)),
 ) {
     let result = subject.start(start);
-    let text = subject.text().unwrap_or_else(|error| format!("broken: {error}\n"));
+    let shown = |subject: &mut S, wanted: bool| {
+        if wanted { subject.text().unwrap_or_else(|error| format!("broken: {error}\n")) } else { String::new() }
+    };
+    let text = shown(subject, texts != Texts::None);
     keep(&mut |trace| {
         trace.start = result;
         trace.text = text.clone();
@@ -95,10 +100,7 @@ pub fn run_into<S: Subject + ?Sized>(
     for (at, call) in calls.iter().enumerate() {
         let mut answers = vec![FILL; call.lent];
         let result = subject.call(&call.list, &mut answers);
-        let text = match texts {
-            Texts::Last if at + 1 < calls.len() => String::new(),
-            _ => subject.text().unwrap_or_else(|error| format!("broken: {error}\n")),
-        };
+        let text = shown(subject, texts == Texts::Each || texts == Texts::Last && at + 1 == calls.len());
         let mut step = Some(Step { result, answers, text });
         keep(&mut |trace| trace.steps.extend(step.take()));
     }

@@ -10,6 +10,8 @@ pub const SLOT: usize = 6;
 pub const FRAME: usize = 384;
 pub const OBJECT: usize = 8;
 pub const ROW: usize = 390;
+/// The owner word of a frame that a plan holds is this and the place of the plan's row.
+pub const PLAN_OWNER: u64 = 16 * MAX_PAGES + 1;
 
 pub struct Places {
     pub heads: usize,
@@ -272,6 +274,18 @@ pub fn encode_with(state: &State, place_of: impl Fn(usize) -> usize) -> Vec<u64>
                     put(&mut w, position, [0, 0, handle.object, handle.rights, handle.flags, 0]);
                 }
             }
+            RowKind::Plan { table, count, kept, frames } => {
+                w[words + 1] = 4;
+                w[words + 2] = *table;
+                w[words + 3] = frames.len() as u64;
+                w[words + 4] = *count;
+                w[words + 5] = kept.epoch;
+                for (position, (page, frame)) in kept.pages.iter().zip(frames).enumerate() {
+                    put(&mut w, position, [*page, *frame, 0, 0, 0, 0]);
+                    w[at.owners + *frame as usize] = PLAN_OWNER + place as u64;
+                }
+                w[words + 6 + 2] = kept.free_slots;
+            }
         }
     }
     let mut rank = state.rows.len();
@@ -319,7 +333,7 @@ pub fn fill_out_of_use(w: &mut [u64], mut word: impl FnMut() -> u64) {
         }
     }
     for frame in 0..w[2] as usize {
-        if w[at.owners + frame] == 0 {
+        if w[at.owners + frame] == 0 || w[at.owners + frame] >= PLAN_OWNER {
             free.push(at.frames + FRAME * frame..at.frames + FRAME * (frame + 1));
         }
     }
@@ -332,6 +346,17 @@ pub fn fill_out_of_use(w: &mut [u64], mut word: impl FnMut() -> u64) {
         let (what, count) = (w[words + 1], w[words + 3] as usize);
         if what == 3 {
             free.push(words + 2..words + 3);
+        }
+        if what == 4 {
+            // Its first entry's word 2 is in use even where it has no entry.
+            for position in 0..64 {
+                let entry = words + 6 + 6 * position;
+                if position >= count {
+                    free.push(entry..entry + 2);
+                }
+                free.push(if position == 0 { entry + 3..entry + 6 } else { entry + 2..entry + 6 });
+            }
+            continue;
         }
         free.push(words + 4..words + 6);
         for position in 0..count {
@@ -387,6 +412,7 @@ pub fn decode(w: &[u64]) -> Result<State, String> {
         rows: Vec::new(),
     };
     // Frames.
+    let mut planned = 0;
     let mut by_16 = vec![0; (frames as usize).div_ceil(16)];
     let mut by_256 = vec![0; (frames as usize).div_ceil(256)];
     let mut by_4096 = vec![0; (frames as usize).div_ceil(4096)];
@@ -396,6 +422,9 @@ pub fn decode(w: &[u64]) -> Result<State, String> {
             by_16[frame / 16] += 1;
             by_256[frame / 256] += 1;
             by_4096[frame / 4096] += 1;
+        }
+        if (PLAN_OWNER..PLAN_OWNER + rows).contains(&w[at.owners + frame]) {
+            planned += 1;
         }
     }
     need(w[7] == state.free_frames.len() as u64, "the count of free frames is wrong")?;
@@ -548,10 +577,11 @@ pub fn decode(w: &[u64]) -> Result<State, String> {
         need(table.detached.len() as u64 == detached, "an order of detached pages lacks a page")?;
         state.tables.push(table);
     }
-    need(owned == frames - w[7], "a frame is owned by no page")?;
+    need(owned + planned == frames - w[7], "a frame is owned by no page")?;
     // Rows.
     let mut seen = vec![false; rows as usize];
     let mut found = 0;
+    let mut held = 0;
     let mut last_id = 0;
     for rank in 0..rows as usize {
         let place = w[at.index + 2 * rank];
@@ -566,7 +596,7 @@ pub fn decode(w: &[u64]) -> Result<State, String> {
         need(id > last_id && id < state.next, "row ids do not rise below the next id")?;
         last_id = id;
         let count = w[r + 3];
-        need((1..=64).contains(&count), "a row's count is out of range")?;
+        need((1..=64).contains(&count) || w[r + 1] == 4, "a row's count is out of range")?;
         let entries = |position: usize| &w[r + 6 + 6 * position..r + 12 + 6 * position];
         let of_table = |state: &State| -> Result<u64, String> {
             need(w[r + 2] < tables, "a row's table is unknown")?;
@@ -623,11 +653,35 @@ pub fn decode(w: &[u64]) -> Result<State, String> {
                 }
                 RowKind::Parcel(handles)
             }
+            4 => {
+                need(w[r + 2] < tables, "a row's table is unknown")?;
+                need((1..=64).contains(&w[r + 4]), "a plan's count is out of range")?;
+                let kept_free = entries(0)[2];
+                need(kept_free <= MAX_SLOTS, "a plan's kept free slots are out of range")?;
+                let mut kept = Snapshot { epoch: w[r + 5], free_slots: kept_free, pages: Vec::new() };
+                let mut missing = w[r + 4].saturating_sub(kept_free);
+                let mut list: Vec<u64> = Vec::new();
+                need(count <= 64, "a plan has more entries than a row")?;
+                for position in 0..count as usize {
+                    let (page, frame) = (entries(position)[0], entries(position)[1]);
+                    need(missing > 0, "a plan holds a frame that it does not need")?;
+                    need(page < MAX_PAGES, "a plan's page is out of range")?;
+                    need(frame < frames && list.last().is_none_or(|last| *last < frame), "a plan's frames do not rise below the frames")?;
+                    need(w[at.owners + frame as usize] == PLAN_OWNER + place, "a plan's frame is not its own")?;
+                    missing = missing.saturating_sub(page_slots(page));
+                    kept.pages.push(page);
+                    list.push(frame);
+                    held += 1;
+                }
+                need(missing == 0, "a plan lacks a frame")?;
+                RowKind::Plan { table: w[r + 2], count: w[r + 4], kept, frames: list }
+            }
             _ => return Err("a row's kind is unknown".to_string()),
         };
         state.rows.push(Row { id, kind });
     }
     need(found == marked, "a marked slot stands in no row")?;
+    need(held == planned, "a frame is held by no plan")?;
     let mut counts = vec![0; objects as usize];
     for handle in state.handles() {
         counts[handle.object as usize] += 1;

@@ -33,7 +33,7 @@ enum Next {
     Stop,
 }
 
-// Room for a state: the largest of recorded/cases.txt and recorded/mixed.txt, but for two with 262,144 pages, has 15,508 words.
+// Room for a state: the largest of the recorded lists that are replayed, but for those with 262,144 pages, has 15,508 words.
 fn state_room() -> [u64; 16384]
     ensures { λ r. ⌜ 16384 ≡ length r ⌝ }
 {

@@ -10,7 +10,7 @@ use alloc::vec::Vec;
 
 use crate::object::{self, AnyObject};
 use crate::requests::{self as rq, Request};
-use crate::state::{self as st, ClaimEntry, Handle, Life, Page as StatePage, Row as StateRow, RowKind, State};
+use crate::state::{self as st, ClaimEntry, Handle, Life, Page as StatePage, Row as StateRow, RowKind, Snapshot, State};
 
 const PREFIX: u64 = 0x4800_0000_0000_0000;
 const PREFIX_MASK: u64 = 0xFF00_0000_0000_0000;
@@ -28,6 +28,24 @@ enum Token {
     Reservation(usize, HandleBatchReservation),
     Claim(usize, HandleTransferClaim),
     Parcel(Vec<PreparedHandle>),
+    Plan(Planned),
+}
+
+/// A plan of the Rust: what it keeps from the planning to the reservation.
+struct Planned {
+    table: usize,
+    count: usize,
+    kept: HandleTableStorageSnapshot,
+    /// The Rust's plan, made with its snapshot; None in a state that was loaded: words do not say which directory chunk a plan holds, so that it is made when the plan is used.
+    prepared: Option<HandleTableStoragePlan>,
+    /// DRIVER: the frames that it holds, rising.
+    frames: Vec<u64>,
+}
+
+/// The Rust's own `==`, less directory chunks.
+fn same_but_for_chunks(now: HandleTableStorageSnapshot, mut kept: HandleTableStorageSnapshot) -> bool {
+    kept.directory_chunk = now.directory_chunk;
+    now == kept
 }
 
 struct Row {
@@ -46,6 +64,11 @@ pub(crate) struct Machine {
 }
 
 type Step = Result<Vec<u64>, u64>;
+
+/// StalePlan. The Rust has no such error.
+const STALE: u64 = 21;
+/// No number of any request: the snapshots of a plan made here differ in the directory chunk alone, which is not expected, and shows as a difference.
+const CHUNK_ALONE: u64 = 1000;
 
 fn number_of(error: HandleError) -> u64 {
     match error {
@@ -258,6 +281,13 @@ impl Machine {
                     },
                 ),
                 RowKind::Parcel(handles) => Token::Parcel(handles.iter().map(|handle| loaded(*handle)).collect()),
+                RowKind::Plan { table, count, kept, frames } => Token::Plan(Planned {
+                    table: *table as usize,
+                    count: *count as usize,
+                    kept: HandleTableStorageSnapshot::build(kept.epoch, kept.free_slots as usize, &kept.pages, None),
+                    prepared: None,
+                    frames: frames.clone(),
+                }),
             };
             rows.push(Row { id: row.id, token });
         }
@@ -280,6 +310,7 @@ impl Machine {
                     }
                 }
                 Token::Parcel(handles) => handles.into_iter().for_each(forget),
+                Token::Plan(plan) => drop(plan),
             }
         }
         for mut held in self.tables.drain(..) {
@@ -343,6 +374,22 @@ impl Machine {
                     RowKind::Claim { table: *table as u64, entries }
                 }
                 Token::Parcel(handles) => RowKind::Parcel(handles.iter().map(plain).collect()),
+                Token::Plan(plan) => {
+                    if plan.prepared.as_ref().is_some_and(|prepared| prepared.snapshot() != plan.kept) {
+                        return Err(format!("row {}: the plan's snapshot is not the one kept", row.id));
+                    }
+                    let (epoch, free_slots) = plan.kept.peek();
+                    RowKind::Plan {
+                        table: plan.table as u64,
+                        count: plan.count as u64,
+                        kept: Snapshot {
+                            epoch,
+                            free_slots: free_slots as u64,
+                            pages: plan.kept.pages[..plan.kept.count].iter().map(|page| *page as u64).collect(),
+                        },
+                        frames: plan.frames.clone(),
+                    }
+                }
             };
             rows.push(StateRow { id: row.id, kind });
         }
@@ -502,6 +549,9 @@ impl Machine {
     fn parcel_at(&self, id: u64) -> Result<usize, u64> {
         self.row_at(id, |token| matches!(token, Token::Parcel(..)))
     }
+    fn plan_at(&self, id: u64) -> Result<usize, u64> {
+        self.row_at(id, |token| matches!(token, Token::Plan(..)))
+    }
     fn take_reservation(&mut self, at: usize) -> (usize, HandleBatchReservation) {
         match self.rows.remove(at).token {
             Token::Reservation(table, token) => (table, token),
@@ -520,15 +570,66 @@ impl Machine {
         if self.rows.len() < self.row_capacity { Ok(()) } else { Err(1) }
     }
 
-    /// DRIVER: a parcel's id, 12 at the end. The Rust spends none here.
-    fn parcel(&mut self, handle: PreparedHandle) -> Result<u64, PreparedHandle> {
+    /// DRIVER: the id of a parcel or of a plan; none at the end. The Rust spends none here.
+    fn spend(&mut self) -> Option<u64> {
         let id = NEXT_RESERVATION_ID.load(Ordering::Relaxed);
         if id == u64::MAX {
-            return Err(handle);
+            return None;
         }
         NEXT_RESERVATION_ID.store(id + 1, Ordering::Relaxed);
+        Some(id)
+    }
+
+    /// DRIVER: a parcel's row, 12 at the end.
+    fn parcel(&mut self, handle: PreparedHandle) -> Result<u64, PreparedHandle> {
+        let Some(id) = self.spend() else { return Err(handle) };
         self.rows.push(Row { id, token: Token::Parcel(alloc::vec![handle]) });
         Ok(id)
+    }
+
+    /// The Rust's snapshot for a reservation. DRIVER: 15 for a page limit below the Rust's.
+    fn snapshot(&self, table: usize, count: usize) -> Result<HandleTableStorageSnapshot, u64> {
+        let held = &self.tables[table];
+        let snapshot = held.table.reservation_storage_snapshot_for(count).map_err(number_of)?;
+        if snapshot.pages[..snapshot.count].iter().any(|page| *page as u64 >= held.limit) {
+            return Err(15);
+        }
+        Ok(snapshot)
+    }
+
+    /// The Rust's snapshot for a reservation or a plan. DRIVER: 1 for want of frames or of a row.
+    fn room(&self, table: usize, count: usize) -> Result<HandleTableStorageSnapshot, u64> {
+        let snapshot = self.snapshot(table, count)?;
+        if self.free_frames.iter().filter(|free| **free).count() < snapshot.count {
+            return Err(1);
+        }
+        self.free_row()?;
+        Ok(snapshot)
+    }
+
+    /// DRIVER: the lowest free frames, so many.
+    fn take_frames(&mut self, count: usize) -> Vec<u64> {
+        let frames: Vec<usize> = (0..self.free_frames.len()).filter(|frame| self.free_frames[*frame]).take(count).collect();
+        for frame in &frames {
+            self.free_frames[*frame] = false;
+        }
+        frames.into_iter().map(|frame| frame as u64).collect()
+    }
+
+    /// The row of a reservation that the Rust has made. DRIVER: its new pages have these frames.
+    fn reserved(&mut self, table: usize, snapshot: HandleTableStorageSnapshot, frames: &[u64], token: HandleBatchReservation) -> Vec<u64> {
+        let held = &mut self.tables[table];
+        for (page, frame) in snapshot.pages[..snapshot.count].iter().zip(frames) {
+            if held.frames.len() <= *page {
+                held.frames.resize(*page + 1, None);
+            }
+            held.frames[*page] = Some(*frame);
+        }
+        let id = token.reservation.0.get();
+        let mut words = alloc::vec![id, token.values().len() as u64];
+        words.extend(token.values().iter().map(|value| value.0.get()));
+        self.rows.push(Row { id, token: Token::Reservation(table, token) });
+        words
     }
 
     /// DRIVER: a value with another prefix becomes one that the Rust's own decode refuses, so that the Rust decides when.
@@ -605,35 +706,58 @@ impl Machine {
             rq::RESERVE => {
                 let table = self.table(request)?;
                 let count = request.get(rq::COUNT) as usize;
-                let held = &mut self.tables[table];
-                let snapshot = held.table.reservation_storage_snapshot_for(count).map_err(refuse)?;
-                // DRIVER: 15 for a page limit below the Rust's.
-                if snapshot.pages[..snapshot.count].iter().any(|page| *page as u64 >= held.limit) {
-                    return Err(15);
-                }
-                // DRIVER: 1 for want of frames or of a row.
-                if self.free_frames.iter().filter(|free| **free).count() < snapshot.count || self.rows.len() >= self.row_capacity {
-                    return Err(1);
-                }
+                let snapshot = self.room(table, count)?;
                 let mut storage = Some(HandleBatchReservationStorage::try_new(count).map_err(refuse)?);
                 let mut plan = Some(HandleTableStoragePlan::try_new(snapshot).map_err(refuse)?);
-                let token = held.table.reserve_batch_with_plan(count, &mut storage, &mut plan).map_err(refuse)?;
-                // DRIVER: each new page takes the lowest free frame.
-                for page in &snapshot.pages[..snapshot.count] {
-                    let frame = self.free_frames.iter().position(|free| *free);
-                    if let Some(frame) = frame {
-                        self.free_frames[frame] = false;
-                    }
-                    if held.frames.len() <= *page {
-                        held.frames.resize(*page + 1, None);
-                    }
-                    held.frames[*page] = frame.map(|frame| frame as u64);
-                }
-                let id = token.reservation.0.get();
-                let mut words = alloc::vec![id, token.values().len() as u64];
-                words.extend(token.values().iter().map(|value| value.0.get()));
-                self.rows.push(Row { id, token: Token::Reservation(table, token) });
+                let token = self.tables[table].table.reserve_batch_with_plan(count, &mut storage, &mut plan).map_err(refuse)?;
+                let frames = self.take_frames(snapshot.count);
+                Ok(self.reserved(table, snapshot, &frames, token))
+            }
+            rq::MAKE_PLAN => {
+                let table = self.table(request)?;
+                let count = request.get(rq::COUNT) as usize;
+                let kept = self.room(table, count)?;
+                let prepared = HandleTableStoragePlan::try_new(kept).map_err(refuse)?;
+                // DRIVER: the book spends an id, the Rust none: 12 here.
+                let id = self.spend().ok_or(12u64)?;
+                let frames = self.take_frames(kept.count);
+                let words = alloc::vec![id, count as u64, frames.len() as u64];
+                self.rows.push(Row { id, token: Token::Plan(Planned { table, count, kept, prepared: Some(prepared), frames }) });
                 Ok(words)
+            }
+            rq::USE_PLAN => {
+                let at = self.plan_at(request.get(rq::ID))?;
+                let Token::Plan(plan) = &self.rows[at].token else { return Err(18) };
+                let (table, count, kept) = (plan.table, plan.count, plan.kept);
+                // The Rust takes its snapshot anew: 16. DRIVER: 21 where it gives 15, or the page limit does.
+                let now = self.snapshot(table, count).map_err(|number| if number == 15 { STALE } else { number })?;
+                let Token::Plan(plan) = &mut self.rows[at].token else { return Err(18) };
+                match &plan.prepared {
+                    // DRIVER: 21 where the Rust, which compares the two in the same way, reaches `invariant_violation`.
+                    Some(prepared) if now != prepared.snapshot() => {
+                        return Err(if same_but_for_chunks(now, kept) { CHUNK_ALONE } else { STALE });
+                    }
+                    Some(_) => {}
+                    None if same_but_for_chunks(now, kept) => {
+                        plan.kept = now;
+                        plan.prepared = Some(HandleTableStoragePlan::try_new(now).map_err(refuse)?);
+                    }
+                    None => return Err(STALE),
+                }
+                let mut storage = Some(HandleBatchReservationStorage::try_new(count).map_err(refuse)?);
+                let token = self.tables[table].table.reserve_batch_with_plan(count, &mut storage, &mut plan.prepared).map_err(refuse)?;
+                // DRIVER: the plan's row goes; its frames are used lowest first.
+                let Token::Plan(plan) = self.rows.remove(at).token else { return Err(18) };
+                Ok(self.reserved(table, now, &plan.frames, token))
+            }
+            rq::DROP_PLAN => {
+                let at = self.plan_at(request.get(rq::ID))?;
+                let Token::Plan(plan) = self.rows.remove(at).token else { return Err(18) };
+                // DRIVER: its frames are free again. The Rust drops the pages that it had prepared.
+                for frame in &plan.frames {
+                    self.free_frames[*frame as usize] = true;
+                }
+                Ok(Vec::new())
             }
             rq::TRIM => {
                 let at = self.reservation_at(request.get(rq::ID))?;
@@ -986,6 +1110,21 @@ pub(crate) mod bare {
             }
             Err(error) => number_of(error),
         }
+    }
+    /// `reserve_batch_with_plan` with the plan of a row as it is, fresh or not.
+    pub(crate) fn use_plan_raw(machine: &mut Machine, id: u64) -> Result<(), u64> {
+        let at = machine.plan_at(id)?;
+        let Token::Plan(mut plan) = machine.rows.remove(at).token else { return Err(18) };
+        let table = &mut machine.tables[plan.table].table;
+        if plan.prepared.is_none() {
+            let chunk = table.reservation_storage_snapshot_for(plan.count).ok().and_then(|now| now.directory_chunk);
+            plan.kept.directory_chunk = chunk;
+            plan.prepared = Some(HandleTableStoragePlan::try_new(plan.kept).map_err(number_of)?);
+        }
+        let mut storage = Some(HandleBatchReservationStorage::try_new(plan.count).map_err(number_of)?);
+        let token = table.reserve_batch_with_plan(plan.count, &mut storage, &mut plan.prepared).map_err(number_of)?;
+        drop(token.abort(table));
+        Ok(())
     }
     /// `take_retired_storage` of a retired table: how many pages it had, and how many after.
     pub(crate) fn take_retired(machine: &mut Machine, table: usize) -> (usize, usize) {

@@ -22,6 +22,21 @@ pub(in crate::capability::handle) fn slots_in(page: usize) -> usize {
     page_slots(page)
 }
 
+impl HandleTableStorageSnapshot {
+    /// Epoch and number of free slots.
+    pub(in crate::capability::handle) fn peek(&self) -> (u64, usize) {
+        (self.epoch, self.free_slots)
+    }
+    /// A snapshot with the given fields.
+    pub(in crate::capability::handle) fn build(epoch: u64, free_slots: usize, kept: &[u64], directory_chunk: Option<usize>) -> Self {
+        let mut pages = [0; MAX_NEW_PAGES];
+        for (page, kept) in pages.iter_mut().zip(kept) {
+            *page = *kept as usize;
+        }
+        Self { epoch, free_slots, pages, count: kept.len(), directory_chunk }
+    }
+}
+
 impl SlotStore {
     pub(in crate::capability::handle) fn peek_head(&self) -> (usize, Option<usize>, Option<usize>, u64) {
         (self.page_count, self.vacant, self.empty, self.epoch)
