@@ -1,7 +1,7 @@
 """Answers in words."""
 NUMBERS = (
     "done Allocation InvalidHandle Busy WrongObjectType AccessDenied UnsupportedRights UnsupportedFlags UnsupportedTransfer ObjectRetired ObjectAlreadyActive ActiveHandleLimit "
-    "ReservationIdExhausted ReservationTooLarge OutstandingReservation TableFull TableRetired EmptyReservation Misuse Malformed AnswerShort"
+    "ReservationIdExhausted ReservationTooLarge OutstandingReservation TableFull TableRetired EmptyReservation Misuse Malformed AnswerShort StalePlan"
 ).split()
 INFO = ["koid", "kind", "rights", "flags"]
 
@@ -12,7 +12,9 @@ def told(op, words):
     info = lambda at: ", ".join(f"{n} {words[at + i]}" for i, n in enumerate(INFO))
     if op in ("new_object", "duplicate", "prepare_transfer", "prepare_consumption"):
         return f"done, id {words[1]}"
-    if op == "reserve":
+    if op == "make_plan":
+        return f"done, id {words[1]}, count {words[2]}, frames held {words[3]}"
+    if op in ("reserve", "use_plan"):
         return f"done, id {words[1]}, values " + " ".join(f"{v:016x}" for v in words[3 : 3 + words[2]])
     if op in ("get_info", "close"):
         return "done, " + info(1)

@@ -99,8 +99,8 @@ class Held:
             yield 'H refuses it "for want of an id": it gives 12'
 
     def pages_needed(self, request, state, number):
-        """How many pages a reservation must attach: detached ones first, then new ones. The last page that a table can have has a slot less."""
-        if request.op != "reserve":
+        """How many pages a reservation must attach, or a plan holds frames for: detached ones first, then new ones. The last page that a table can have has a slot less."""
+        if request.op not in ("reserve", "make_plan"):
             return 0
         table, pages = state.tables[number(request.fields, "table")], 0
         missing = number(request.fields, "count") - len(table.free)

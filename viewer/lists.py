@@ -5,15 +5,15 @@ from dataclasses import dataclass, field
 FIELDS = "op table object count value rights flags id destination kind koid cursor route offered_rights offered_kind expected_kind forbidden_object forbidden_kind".split()
 OPS = [""] + (
     "new_object duplicate release_parcel retire_object reserve trim abort publish get_info resolve replace close scan_handles prepare_transfer prepare_consumption rollback commit "
-    "direct_commit direct_rollback remove_stopping_owner teardown_start teardown_step teardown_finish take_empty_page"
+    "direct_commit direct_rollback remove_stopping_owner teardown_start teardown_step teardown_finish take_empty_page make_plan use_plan drop_plan"
 ).split()
 ITEMS = {"publish": ("parcel",), "prepare_transfer": ("move", "copy")}
 IDS = ("id", "destination")
 TABLE = ("pages", "seed")
 OBJECT = ("koid", "kind", "class", "rights", "exportable", "limit")
 # where an answer has an id, and where its values stand (the first, and how far apart)
-ID_AT = dict.fromkeys(("new_object", "duplicate", "reserve", "prepare_transfer", "prepare_consumption"), 1)
-VALUES_AT = {"reserve": (3, 1, 64), "replace": (1, 1, 1), "scan_handles": (5, 5, 8), "remove_stopping_owner": (3, 1, 1)}
+ID_AT = dict.fromkeys(("new_object", "duplicate", "reserve", "prepare_transfer", "prepare_consumption", "make_plan", "use_plan"), 1)
+VALUES_AT = {"reserve": (3, 1, 64), "use_plan": (3, 1, 64), "replace": (1, 1, 1), "scan_handles": (5, 5, 8), "remove_stopping_owner": (3, 1, 1)}
 
 
 class Fault(Exception):

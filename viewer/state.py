@@ -8,9 +8,10 @@ LIVES = ["active", "tearing down", "retired"]
 STATES = ["new", "active", "retired"]
 CLASSES = ["Leaf", "RendezvousOnly", "Never"]
 TAGS = ["vacant", "Reserved", "TransferReserved", "occupied"]
-ROWS = ["", "reservation", "claim", "parcel"]
+ROWS = ["", "reservation", "claim", "parcel", "plan"]
 HEADER, HEAD, ENTRY, SLOT, OBJECT, PAIR, ROW, BLOCK = 16, 16, 5, 6, 8, 2, 390, 6
-PAGE, MOST_PAGES = 64, 262_144
+PAGE, MOST_PAGES, MOST_TABLES = 64, 262_144, 16
+PLAN_OWNER = MOST_TABLES * MOST_PAGES + 1  # with the place of a plan's row, the owner word of a frame that it holds
 
 
 @dataclass
@@ -55,11 +56,21 @@ class Table:
 
 
 @dataclass
+class Plan:
+    count: int
+    epoch: int  # this and the next two: the kept snapshot
+    free_slots: int
+    pages: list
+    frames: list
+
+
+@dataclass
 class Row:
     id: int
     what: str
     table: int  # None: a parcel
-    entries: list  # reservation: slots; claim: (operation, slot, handle, rights that the receiver gets); parcel: handles
+    entries: list  # reservation: slots; claim: (operation, slot, handle, rights that the receiver gets); parcel: handles; plan: none
+    plan: Plan = None
 
 
 @dataclass
@@ -150,9 +161,15 @@ class Reader:
 
     def row(self, place):
         at = self.rows + ROW * place
-        id, what, table, count = self.at(at, 4)
+        id, what, table, length, count, epoch = self.at(at, BLOCK)
+        blocks = range(at + BLOCK, at + BLOCK * (length + 1), BLOCK)
+        if ROWS[what] == "plan":
+            frames = [self.w[block + 1] for block in blocks]
+            if any(self.w[self.owners + frame] != PLAN_OWNER + place for frame in frames):
+                raise Fault(f"the state's words contradict each other: the frames that plan {id} holds")
+            return Row(id, ROWS[what], table, [], Plan(count, epoch, self.w[at + BLOCK + 2], [self.w[block] for block in blocks], frames))
         entries = []
-        for block in range(at + BLOCK, at + BLOCK * (count + 1), BLOCK):
+        for block in blocks:
             first, slot, *handle, gets = self.at(block, BLOCK)
             if ROWS[what] == "reservation":
                 entries.append(first)
@@ -234,6 +251,9 @@ def row_told(row, names):
     if row.what == "parcel":
         return "parcel: " + "; ".join(handle_told(handle, names) for handle in row.entries)
     head = f"{row.what} in {names.named('table', row.table)}: "
+    if row.what == "plan":
+        plan = row.plan
+        return head + f"count {plan.count}; frames held: {runs(plan.frames)}; kept: epoch {plan.epoch}, {plan.free_slots} free slots, pages {runs(plan.pages)}"
     if row.what == "reservation":
         return head + f"slot{'s' if len(row.entries) > 1 else ''} {runs(row.entries)}"
     return head + "; ".join(
