@@ -112,10 +112,10 @@ check "docs/map.md is drawn from crates.txt and the sources as they are" tests/m
 check "every public function has a contract that speaks of all it gives and demands nothing, but for four parts of the state check" tests/contracts.py
 echo "with what is read of them: $((SECONDS - start)) s"
 
-# What stands beside the crates: the port through its C calls, the functions for a kernel; slips in the definitions, the oracle, the recorded lists on the definitions and on the
-# port. The second lane uses the oracle built by its first script, and no static library; what needs both comes after the lanes.
-port=(c/test.sh tests/calls.sh tests/embedding.py)
-others=(oracle/test.sh tests/replay.py tests/slips.py tests/model_replay.py)
+# What stands beside the crates: the port through its C calls, the functions for a kernel, the recorded lists on the definitions; the oracle, the recorded lists on the port, slips
+# in the definitions. The second lane uses the oracle built by its first script, and no static library; what needs both comes after the lanes.
+port=(c/test.sh tests/calls.sh tests/embedding.py tests/model_replay.py)
+others=(oracle/test.sh tests/replay.py tests/slips.py)
 echo "beside each other: ${port[*]}; ${others[*]}"
 lane "${port[@]}" &
 lane "${others[@]}" &

@@ -2,7 +2,7 @@
 """Replays recorded lists on the model: the checker computes every answer and the whole end state from the definitions, and each is held to what the
 Rust gave (recorded/, see docs/oracle.md). Writes a crate `computed` with a table of cases for each recorded list, and has it proved.
 
-  model_replay.py [FILE..]     recorded files (default: cases.txt, plain.txt, edges.txt and scrambled.txt)
+  model_replay.py [FILE..]     recorded files (default: cases.txt, plain.txt, edges.txt, scrambled.txt and plans.txt)
 """
 import re
 import subprocess
@@ -96,6 +96,9 @@ def expected_state(lines):
                         out += [0, int(slot)] + handle(h) + [int(r, 16)]
                     else:
                         out += [1] + handle(e[2:])
+            elif w[4] == "plan":
+                ps, fs = runs(w[14]), runs(w[16])
+                out += [4, int(w[6]), int(w[8]), int(w[10]), int(w[12]), len(ps)] + ps + [len(fs)] + fs
             else:
                 out += [3, len(w) - 5]
                 for h in w[5:]:
@@ -113,14 +116,13 @@ use lib.Dec.{eqb, ltb}
 use Rattle.authority.specs.Rights.{contains}
 use Rattle.codec.specs.Codec.{encode, payload, decodes, payloadIn, numberIn, slotIn, generationIn, nextGeneration, maskOf}
 use Rattle.format.specs.Format.{musts, mays, fieldKinds, fieldFits, knownOp}
-use Rattle.model.specs.Base.{bit, pick, orElse, isSome, range}
-use Rattle.model.specs.State.{Handle, Slot, Slot.absent, Slot.vacant, Slot.reserved, Slot.transferReserved, Slot.occupied, Page, Lifecycle, Lifecycle.active, Lifecycle.tearingDown, Lifecycle.retired, Table, Class, Class.leaf, Class.rendezvousOnly, Class.never, Stage, Stage.stillNew, Stage.nowActive, Stage.nowRetired, Object, Entry, Entry.moved, Entry.copied, Body, Body.reservation, Body.claim, Body.parcel, Row, State, till, noPage, noTable, noObject, maxTables, maxFrames, maxObjects, maxRows, maxBatch, maxSlots, maxLimit, knownFlags, lastId}
+use Rattle.model.specs.Base.{bit, pick, orElse, isSome, range, sameList}
+use Rattle.model.specs.State.{Handle, Slot, Slot.absent, Slot.vacant, Slot.reserved, Slot.transferReserved, Slot.occupied, Page, Lifecycle, Lifecycle.active, Lifecycle.tearingDown, Lifecycle.retired, Table, Class, Class.leaf, Class.rendezvousOnly, Class.never, Stage, Stage.stillNew, Stage.nowActive, Stage.nowRetired, Object, Entry, Entry.moved, Entry.copied, Body, Body.reservation, Body.claim, Body.parcel, Body.plan, StorageSnapshot, Row, State, till, noPage, noTable, noObject, maxTables, maxFrames, maxObjects, maxRows, maxBatch, maxSlots, maxLimit, knownFlags, lastId}
 use Rattle.model.specs.Storage.{place, vacate, takeFree, pagesFor, attach, detach, slotsOf}
 use Rattle.model.specs.Request.{Answer, Request}
-use Rattle.model.specs.Step.{decide, step, run, newObjectOf, duplicateOf, releaseParcelOf, retireObjectOf, reserveOf, trimOf, abortOf, publishOf, getInfoOf, resolveOf, replaceOf, closeOf, scanHandlesOf, prepareTransferOf, prepareConsumptionOf, rollbackOf, commitOf, directCommitOf, directRollbackOf, removeStoppingOwnerOf, teardownStartOf, teardownStepOf, teardownFinishOf, takeEmptyPageOf}
+use Rattle.model.specs.Step.{decide, step, run, newObjectOf, duplicateOf, releaseParcelOf, retireObjectOf, reserveOf, trimOf, abortOf, publishOf, getInfoOf, resolveOf, replaceOf, closeOf, scanHandlesOf, prepareTransferOf, prepareConsumptionOf, rollbackOf, commitOf, directCommitOf, directRollbackOf, removeStoppingOwnerOf, teardownStartOf, teardownStepOf, teardownFinishOf, takeEmptyPageOf, makePlanOf, usePlanOf, dropPlanOf}
 use Rattle.model.specs.Create.{Parameters, TableParameters, ObjectParameters, permitted, created, create}
 use Rattle.model.specs.Words.{readRequest, readList, usedWords, wordsOf, answerShort, call}
-use Rattle.model.specs.Cases.{sameList}
 """
 
 SHOW = HEAD + """
@@ -183,6 +185,7 @@ abbrev bodyOf : Body → List ℕ
 bodyOf (reservation b ks) = 1 ∷ b ∷ counted ks
 bodyOf (claim b es) = 2 ∷ b ∷ length es ∷ join (map entryOf es)
 bodyOf (parcel hs) = 3 ∷ length hs ∷ join (map handleOf hs)
+bodyOf (plan b n w fs) = 4 ∷ b ∷ n ∷ w .epoch ∷ w .freeSlots ∷ counted (w .pages) ++ counted fs
 
 abbrev rowOf : Row → List ℕ
 rowOf r = r .id ∷ bodyOf (r .body)
@@ -223,7 +226,7 @@ UNFOLD = (
     "maxBatch maxSlots maxLimit knownFlags lastId\n  place vacate takeFree pagesFor attach detach decide step usedWords wordsOf answerShort readRequest readList call musts mays "
     "fieldKinds fieldFits knownOp permitted created\n  newObjectOf duplicateOf releaseParcelOf retireObjectOf reserveOf trimOf abortOf publishOf getInfoOf resolveOf replaceOf closeOf "
     "scanHandlesOf prepareTransferOf prepareConsumptionOf\n  rollbackOf commitOf directCommitOf directRollbackOf removeStoppingOwnerOf teardownStartOf teardownStepOf teardownFinishOf "
-    "takeEmptyPageOf\n"
+    "takeEmptyPageOf makePlanOf usePlanOf dropPlanOf\n"
 )
 
 
@@ -303,6 +306,9 @@ def state_of(w):
         elif kind == 2:
             es = [f"moved {w[i + 1]} ({held(i + 2)}) {w[i + 5]}" if w[i] == 0 else f"copied ({held(i + 2)})" for i in items]
             body = f"claim {table} ({''.join(e + ' ∷ ' for e in es)}[])"
+        elif kind == 4:
+            kept = "record { epoch = %d; freeSlots = %d; pages = %s }" % (w[at + 5], w[at + BLOCK + 2], listed([w[i] for i in items]))
+            body = f"plan {table} {w[at + 4]} ({kept}) ({listed([w[i + 1] for i in items])})"
         else:
             body = f"parcel ({''.join(held(i + 2) + ' ∷ ' for i in items)}[])"
         book.append(f"record {{ id = {ident}; body = {body} }}")
@@ -318,7 +324,7 @@ ROW, BLOCK = 390, 6
 
 
 def main():
-    names = sys.argv[1:] or ["cases.txt", "plain.txt", "edges.txt", "scrambled.txt"]
+    names = sys.argv[1:] or ["cases.txt", "plain.txt", "edges.txt", "scrambled.txt", "plans.txt"]
     modules, requests, lists, calls, refused = [], 0, 0, 0, []
     left = Counter()
     made = {}

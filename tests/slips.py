@@ -35,6 +35,13 @@ WORDS = {
         "create",
         "`Meets`: a created table has no free slot and its count is 0",
     ),
+    "a plan's kept number of free slots that the words need not have": (
+        "representation/specs/Represents.antt",
+        "pub freeSlots : m (item r 0 itemFreeSlots) ≡ w .freeSlots",
+        "pub freeSlots : m (item r 0 itemFreeSlots) ≡ m (item r 0 itemFreeSlots)",
+        "representation",
+        "`rep-unique`: one plan's words represent it with any number of free slots",
+    ),
     "a busy count that the words need not have": (
         "representation/specs/Represents.antt",
         "pub busy : (p : ℕ) → p < t .size → isAttached t p ≡ true → m (entry (entryAt m b p) entryBusy) ≡ busyOf till (t .slots) p",
@@ -58,7 +65,7 @@ STATEMENTS = {
     "a two-run theorem that says nothing of the end state after a rollback": (
         [
             ("noninterference/specs/Theorem.antt", "pub afterRollback : p .0 ≡ lowerState t (step z (h .0) (rollback t) .0)", "pub afterRollback : p .0 ≡ p .0"),
-            ("noninterference/specs/Theorem.antt", "afterRollback = rollback-is z kept t b (g .es) values (h .0) (l .1);", "afterRollback = refl;"),
+            ("noninterference/specs/Theorem.antt", "afterRollback = rollback-is z kept t b (y .es) values (h .0) (y .claimed);", "afterRollback = refl;"),
         ],
         "promises",
         "demand 3: after a rollback both ends represent one state, ids lowered",
@@ -83,7 +90,7 @@ STATEMENTS = {
     ),
 }
 
-# Document 01 wrongly read, to be refused by the theorems up to that of the two runs. name: (file below crates/, old, new)
+# Documents 01 and 02 wrongly read, to be refused by the theorems up to that of the two runs. name: (file below crates/, old, new)
 TOP = "noninterference"
 SLIPS = {
     "a rollback that only frees the row": (
@@ -116,10 +123,25 @@ SLIPS = {
         "settingTable b to keepAll z (λ g. transferReserved g i) (movedOf es) t\n",
         "settingTable b to (let u : Table = keepAll z (λ g. transferReserved g i) (movedOf es) t in record { limit = u .limit; mask = u .mask; life = u .life; epoch = u .epoch; size = u .size; pages = u .pages; slots = u .slots; free = u .free; empty = take 0 (u .empty); detached = u .detached })\n",
     ),
+    "a stale plan that is used": (
+        "model/specs/Storage.antt",
+        "  isStale t n w = not (stillIs (snapshotFor t n) w)\n",
+        "  isStale t n w = false\n",
+    ),
+    "a held transfer that makes plans stale": (
+        "model/specs/Storage.antt",
+        "  isStale t n w = not (stillIs (snapshotFor t n) w)\n",
+        "  isStale t n w = not (stillIs (snapshotFor t n) w && isOccupied (t .slots 63))\n",
+    ),
+    "a plan that is dropped and keeps its frames": (
+        "model/specs/Step.antt",
+        "      settingFrames insertAll fs (s .frames)\n",
+        "      settingFrames s .frames\n",
+    ),
 }
 
 
-TABLES = ("Cases", "Effects", "WordCases", "Examples", "Exclusions")
+TABLES = ("Cases", "Effects", "PlanCases", "WordCases", "Examples", "Exclusions")
 
 
 def attempt(name, bare):

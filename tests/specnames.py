@@ -199,6 +199,8 @@ WRONG = [
     ("crates/book/specs/Close.antt", "next = p .roots rootNextId;", "next = p .roots 5;", "5"),
     ("crates/counts/specs/Objects.antt", "(field-at (i + objectStage) objectStage (omega arith) refl)", "(field-at (i + objectStage) 5 (omega arith) refl)", "5"),
     ("crates/representation/specs/Represents.antt", "m (item r j itemMoved) ≡ k", "m (item r j 1) ≡ k", "1"),
+    ("crates/representation/specs/Represents.antt", "m (row r rowCount) ≡ n", "m (row r 4) ≡ n", "4"),
+    ("crates/representation/specs/Represents.antt", "m (item r 0 itemFreeSlots) ≡ w .freeSlots", "m (item r 0 2) ≡ w .freeSlots", "2"),
     ("crates/written/specs/Rows.antt", "row-is s m shows i x h e rowId (omega arith)", "row-is s m shows i x h e 0 (omega arith)", "0"),
 ]
 

@@ -63,8 +63,11 @@ def text(state):
             entries = f"reservation table {row.table} slots {ranged(row.entries)}"
         elif row.what == "claim":
             entries = f"claim table {row.table}" + "".join(f" M{slot}:{handle(h)}>{gets:x}" if operation == "move" else f" C:{handle(h)}" for operation, slot, h, gets in row.entries)
-        else:
+        elif row.what == "parcel":
             entries = "parcel" + "".join(f" {handle(h)}" for h in row.entries)
+        else:
+            plan = row.plan
+            entries = f"plan table {row.table} count {plan.count} epoch {plan.epoch} free {plan.free_slots} pages {ranged(plan.pages)} frames {ranged(plan.frames)}"
         yield f"row {n} id {row.id} {entries}"
     yield "end"
 
@@ -110,6 +113,9 @@ BROKEN = [
     ("teardown_start table=scale", "starts tearing down table 1 scale"),
     ("remove_stopping_owner table=scale cursor=0", "removes for a stopping owner in table 1 scale"),
     ("reserve table=till count=1\nreserve table=till count=1\nreserve table=till count=1", 'refuses it "for want of a row"'),
+    ("make_plan table=till count=1\nuse_plan id=3", "names the transfer's id, 3"),
+    ("drop_plan id=@5", "names the transfer's id, 3"),
+    ("reserve table=till count=1\nmake_plan table=till count=1\nmake_plan table=till count=1", 'refuses it "for want of a row"'),
 ]
 KEPT = [
     "get_info table=till value=@2",  # the same number in another table
@@ -117,6 +123,10 @@ KEPT = [
     "reserve table=scale count=64",  # wants pages, of which the table may have no more
     "reserve table=till count=64\nreserve table=till count=1\nabort id=@6\nreserve table=till count=3\nabort id=4",
     "retire_object object=0\nclose table=scale value=7\ntake_empty_page table=scale",
+    "make_plan table=scale count=2\nclose table=scale value=7\nuse_plan id=@6\nabort id=@8",  # a plan in the table that holds
+    "make_plan table=till count=2\nreserve table=till count=1\nuse_plan id=@6\ndrop_plan id=@6",  # the last frame: refused for want of a frame, not of a row
+    "make_plan table=scale count=63\nreserve table=scale count=1\nuse_plan id=@6\nabort id=@7\nuse_plan id=@6",  # stale, and fresh again
+    "make_plan table=till count=1\nteardown_start table=till\nuse_plan id=@6\nteardown_finish table=till\ndrop_plan id=@6",
 ]
 
 
@@ -177,18 +187,21 @@ def two_runs(oracle):
             expect(requests, held(oracle, requests, ending), True, agree)
     expect("a copy", held(oracle, "", "rollback", "copy"), True, 'not "of moves only"')
     expect("a refused transfer", held(oracle, "", "rollback", "move offered_kind=9 expected_kind=9"), True, 'not "accepted": it gives 4 WrongObjectType')
-    # an engine that gives a difference: in an answer's last word, in a table, in an object, in the next id
+    # an engine that gives a difference: in an answer's last word, in a table, in an object, in the next id, in a plan
     flip = lambda at: lambda words: words[:at] + [words[at] ^ 1] + words[at + 1 :]
     head, objects = 16 + 16, 16 + 2 * 16 + 5 * 2 + 2 + 3 + 2 * 384
-    for what, changes, endings in (
-        ("an answer's last word", {"answer": flip(71)}, ("rollback", "commit")),
-        ("an epoch", {"words": flip(head + 4)}, ("rollback", "commit")),
-        ("a limit", {"words": flip(objects + 7)}, ("rollback",)),
-        ("the next id", {"words": flip(5)}, ("rollback",)),
+    row, plan = objects + 8 + 2 * 3, "make_plan table=till count=1"
+    for what, requests, changes, endings in (
+        ("an answer's last word", KEPT[0], {"answer": flip(71)}, ("rollback", "commit")),
+        ("an epoch", KEPT[0], {"words": flip(head + 4)}, ("rollback", "commit")),
+        ("a limit", KEPT[0], {"words": flip(objects + 7)}, ("rollback",)),
+        ("the next id", KEPT[0], {"words": flip(5)}, ("rollback",)),
+        ("a plan's count", plan, {"words": flip(row + 4)}, ("rollback",)),
+        ("a plan's kept free slots", plan, {"words": flip(row + 8)}, ("rollback",)),
     ):
         for ending in endings:
-            expect(what, held(oracle, KEPT[0], ending, **changes), False, contradict)
-    print(f"{2 * len(BROKEN) + 2} broken conditions, {2 * len(KEPT)} pairs of runs that agree and 6 that are made to differ")
+            expect(what, held(oracle, requests, ending, **changes), False, contradict)
+    print(f"{2 * len(BROKEN) + 2} broken conditions, {2 * len(KEPT)} pairs of runs that agree and 8 that are made to differ")
 
 
 RT = """#!/bin/sh
