@@ -27,10 +27,15 @@ use Rattle.model.specs.Tests.{_&_, some-same}
 abbrev pub isId : ℕ → Bool
 isId k = eqb k idField || eqb k destinationField
 
--- which of the n bits from k on stand in a map, the lowest first
+-- k in front of a list, or not
+abbrev pub putIf : Bool → ℕ → List ℕ → List ℕ
+putIf true k ks = k ∷ ks
+putIf false k ks = ks
+
+-- which of the n bits from k on stand in a map, the lowest first; the rest is named once, so that a computation of it goes n steps
 abbrev pub standing : ℕ → ℕ → ℕ → List ℕ
 standing zero k m = []
-standing (suc n) k m = pick (odd m) (k ∷ standing n (suc k) (m / 2)) (standing n (suc k) (m / 2))
+standing (suc n) k m = putIf (odd m) k (standing n (suc k) (m / 2))
 
 -- a list's words, of whose first record the fields `ks` are still to come: "A record is a bit map, then only the fields whose bit stands,
 -- lowest bit first". The words of ids are changed, and no others
@@ -153,7 +158,7 @@ module _ (f : ℕ → ℕ) (z : f 0 ≡ 0) (ys : List ℕ) where
           ∙ ap (λ (b : Fields × List ℕ). some (fieldsBy f k (b .0), then-ys [] (b .1))) p
 
       go : (b : Bool) (ws : List ℕ) → one-then n (m / 2) (readField b ws) ≡ some (fs, rest) → Fields-go n (suc k) (m / 2)
-          → one-then n (m / 2) (readField b (then-ys (pick b (k ∷ standing n (suc k) (m / 2)) (standing n (suc k) (m / 2))) ws)) ≡ some (fieldsBy f k fs, then-ys [] rest)
+          → one-then n (m / 2) (readField b (then-ys (putIf b k (standing n (suc k) (m / 2))) ws)) ≡ some (fieldsBy f k fs, then-ys [] rest)
       go false ws e ih = joins none ws ih e
       go true [] e ih = apart e
       go true (w ∷ ws) e ih = joins (some w) ws ih e
