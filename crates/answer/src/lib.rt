@@ -1,4 +1,6 @@
 // The answer of one request, in the words that begin at a base: a refusal's number, or 0 and the words of what was done.
+#![tactic(auto)]
+
 ghost use Rattle.std.specs.Prelude.{◌≡◌, [], ◌∷◌};
 ghost use Rattle.answer.specs.Does.{answered};
 

@@ -3,24 +3,26 @@
 // Ported from src/authority.rs of HypeR-Proj/kernel, with changes.
 
 // Rights of a handle: operation rights and propagation rights, split and rejoined.
+#![tactic(auto)]
+
 ghost use Rattle.std.specs.Prelude.{◌≡◌, ◌&&◌};
 ghost use Rattle.std.specs.Int.Bits.{bit_and, bit_or};
 ghost use Rattle.authority.specs.Rights.{contains, rejoin, decomposed, duplicate_right, transfer_right};
 
 // The rights that an object supports, or that a handle grants: 64 bits.
-#[derive(Drop)]
+#[derive(Clone, Copy)]
 pub struct Rights(pub u64);
 
 // Rights to invoke operations on the object.
-#[derive(Drop)]
+#[derive(Clone, Copy)]
 pub struct OperationRights(pub u64);
 
 // Rights to derive or relocate a handle.
-#[derive(Drop)]
+#[derive(Clone, Copy)]
 pub struct PropagationRights(pub u64);
 
 // One handle's rights, split.
-#[derive(Drop)]
+#[derive(Clone, Copy)]
 pub struct HandleRights {
     pub operations: OperationRights,
     pub propagation: PropagationRights,

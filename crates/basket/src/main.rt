@@ -1,4 +1,6 @@
 // Question four of a paper on retail systems: basket order never alters the total. The example of docs/reading.md.
+#![tactic(auto)]
+
 ghost use Rattle.std.specs.Prelude.{◌≡◌, ◌+◌, min};
 ghost use Rattle.basket.specs.Basket.{total};
 

@@ -1,5 +1,7 @@
 // The book's rows over the state's words: the row of an id, whether a row and an id are left, rows that open and rows that leave. A row stands in a place; the index
 // gives places by rank and ranks by place, so that a row that leaves moves no other.
+#![tactic(auto)]
+
 ghost use Rattle.std.specs.Prelude.{◌≡◌, ℕ, ◌-◌, min};
 ghost use Rattle.layout.specs.Layout.{load as loadAt};
 ghost use Rattle.layout.specs.Sizes.{batch_max};

@@ -3,6 +3,8 @@
 // Ported from src/capability/handle/mod.rs of HypeR-Proj/kernel, with changes.
 
 // The requests that end or shorten a row: trim and abort of a reservation; rollback, commit, direct commit and direct rollback of a claim.
+#![tactic(auto)]
+
 ghost use Rattle.std.specs.Prelude.{◌≡◌};
 ghost use Rattle.layout.specs.Layout.{load as loadAt};
 ghost use Rattle.answer.specs.Does.{both};

@@ -3,6 +3,8 @@
 // Ported from src/capability/handle/mod.rs of HypeR-Proj/kernel, with changes.
 
 // Closing a handle, and replacing one by another with fewer rights: mod.rs `remove_active`, `replace`.
+#![tactic(auto)]
+
 ghost use Rattle.std.specs.Prelude.{◌≡◌};
 ghost use Rattle.answer.specs.Does.{both};
 ghost use Rattle.close.specs.Close.{closed_r, close_r};

@@ -3,28 +3,30 @@
 // Ported from src/capability/handle/mod.rs of HypeR-Proj/kernel, with changes.
 
 // The codec of handle values: slot and generation under a table's mask.
+#![tactic(auto)]
+
 ghost use Rattle.std.specs.Prelude.{◌≡◌};
 ghost use Rattle.codec.specs.Codec.{mask_of, encode, decode_of, next_generation};
 
 // A handle value, a reservation id and a koid are three kinds of number.
-#[derive(Drop)]
+#[derive(Clone, Copy)]
 pub struct HandleValue(pub u64);
 
-#[derive(Drop)]
+#[derive(Clone, Copy)]
 pub struct ReservationId(pub u64);
 
-#[derive(Drop)]
+#[derive(Clone, Copy)]
 pub struct Koid(pub u64);
 
 // What a handle value decodes to: Invalid is refused as InvalidHandle, 2.
-#[derive(Drop)]
+#[derive(Clone, Copy)]
 pub enum Decoded {
     At { slot: u64, generation: u64 },
     Invalid,
 }
 
 // One table's codec: its mask of 56 bits.
-#[derive(Drop)]
+#[derive(Clone, Copy)]
 pub struct HandleCodec {
     pub mask: u64,
 }

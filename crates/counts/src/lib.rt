@@ -4,6 +4,8 @@
 // fields are in range; then the halves are compared, and the lower ones are left. Whichever handles were counted, every word is then as it was. Only the objects
 // up to the last that has a count are gone over again, or up to the last that a row has a handle of.
 // Bounds that are taken here again hold where the parts before have passed; they make each contract true of any words.
+#![tactic(auto)]
+
 ghost use Rattle.std.specs.Prelude.{◌≡◌, ◌&&◌, ◌||◌, [], ◌∷◌, ◌≤◌, ◌<◌, eqb, length};
 ghost use Rattle.layout.specs.Layout.{objects_at, total, load as loadAt, object, index, item};
 ghost use Rattle.layout.specs.Fields.{object_active, item_object};
@@ -19,7 +21,7 @@ use layout::{Shape, field, place, size, value};
 const UNIT: u64 = size::NUMBER_32_MAX + 1;
 
 // What the objects' fields say: one is out of range, or how many objects there are up to the last that has a count.
-#[derive(Drop)]
+#[derive(Clone, Copy)]
 pub enum ObjectsRead {
     Bad,
     Used(u64),

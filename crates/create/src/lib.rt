@@ -1,4 +1,6 @@
 // Creation: a new state in lent words. A call beside the request list.
+#![tactic(auto)]
+
 ghost use Rattle.std.specs.Prelude.{◌≡◌, ◌+◌, ◌*◌, ◌/◌};
 ghost use Rattle.model.specs.Base.{every};
 ghost use Rattle.model.specs.State.{till};

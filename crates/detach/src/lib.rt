@@ -3,6 +3,8 @@
 // Ported from src/capability/handle/storage.rs and src/capability/handle/mod.rs of HypeR-Proj/kernel, with changes.
 
 // A page leaves its table, over the state's words: its slots leave the free order, and its frame is given back.
+#![tactic(auto)]
+
 ghost use Rattle.std.specs.Prelude.{◌≡◌};
 ghost use Rattle.layout.specs.Layout.{load as loadAt};
 ghost use Rattle.answer.specs.Does.{both};

@@ -1,4 +1,6 @@
 // The fixed tables of request records: which fields each op must and may carry, and which words a field takes.
+#![tactic(auto)]
+
 ghost use Rattle.std.specs.Prelude.{◌≡◌, get_or};
 ghost use Rattle.format.specs.Format.{musts, mays, field_fits, known_op, transfer_item_must, transfer_item_may, parcel_item_must, parcel_item_may, field_count, answer_words};
 
@@ -9,6 +11,7 @@ pub mod refusal;
 pub mod size;
 
 // The fields that an op must carry, as a bit map; 0 for an unknown op.
+#[tactic(auto, unfolding(crate::specs::Format::musts))]
 pub fn must(op: u64) -> u64
     ensures { result ≡ get_or musts op 0 }
 {
@@ -46,6 +49,7 @@ pub fn must(op: u64) -> u64
 }
 
 // The fields that an op may carry besides, as a bit map; 0 for an unknown op. Only a transfer's preparation has any.
+#[tactic(auto, unfolding(crate::specs::Format::mays))]
 pub fn may(op: u64) -> u64
     ensures { result ≡ get_or mays op 0 }
 {

@@ -1,4 +1,6 @@
 // The pool of frames over the state's words: the lowest free frame, a frame taken for a page or for a plan, a frame given back.
+#![tactic(auto)]
+
 ghost use Rattle.std.specs.Prelude.{◌≡◌, ◌+◌, ◌≤◌};
 ghost use Rattle.layout.specs.Layout.{load as loadAt, writes};
 ghost use Rattle.frames.specs.Ops.{pool_p, take_frame_w, give_frame_w, first_of, has_free, lowest_at};

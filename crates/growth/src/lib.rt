@@ -1,4 +1,6 @@
 // Growth of a table: pages are attached in free frames, as many as a batch of slots needs. The pages that a table gets next, listed in a row, and whether they are those of a row.
+#![tactic(auto)]
+
 ghost use Rattle.std.specs.Prelude.{◌≡◌, ◌+◌, ◌-◌, ◌*◌};
 ghost use Rattle.layout.specs.Layout.{load as loadAt, writes, head};
 ghost use Rattle.storage.specs.Ops.{up};

@@ -1,4 +1,6 @@
 // A table's head: its words as one struct, the steps on it by value, thin functions that it is lent to, and its loads and stores over the state's words.
+#![tactic(auto)]
+
 ghost use Rattle.std.specs.Prelude.{◌≡◌};
 ghost use Rattle.model.specs.State.{till};
 ghost use Rattle.model.specs.Storage.{slots_of};
@@ -8,7 +10,7 @@ ghost use Rattle.head.specs.Head.{head_at, with_free, with_life, freed_by, taken
 use layout::{Shape, field, size, value};
 
 // The words of a head that change, and the number of the table's first page entry. Orders begin with a link, which is a number plus 1.
-#[derive(Drop)]
+#[derive(Clone, Copy)]
 pub struct TableHead {
     pub life: u64,
     pub cursor: u64,

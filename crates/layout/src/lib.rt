@@ -1,4 +1,6 @@
 // The words of a state: where each field stands, loads and stores, and the shape that the header gives.
+#![tactic(auto)]
+
 ghost use Rattle.std.specs.Prelude.{◌≡◌, ◌+◌, ◌<◌, ◌^◌};
 ghost use Rattle.layout.specs.Regions.{region, size, place_in};
 ghost use Rattle.layout.specs.Layout.{Addr.reg, layout, total, load as loadAt, save as save_at};
@@ -13,7 +15,7 @@ pub mod size;
 pub mod value;
 
 // The counts of a state; pages is the sum of the tables' page limits.
-#[derive(Drop)]
+#[derive(Clone, Copy)]
 pub struct Shape {
     pub tables: u8,
     pub pages: u32,
@@ -23,7 +25,7 @@ pub struct Shape {
 }
 
 // A region of the words: where it starts, x times y things, w words each.
-#[derive(Drop)]
+#[derive(Clone, Copy)]
 pub struct Extent {
     pub low: u64,
     pub x: u64,
@@ -32,7 +34,7 @@ pub struct Extent {
 }
 
 // The words of a slot. Words 2 and 3 of a vacant slot are its links, of a marked one its row's place and its position there.
-#[derive(Drop)]
+#[derive(Clone, Copy)]
 pub struct CellWords {
     pub tag: u64,
     pub generation: u64,
@@ -42,7 +44,7 @@ pub struct CellWords {
     pub unused: u64,
 }
 
-#[derive(Drop)]
+#[derive(Clone, Copy)]
 pub enum ShapeRead {
     Shape(Shape),
     Bad,

@@ -1,4 +1,6 @@
 // The part of the state check for the book: the row index and the rows in use, with the frames that plans hold; and the test of a mark, for the walk over the slots.
+#![tactic(auto)]
+
 ghost use Rattle.std.specs.Prelude.{◌≡◌, ◌≤◌, ◌<◌};
 ghost use Rattle.words.specs.All.{all};
 ghost use Rattle.layout.specs.Layout.{load as loadAt};

@@ -3,6 +3,8 @@
 // Ported from src/capability/handle/mod.rs of HypeR-Proj/kernel, with changes.
 
 // Looking up a handle value, and the requests that only read.
+#![tactic(auto)]
+
 ghost use Rattle.std.specs.Prelude.{◌≡◌, ◌∷◌, ◌≤◌, ◌<◌, take};
 ghost use Rattle.layout.specs.Layout.{load as loadAt};
 ghost use Rattle.layout.specs.Fields.{slot_tag};
@@ -22,7 +24,7 @@ use codec::{Decoded, HandleCodec, HandleValue, Koid};
 use layout::{CellWords, Shape, field, size, value};
 
 // A handle in its slot, by value.
-#[derive(Drop)]
+#[derive(Clone, Copy)]
 pub struct PreparedHandle {
     pub slot: u64,
     pub generation: u64,
@@ -32,7 +34,7 @@ pub struct PreparedHandle {
 }
 
 // What is told of a handle.
-#[derive(Drop)]
+#[derive(Clone, Copy)]
 pub struct HandleInfo {
     pub koid: Koid,
     pub kind: u64,
@@ -41,7 +43,7 @@ pub struct HandleInfo {
 }
 
 // What a value names: nothing (2), a TransferReserved slot of equal generation (3), or a handle.
-#[derive(Drop)]
+#[derive(Clone, Copy)]
 pub enum View {
     Invalid,
     Busy,
@@ -49,28 +51,28 @@ pub enum View {
 }
 
 // A handle of an active table, or the number of the refusal.
-#[derive(Drop)]
+#[derive(Clone, Copy)]
 pub enum Opened {
     Refused(u64),
     Handle(PreparedHandle),
 }
 
 // An occupied slot, as a scan shows it.
-#[derive(Drop)]
+#[derive(Clone, Copy)]
 pub struct SnapshotEntry {
     pub value: HandleValue,
     pub info: HandleInfo,
 }
 
 // Where the next scan goes on, if slots are left.
-#[derive(Drop)]
+#[derive(Clone, Copy)]
 pub enum NextCursor {
     At(u64),
     End,
 }
 
 // "A snapshot page holds 8 entries, a length and an optional next cursor. We add `examined`, the number of slots looked at".
-#[derive(Drop)]
+#[derive(Clone, Copy)]
 pub struct SnapshotPage {
     pub entries: [SnapshotEntry; format::size::SCAN_ENTRIES],
     pub len: usize,

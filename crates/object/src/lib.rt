@@ -1,4 +1,6 @@
 // Objects: records by value, a lent list of them that is updated by number, and the same over the state's words.
+#![tactic(auto)]
+
 ghost use Rattle.std.specs.Prelude.{◌≡◌};
 ghost use Rattle.layout.specs.Layout.{load as loadAt, writes};
 ghost use Rattle.object.specs.Record.{no_record, with_count, activated_by, raised_by, lowered_by, retired_by, count_in, list_by, answer_by};
@@ -8,7 +10,7 @@ use codec::Koid;
 use layout::{Shape, field, value};
 
 // "Objects: koid, kind, class, supported rights, exportable or not, state, active count, limit".
-#[derive(Drop)]
+#[derive(Clone, Copy)]
 pub struct ObjectRecord {
     pub koid: Koid,
     pub kind: u64,
@@ -147,7 +149,7 @@ pub fn retire(objects: &mut [ObjectRecord], i: usize) -> u64
 }
 
 // A record after a step, and the step's answer.
-#[derive(Drop)]
+#[derive(Clone, Copy)]
 pub struct RecordStep {
     pub object: ObjectRecord,
     pub answer: u64,

@@ -1,5 +1,7 @@
 // The part of the state check for the orders of each table: free slots, empty pages, detached pages. Each order is counted first and then walked so
 // many steps.
+#![tactic(auto)]
+
 ghost use Rattle.std.specs.Prelude.{◌≡◌};
 ghost use Rattle.layout.specs.Layout.{load as loadAt};
 ghost use Rattle.orders.specs.Walk.{walk};

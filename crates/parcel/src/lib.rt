@@ -3,6 +3,8 @@
 // Ported from src/capability/handle/mod.rs of HypeR-Proj/kernel, with changes.
 
 // The requests on loose handles: new object, duplicate, release parcel, retire object and publish.
+#![tactic(auto)]
+
 ghost use Rattle.std.specs.Prelude.{◌≡◌};
 ghost use Rattle.authority.specs.Rights.{contains};
 ghost use Rattle.model.specs.State.{known_flags};

@@ -3,6 +3,8 @@
 // Ported from src/capability/handle/mod.rs of HypeR-Proj/kernel, with changes.
 
 // The requests on plans, which hold the frames of a later reservation: make plan, use plan and drop plan (document 02, 1).
+#![tactic(auto)]
+
 ghost use Rattle.std.specs.Prelude.{◌≡◌};
 ghost use Rattle.layout.specs.Layout.{load as loadAt};
 ghost use Rattle.request.specs.Place.{field_of};

@@ -9,6 +9,8 @@
 //   state W ..             the state's words
 // R and K are decimal. A word W is hexadecimal, and W*n stands for n times W. A record that has no room is read to its end, and its line says so; a start that
 // has none leaves a state of no words.
+#![tactic(auto)]
+
 ghost use Rattle.std.specs.Prelude.{◌≡◌, ◌+◌, ◌*◌, ◌<◌, length, replicate};
 ghost use Rattle.io.specs.Counts.{IsPrefixLen};
 ghost use Rattle.replay.specs.Runs.{word_of, Cut, Run, Past};
@@ -20,14 +22,14 @@ const PATTERN: u64 = 0x5c5c_c5c5_5c5c_c5c5;
 const FILL: u64 = 0xa5a5_5a5a_a5a5_5a5a;
 
 // A word of the input, or its end.
-#[derive(Drop)]
+#[derive(Clone, Copy)]
 enum Read {
     Word(u64),
     End,
 }
 
 // What a record leaves: a state of so many words, or the input has ended.
-#[derive(Drop)]
+#[derive(Clone, Copy)]
 enum Next {
     On(usize),
     Stop,

@@ -1,4 +1,6 @@
 // Reads a list of requests in place, from lent words: document 01, "The request list". A record is named by its place, the index of its bit map.
+#![tactic(auto)]
+
 ghost use Rattle.std.specs.Prelude.{◌≡◌, ◌+◌, ◌*◌, ◌%◌, ◌^◌, ◌<◌, ◌≤◌, ◌&&◌, length, get_or, drop, set, ltb};
 ghost use Rattle.std.specs.Int.Count.{ones};
 ghost use Rattle.authority.specs.Rights.{contains};
@@ -9,28 +11,28 @@ ghost use Rattle.request.specs.Place.{next_of, placed, listed, optional, fields_
 ghost use Rattle.request.specs.Answers.{cleared};
 
 // The place after what was read, or that it is malformed.
-#[derive(Drop)]
+#[derive(Clone, Copy)]
 pub enum Next {
     At(usize),
     Malformed,
 }
 
 // How many requests a list has, or that it is malformed.
-#[derive(Drop)]
+#[derive(Clone, Copy)]
 pub enum Listed {
     Requests(u64),
     Malformed,
 }
 
 // A field that may be absent.
-#[derive(Drop)]
+#[derive(Clone, Copy)]
 pub enum Optional {
     Word(u64),
     Absent,
 }
 
 // Three fields of a record, read once.
-#[derive(Drop)]
+#[derive(Clone, Copy)]
 pub struct Three {
     pub a: u64,
     pub b: u64,

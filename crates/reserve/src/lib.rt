@@ -3,6 +3,8 @@
 // Ported from src/capability/handle/mod.rs of HypeR-Proj/kernel, with changes.
 
 // The request that opens a reservation: reserve. Its checks and the opening of its batch serve plans too.
+#![tactic(auto)]
+
 ghost use Rattle.std.specs.Prelude.{◌≡◌, min};
 ghost use Rattle.layout.specs.Layout.{load as loadAt};
 ghost use Rattle.layout.specs.Sizes.{batch_max};

@@ -1,4 +1,6 @@
 // The runner: a list of requests over lent words. Document 01, "The request list": "The kernel's C entry calls the runner on word slices".
+#![tactic(auto)]
+
 ghost use Rattle.std.specs.Prelude.{◌≡◌, ◌*◌, ◌≤◌, length, ltb};
 ghost use Rattle.words.specs.Pick.{pick};
 ghost use Rattle.wellformed.specs.Whole.{well_b};

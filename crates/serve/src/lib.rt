@@ -1,4 +1,6 @@
 // One request of a list, by its op: the function of its op reads its fields.
+#![tactic(auto)]
+
 ghost use Rattle.std.specs.Prelude.{◌≡◌};
 ghost use Rattle.answer.specs.Does.{both};
 ghost use Rattle.serve.specs.Serve.{serve_r};

@@ -1,4 +1,6 @@
 // One table's slots, its free order and its empty pages' order, over the state's words.
+#![tactic(auto)]
+
 ghost use Rattle.std.specs.Prelude.{◌≡◌, ◌+◌, ◌-◌, ◌/◌, ◌%◌, eqb};
 ghost use Rattle.words.specs.Pick.{pick};
 ghost use Rattle.layout.specs.Layout.{load as loadAt, save as save_at, writes, head, entry};

@@ -1,4 +1,6 @@
 // The first part of the state check: table heads, page entries and frames; and the test of a slot, for the walk over the slots.
+#![tactic(auto)]
+
 ghost use Rattle.std.specs.Prelude.{◌≡◌, not, eqb, ◌+◌, ◌*◌};
 ghost use Rattle.model.specs.Base.{bit};
 ghost use Rattle.layout.specs.Layout.{load as loadAt, head, owner};

@@ -1,6 +1,8 @@
 // The walk of the state check over tables, pages and slots. Each page is gone over once: a slot is tested and, if it holds a handle, the handle is counted in
 // the upper half of its object's count. A page's loop ends at a slot that fails; the walk goes on with the next page either way.
 // A handle must be of one of the first `used` objects, those up to the last that has a count: no other can have one.
+#![tactic(auto)]
+
 ghost use Rattle.std.specs.Prelude.{◌≡◌, ◌≤◌, ◌<◌, length};
 ghost use Rattle.layout.specs.Layout.{total, load as loadAt};
 ghost use Rattle.layout.specs.Cells.{cell_at};

@@ -3,6 +3,8 @@
 // Ported from src/capability/handle/storage.rs and src/capability/handle/mod.rs of HypeR-Proj/kernel, with changes.
 
 // The end of a table: a stopping owner's handles one by one, and teardown, which takes a table from active to retired.
+#![tactic(auto)]
+
 ghost use Rattle.std.specs.Prelude.{◌≡◌};
 ghost use Rattle.layout.specs.Layout.{load as loadAt};
 ghost use Rattle.layout.specs.Values.{life_tearing_down, life_retired};

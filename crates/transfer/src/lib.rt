@@ -3,6 +3,8 @@
 // Ported from src/capability/handle/mod.rs of HypeR-Proj/kernel, with changes.
 
 // The requests that open a claim: prepare transfer and prepare consumption.
+#![tactic(auto)]
+
 ghost use Rattle.std.specs.Prelude.{◌≡◌, not, [], ◌<◌, ◌%◌, ◌^◌, length, eqb};
 ghost use Rattle.std.specs.Int.Bits.{bit_or};
 ghost use Rattle.authority.specs.Rights.{contains};
@@ -172,7 +174,7 @@ pub fn prepare_consumption(
 }
 
 // What a transfer bars: classes by its route, an object by its koid, and a kind.
-#[derive(Drop)]
+#[derive(Clone, Copy)]
 pub struct TransferRules {
     pub route: u64,
     pub forbidden_object: Optional,
@@ -180,7 +182,7 @@ pub struct TransferRules {
 }
 
 // An item: "One source handle and its attenuated rights in a transfer transaction".
-#[derive(Drop)]
+#[derive(Clone, Copy)]
 pub struct HandleTransferRequest {
     pub operation: u64,
     pub value: HandleValue,

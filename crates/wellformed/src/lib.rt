@@ -1,4 +1,6 @@
 // The state check, whole: whether lent words represent a well_formed_law state.
+#![tactic(auto)]
+
 ghost use Rattle.std.specs.Prelude.{◌≡◌, true, ◌≤◌, length};
 ghost use Rattle.layout.specs.Layout.{total, load as loadAt};
 ghost use Rattle.words.specs.Words.{Small};

@@ -1,4 +1,6 @@
 // Words that a caller lends: reads and stores that are exact for every index, and tests whose answers the contracts' tests are.
+#![tactic(auto)]
+
 ghost use Rattle.std.specs.Prelude.{◌≡◌, not, ◌+◌, ◌-◌, min, max, get_or, set, eqb, ltb, leb};
 
 // The word at a place; 0 past the end.

@@ -1,0 +1,6 @@
+use mathlib.Core.Path.{sym}
+use Rattle.codec.specs.Laws.{mask_is}
+use Rattle.codec.proofs.HandleCodec.new.Goals as goal
+
+pub returns : goal.returns
+returns c = sym (mask_is c.args.seed)

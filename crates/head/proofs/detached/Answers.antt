@@ -1,0 +1,4 @@
+use Rattle.head.proofs.detached.Goals as goal
+
+pub returns : goal.returns
+returns c = cc

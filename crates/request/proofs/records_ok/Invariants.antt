@@ -1,0 +1,10 @@
+use Rattle.request.specs.Steps.{at_is, bad_is, Many, many_first, many_turn, many_bad, many_end_law}
+use borrow.Author.Rules.{rules}
+use native.Mathlib.Omega.{arith}
+use Rattle.request.proofs.records_ok.Given as goal
+
+abbrev pub invariant-loop : goal.invariant-loop
+invariant-loop l = Many l.first l.must l.allowed l.rq l.at l.count l.place l.left
+
+abbrev pub decreases-loop : goal.decreases-loop
+decreases-loop l = l.left
