@@ -6,7 +6,7 @@ use Prim.Native.Nat.{ℕ}
 use Rattle.words.specs.Pick.{pick, bool, yes_is, no_is}
 use Rattle.authority.specs.Rights.{contains}
 use Rattle.codec.specs.Codec.{encode, next_generation}
-use Rattle.codec.specs.Laws.{next_range}
+use Rattle.codec.proofs.Laws.{next_range}
 use Rattle.model.specs.State.{till, Handle, Slot.occupied, Table, State, generation}
 use Rattle.model.specs.Storage.{place}
 use Rattle.model.specs.Change.{with_table}

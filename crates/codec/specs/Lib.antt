@@ -1,4 +1,1 @@
 pub mod Codec
-pub mod Xor
-pub mod Laws
-pub mod Steps

@@ -7,7 +7,7 @@ use Rattle.std.proofs.lemmas.Nat.{and_le_l}
 use Rattle.std.proofs.lemmas.Bool.{eqb-false, not-true}
 use Rattle.authority.specs.Rights.{contains, duplicate_right, transfer_right}
 use Rattle.codec.specs.Codec.{decodes, slot_in, generation_in}
-use Rattle.codec.specs.Laws.{same_value}
+use Rattle.codec.proofs.Laws.{same_value}
 use Rattle.model.specs.Base.{pick, bit, or_else, member, occurs}
 use Rattle.model.specs.State.{Handle, Slot, Slot.absent, Slot.vacant, Slot.reserved, Slot.transfer_reserved, Slot.occupied, Table, Entry}
 use Rattle.model.specs.State.{Entry.moved, Entry.copied, State, is_active}

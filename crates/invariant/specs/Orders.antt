@@ -10,7 +10,7 @@ use Rattle.std.proofs.Math.ListN.{drop}
 use Rattle.std.proofs.Math.Dec.{ltb}
 use borrow.Author.Tests.{ltb-true, ltb-false, eqb-true, eqb-false, lt-ltb, le-ltb, ne_eqb, not-false}
 use Rattle.codec.specs.Codec.{next_generation, generation_limit}
-use Rattle.codec.specs.Laws.{next_range}
+use Rattle.codec.proofs.Laws.{next_range}
 use Rattle.model.specs.Base.{bit, pick, put, occurs, drop_if, push_all, is_some}
 use Rattle.model.specs.State.{Sizes, Lifecycle, Handle, Slot, Slot.absent, Slot.vacant, Slot.occupied, Table, generation, is_vacant, is_absent}
 use Rattle.model.specs.State.{is_busy, no_page, max_slots, Entry}

@@ -6,7 +6,7 @@ use Rattle.std.proofs.Math.Option.{some}
 use Prim.Native.Nat.{ℕ, ◌+◌, ◌≤◌, ◌<◌}
 use borrow.Author.Tests.{ltb-true}
 use Rattle.codec.specs.Codec.{next_generation, generation_in}
-use Rattle.codec.specs.Laws.{next_range}
+use Rattle.codec.proofs.Laws.{next_range}
 use Rattle.authority.specs.Rights.{contains, duplicate_right}
 use Rattle.model.specs.Base.{bit, occurs, is_some}
 use Rattle.model.specs.State.{Sizes, Lifecycle, Handle, Slot, Slot.occupied, Lifecycle.tearing_down, Lifecycle.retired, Table, Object, Body.parcel}

@@ -3,7 +3,7 @@ use Rattle.std.specs.Prelude.{◌≡◌, refl, true, ℕ, zero, suc, ◌-◌, �
 use Rattle.std.proofs.Math.Option.{Option, none, some}
 use Rattle.std.proofs.Common.{arith, ltb-true, le-ltb}
 use Rattle.words.specs.Pick.{all_six}
-use Rattle.codec.specs.Laws.{mask_below}
+use Rattle.codec.proofs.Laws.{mask_below}
 use Rattle.model.specs.Base.{nth, every, between, range, sum}
 use Rattle.model.specs.State.{Sizes, Slot.absent, State, Stage.still_new, no_page, max_tables, max_frames, max_objects, max_rows, max_limit}
 use Rattle.model.specs.State.{max_slots}

@@ -5,7 +5,7 @@ use Rattle.std.proofs.Common.{sym, ap, ◌∙◌, arith}
 use Rattle.std.proofs.Math.Option.{Option, none, some}
 use borrow.Author.Tests.{ltb-true, eqb-true, eqb-false, lt-ltb, eq-eqb, ne_eqb}
 use Rattle.codec.specs.Codec.{decodes, slot_in, generation_in}
-use Rattle.codec.specs.Laws.{same_value}
+use Rattle.codec.proofs.Laws.{same_value}
 use Rattle.model.specs.Base.{bit, member, occurs}
 use Rattle.model.specs.State.{Sizes, Handle, Slot, Slot.absent, Slot.vacant, Slot.reserved, Slot.transfer_reserved, Slot.occupied, Table, Entry, Entry.moved, Entry.copied, Body, Body.reservation, Body.claim, Body.parcel, Body.plan, StorageSnapshot, State, last_id}
 use Rattle.model.specs.State.{is_active, is_occupied}

@@ -11,7 +11,7 @@ use native.Mathlib.Omega.{arith}
 use borrow.Author.Tests.{eqb-true, ltb-true}
 use Rattle.authority.specs.Rights.{contains}
 use Rattle.codec.specs.Codec.{encode, slot_in, generation_in, slot_limit, generation_limit, next_generation}
-use Rattle.codec.specs.Laws.{decodes_encoded, slot_encoded, generation_encoded, encode_decoded}
+use Rattle.codec.proofs.Laws.{decodes_encoded, slot_encoded, generation_encoded, encode_decoded}
 use Rattle.model.specs.Base.{pick, put, every, occurs, at_most}
 use Rattle.model.specs.State.{Sizes, Handle, Slot, Slot.vacant, Slot.transfer_reserved, Slot.occupied, Table, Entry, Entry.moved, Entry.copied}
 use Rattle.model.specs.State.{Body, Body.reservation, Body.claim, Row, State, generation, is_busy, is_absent, is_active, max_slots, max_batch}

@@ -1,5 +1,5 @@
 use mathlib.Core.Path.{sym}
-use Rattle.codec.specs.Laws.{next_below, next_wraps}
+use Rattle.codec.proofs.Laws.{next_below, next_wraps}
 use borrow.Author.Rules.{rules}
 use Rattle.codec.proofs.next_generation.Goals as goal
 

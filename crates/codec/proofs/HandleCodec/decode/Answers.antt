@@ -1,4 +1,4 @@
-use Rattle.codec.specs.Steps.{other_prefix_seen, no_slot_seen, no_generation_seen, at_seen}
+use Rattle.codec.proofs.Steps.{other_prefix_seen, no_slot_seen, no_generation_seen, at_seen}
 use borrow.Author.Rules.{rules}
 use Rattle.codec.proofs.HandleCodec.decode.Goals as goal
 

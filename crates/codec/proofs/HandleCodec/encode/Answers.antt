@@ -1,4 +1,4 @@
-use Rattle.codec.specs.Steps.{made_below, encoded}
+use Rattle.codec.proofs.Steps.{made_below, encoded}
 use borrow.Author.Rules.{rules}
 use Rattle.codec.proofs.HandleCodec.encode.Goals as goal
 

@@ -1,5 +1,5 @@
 use mathlib.Core.Path.{sym}
-use Rattle.codec.specs.Laws.{mask_is}
+use Rattle.codec.proofs.Laws.{mask_is}
 use Rattle.codec.proofs.HandleCodec.new.Goals as goal
 
 pub returns : goal.returns

@@ -7,7 +7,7 @@ use Rattle.std.proofs.lemmas.Nat.{and_mask}
 use Rattle.words.specs.Pick.{yes_is, no_is}
 use Rattle.codec.specs.declared.Decoded.TheVariants.{At, Invalid}
 use Rattle.codec.specs.Codec.{prefix, mask_of, payload, encode, payload_in, number_in, slot_in, generation_in, decodes, decode_of}
-use Rattle.codec.specs.Laws.{mask_is, masked_below, prefix_bits, other_prefix, no_slot, no_generation, all_three}
+use Rattle.codec.proofs.Laws.{mask_is, masked_below, prefix_bits, other_prefix, no_slot, no_generation, all_three}
 
 -- the payload and the mask, as the code makes them
 abbrev pub made : ℕ → ℕ → ℕ → ℕ

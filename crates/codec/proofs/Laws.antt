@@ -10,7 +10,7 @@ use Rattle.std.proofs.lemmas.Nat.Bits.{and_high}
 use borrow.Author.Tests.{eqb-true, eqb-false, eq-eqb, ne_eqb, lt-ltb, le-ltb, ltb-true, ltb-false}
 use Rattle.words.specs.Pick.{yes_is, no_is}
 use Rattle.codec.specs.declared.Decoded.TheVariants.{At, Invalid}
-use Rattle.codec.specs.Xor.{xor_cancel}
+use Rattle.codec.proofs.Xor.{xor_cancel}
 use Rattle.codec.specs.Codec.{
   slot_limit,
   generation_limit,
