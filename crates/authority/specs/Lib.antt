@@ -1,2 +1,1 @@
 pub mod Rights
-pub mod Laws

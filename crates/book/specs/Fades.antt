@@ -8,9 +8,9 @@ use Rattle.model.specs.State.{till, Handle, Slot, Slot.vacant, Slot.occupied, Ta
 use Rattle.model.specs.Storage.{place, keep, vacate}
 use Rattle.model.specs.Change.{with_table}
 use Rattle.model.specs.Book.{drop_row}
-use Rattle.model.specs.Tests.{put_other, put_same}
-use Rattle.invariant.specs.BookLemmas.{length-drop, ids_drop}
-use Rattle.invariant.specs.Pointwise.{place_slots, vacate_slots}
+use Rattle.model.proofs.Tests.{put_other, put_same}
+use Rattle.invariant.proofs.BookLemmas.{length-drop, ids_drop}
+use Rattle.invariant.proofs.Pointwise.{place_slots, vacate_slots}
 use Rattle.layout.specs.declared.Shape.{Shape}
 use Rattle.layout.specs.Layout.{Mem, load}
 use Rattle.layout.specs.Fields.{slot_place, slot_position}

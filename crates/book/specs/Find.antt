@@ -11,7 +11,7 @@ use Rattle.model.specs.Base.{nth}
 use Rattle.model.specs.State.{Sizes, Body, Row, State}
 use Rattle.model.specs.Book.{find}
 use Rattle.model.specs.WellFormed.{IdsRise, WellFormed}
-use Rattle.model.specs.Tests.{nth_some}
+use Rattle.model.proofs.Tests.{nth_some}
 use Rattle.layout.specs.declared.Shape.{Shape}
 use Rattle.layout.specs.Layout.{Mem, owner, index, rank, row}
 use Rattle.layout.specs.Fields.{row_id, row_kind}

@@ -6,7 +6,7 @@ use Rattle.model.specs.Base.{occurs}
 use Rattle.model.specs.State.{till, Handle, Slot, Slot.occupied, Body, Object, State, is_busy}
 use Rattle.model.specs.Storage.{keep}
 use Rattle.model.specs.Change.{with_table, with_objects}
-use Rattle.invariant.specs.Pointwise.{given, filled}
+use Rattle.invariant.proofs.Pointwise.{given, filled}
 use Rattle.layout.specs.declared.Shape.{Shape}
 use Rattle.layout.specs.Layout.{owner, item, load}
 use Rattle.representation.specs.Represents.{is_marked}

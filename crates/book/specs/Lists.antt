@@ -7,8 +7,8 @@ use Rattle.model.specs.Base.{nth, occurs}
 use Rattle.model.specs.State.{Body, Row}
 use Rattle.model.specs.Book.{find, drop_id, swap_id}
 use Rattle.model.specs.WellFormed.{IdsRise}
-use Rattle.model.specs.Counting.{bit_same, nth_occurs}
-use Rattle.model.specs.Tests.{some_same}
+use Rattle.model.proofs.Counting.{bit_same, nth_occurs}
+use Rattle.model.proofs.Tests.{some_same}
 
 module _ {A : Type 0} where
   pub nothing {ℓ} : {C : Type ℓ} (a : A) → none ≡ some a → C

@@ -7,9 +7,9 @@ use Rattle.model.specs.Base.{bit, nth, occurs}
 use Rattle.model.specs.State.{Handle, Slot, Slot.absent, Slot.vacant, Slot.reserved, Slot.transfer_reserved, Slot.occupied, Entry, Entry.moved, Entry.copied, Body, Body.reservation, Body.claim, Body.parcel, Body.plan, StorageSnapshot, State}
 use Rattle.model.specs.Book.{moved_of}
 use Rattle.model.specs.WellFormed.{Marks, is_reserved_by}
-use Rattle.model.specs.Tests.{nth_some, some_same}
-use Rattle.model.specs.Counting.{nth_occurs}
-use Rattle.invariant.specs.Marks.{is_by, in_row, Marked, keys_reservation, owns, both_marks}
+use Rattle.model.proofs.Tests.{nth_some, some_same}
+use Rattle.model.proofs.Counting.{nth_occurs}
+use Rattle.invariant.proofs.Marks.{is_by, in_row, Marked, keys_reservation, owns, both_marks}
 use Rattle.layout.specs.declared.Shape.{Shape}
 use Rattle.layout.specs.Layout.{Mem, cell, rank, row, item}
 use Rattle.layout.specs.Fields.{slot_tag, slot_generation, slot_place, slot_position, slot_flags, row_id, row_table, row_length, item_slot, item_operation, item_moved}

@@ -8,7 +8,7 @@ use borrow.Author.Tests.{eq-eqb, ne_eqb}
 use Rattle.model.specs.Base.{nth}
 use Rattle.model.specs.State.{Body, Body.reservation, Body.claim, Body.parcel, Body.plan, StorageSnapshot, Row, State}
 use Rattle.model.specs.Book.{add_row, spend_id}
-use Rattle.invariant.specs.BookLemmas.{length_add}
+use Rattle.invariant.proofs.BookLemmas.{length_add}
 use Rattle.layout.specs.declared.Shape.{Shape}
 use Rattle.layout.specs.Layout.{Addr, Mem, root, owner, index, rank, row, item, load, load_save, in_root, in_row, upds, Write.at, load_writes}
 use Rattle.layout.specs.Fields.{root_next_id, root_used_rows, slot_tag, slot_place, slot_position, row_id, row_kind, row_table, row_length, row_count, row_epoch, item_slot, item_page, item_free_slots}

@@ -5,8 +5,8 @@ use Rattle.std.proofs.Math.Option.{some}
 use Rattle.words.specs.Pick.{bool}
 use Rattle.model.specs.Base.{nth, occurs}
 use Rattle.model.specs.State.{Row}
-use Rattle.model.specs.Counting.{bit_same, bit_other}
-use Rattle.model.specs.Tests.{some_same}
+use Rattle.model.proofs.Counting.{bit_same, bit_other}
+use Rattle.model.proofs.Tests.{some_same}
 use Rattle.layout.specs.Layout.{Mem, index, rank, row}
 use Rattle.layout.specs.Fields.{row_id}
 use Rattle.representation.specs.Represents.{Items, BodyIs, RowsAre}

@@ -11,11 +11,11 @@ use Rattle.model.specs.Storage.{vacate_all}
 use Rattle.model.specs.Change.{with_table}
 use Rattle.model.specs.Book.{drop_row, swap_row}
 use Rattle.model.specs.WellFormed.{WellFormed}
-use Rattle.model.specs.Sums.{member_in}
-use Rattle.model.specs.Counting.{nth_occurs}
-use Rattle.invariant.specs.BookLemmas.{found_range}
-use Rattle.invariant.specs.Marks.{mark_busy}
-use Rattle.invariant.specs.Pointwise.{vacate_all_slots}
+use Rattle.model.proofs.Sums.{member_in}
+use Rattle.model.proofs.Counting.{nth_occurs}
+use Rattle.invariant.proofs.BookLemmas.{found_range}
+use Rattle.invariant.proofs.Marks.{mark_busy}
+use Rattle.invariant.proofs.Pointwise.{vacate_all_slots}
 use Rattle.layout.specs.declared.Shape.{Shape}
 use Rattle.layout.specs.Layout.{load}
 use Rattle.layout.specs.Fields.{slot_position}

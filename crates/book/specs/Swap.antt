@@ -5,7 +5,7 @@ use Rattle.std.proofs.Math.Option.{some}
 use Rattle.model.specs.Base.{nth}
 use Rattle.model.specs.State.{Body, Row, State}
 use Rattle.model.specs.Book.{swap_id, swap_row}
-use Rattle.invariant.specs.BookLemmas.{length_swap}
+use Rattle.invariant.proofs.BookLemmas.{length_swap}
 use Rattle.layout.specs.declared.Shape.{Shape}
 use Rattle.layout.specs.Layout.{Mem, root, owner, index, rank, row, item, load}
 use Rattle.layout.specs.Fields.{root_next_id, root_used_rows, slot_tag, slot_place, slot_position, index_place, index_rank, row_id, row_table, row_length, item_operation}

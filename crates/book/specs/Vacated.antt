@@ -10,8 +10,8 @@ use Rattle.model.specs.Base.{put, nth, occurs}
 use Rattle.model.specs.State.{Sizes, till, Table, Body, Body.reservation, State, is_busy}
 use Rattle.model.specs.Storage.{vacate, vacate_all}
 use Rattle.model.specs.Change.{with_table}
-use Rattle.model.specs.Tests.{nth_some, put_put}
-use Rattle.invariant.specs.Pointwise.{vacate_all_more, vacate_all_out}
+use Rattle.model.proofs.Tests.{nth_some, put_put}
+use Rattle.invariant.proofs.Pointwise.{vacate_all_more, vacate_all_out}
 use Rattle.layout.specs.declared.Shape.{Shape}
 use Rattle.layout.specs.Layout.{Mem, item, load}
 use Rattle.layout.specs.Fields.{item_slot}

@@ -8,10 +8,10 @@ use Rattle.model.specs.State.{till, Slot.vacant, Table, Entry, Body.claim, Body.
 use Rattle.model.specs.Storage.{vacate_all}
 use Rattle.model.specs.Change.{with_table}
 use Rattle.model.specs.Book.{swap_row, moved_of, sent_of}
-use Rattle.model.specs.Sums.{member_in}
+use Rattle.model.proofs.Sums.{member_in}
 use Rattle.model.specs.Step.{commit_of, decide}
 use Rattle.model.specs.Request.{Request.commit}
-use Rattle.invariant.specs.Pointwise.{vacate_all_slots}
+use Rattle.invariant.proofs.Pointwise.{vacate_all_slots}
 use Rattle.layout.specs.declared.Shape.{Shape}
 use Rattle.layout.specs.Layout.{total, row, item, in_row, load, save, load_save}
 use Rattle.layout.specs.Fields.{row_id, row_kind, row_length}

@@ -15,21 +15,21 @@ use Rattle.model.specs.Book.{drop_row, moved_of, sent_of}
 use Rattle.model.specs.Step.{fill_all, direct_commit_of, direct_rollback_of, abort_of, decide, step}
 use Rattle.model.specs.Request.{Request, Request.abort, Request.rollback, Request.direct_commit, Request.direct_rollback, Answer, Answer.done}
 use Rattle.model.specs.Decision.{Decision.accept}
-use Rattle.model.specs.Tests.{zero_or}
+use Rattle.model.proofs.Tests.{zero_or}
 use Rattle.model.specs.Words.{used_words}
 use Rattle.model.specs.WellFormed.{WellFormed}
-use Rattle.invariant.specs.BookLemmas.{found_range, find_drop_other}
-use Rattle.invariant.specs.Kept.{kept}
-use Rattle.invariant.specs.Marks.{Owns, not_both}
-use Rattle.invariant.specs.Pages.{till_sane}
-use Rattle.invariant.specs.Pointwise.{vacate_all_out, fill_all_slots}
-use Rattle.invariant.specs.StorageDecisions.{reservation_owns}
-use Rattle.invariant.specs.RowsClosed.{two_rows}
+use Rattle.invariant.proofs.BookLemmas.{found_range, find_drop_other}
+use Rattle.invariant.proofs.Kept.{kept}
+use Rattle.invariant.proofs.Marks.{Owns, not_both}
+use Rattle.invariant.proofs.Pages.{till_sane}
+use Rattle.invariant.proofs.Pointwise.{vacate_all_out, fill_all_slots}
+use Rattle.invariant.proofs.StorageDecisions.{reservation_owns}
+use Rattle.invariant.proofs.RowsClosed.{two_rows}
 use Rattle.layout.specs.declared.Shape.{Shape}
 use Rattle.layout.specs.Layout.{load}
 use Rattle.representation.specs.Represents.{is_marked, Rep}
 use Rattle.storage.specs.Reps.{Held}
-use Rattle.model.specs.Counting.{nth_occurs}
+use Rattle.model.proofs.Counting.{nth_occurs}
 use Rattle.book.specs.Ops.{close_w}
 use Rattle.book.specs.Find.{Fits, fits_of, RowAt}
 use Rattle.book.specs.Marks.{Unnamed, unnamed, named_reservation}

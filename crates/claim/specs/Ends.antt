@@ -15,7 +15,7 @@ use Rattle.model.specs.Book.{drop_row, swap_row}
 use Rattle.model.specs.Request.{Request.abort, Request.trim, Answer.done}
 use Rattle.model.specs.Step.{abort_of, trim_of, decide}
 use Rattle.model.specs.Words.{used_words}
-use Rattle.invariant.specs.BookLemmas.{found_range}
+use Rattle.invariant.proofs.BookLemmas.{found_range}
 use Rattle.layout.specs.declared.Shape.{Shape}
 use Rattle.layout.specs.Layout.{row, load}
 use Rattle.layout.specs.Fields.{row_length}

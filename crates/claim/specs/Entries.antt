@@ -9,9 +9,9 @@ use Rattle.model.specs.Change.{with_table, with_objects}
 use Rattle.model.specs.Objects.{lower, change, release}
 use Rattle.model.specs.Book.{moved_of, copies_of, sent_of}
 use Rattle.model.specs.Step.{fill_all, restore_all}
-use Rattle.model.specs.Counting.{bit_same}
-use Rattle.invariant.specs.Pointwise.{keep_busy, vacate_all_out}
-use Rattle.invariant.specs.StorageState.{InRange}
+use Rattle.model.proofs.Counting.{bit_same}
+use Rattle.invariant.proofs.Pointwise.{keep_busy, vacate_all_out}
+use Rattle.invariant.proofs.StorageState.{InRange}
 use Rattle.layout.specs.declared.Shape.{Shape}
 use Rattle.layout.specs.Layout.{Mem, item, load}
 use Rattle.layout.specs.Fields.{item_slot, item_object, item_flags}

@@ -7,9 +7,9 @@ use Rattle.model.specs.State.{till, Entry, Body, Body.reservation, Body.claim, B
 use Rattle.model.specs.Book.{find, moved_of}
 use Rattle.model.specs.WellFormed.{BodyRange}
 use Rattle.model.specs.Decision.{Decision, Decision.refusal, as_claim, claim_row◌of◌refuse◌then◌}
-use Rattle.invariant.specs.BookLemmas.{found_range}
-use Rattle.invariant.specs.Marks.{Owns}
-use Rattle.invariant.specs.StorageDecisions.{claim_owns}
+use Rattle.invariant.proofs.BookLemmas.{found_range}
+use Rattle.invariant.proofs.Marks.{Owns}
+use Rattle.invariant.proofs.StorageDecisions.{claim_owns}
 use Rattle.layout.specs.declared.Shape.{Shape}
 use Rattle.layout.specs.Layout.{Mem, row, load}
 use Rattle.layout.specs.Fields.{row_kind}

@@ -7,9 +7,9 @@ use Rattle.model.specs.Book.{drop_row, moved_of}
 use Rattle.model.specs.Step.{restore_all, rollback_of, decide}
 use Rattle.model.specs.Request.{Request.rollback, Answer.done}
 use Rattle.model.specs.Decision.{Decision.accept}
-use Rattle.invariant.specs.Parcels.{moved_length}
-use Rattle.invariant.specs.Pointwise.{moved_handles, restore_all_is, fill_all_slots}
-use Rattle.invariant.specs.StorageState.{copies_range}
+use Rattle.invariant.proofs.Parcels.{moved_length}
+use Rattle.invariant.proofs.Pointwise.{moved_handles, restore_all_is, fill_all_slots}
+use Rattle.invariant.proofs.StorageState.{copies_range}
 use Rattle.layout.specs.declared.Shape.{Shape}
 use Rattle.layout.specs.Layout.{load}
 use Rattle.representation.specs.Represents.{is_marked, Rep}

@@ -14,10 +14,10 @@ use Rattle.model.specs.State.{till, Handle, Slot, Slot.occupied, Table, State, g
 use Rattle.model.specs.Storage.{place}
 use Rattle.model.specs.Change.{with_table}
 use Rattle.model.specs.Objects.{with_rights}
-use Rattle.model.specs.Tests.{and-false, put_same, put_other}
-use Rattle.invariant.specs.Pointwise.{place_alike, place_slots}
-use Rattle.invariant.specs.Pages.{till_sane, busy_there, busy_vacant, busy_same}
-use Rattle.invariant.specs.Orders.{Sound, attached_below, attached_of, place_good}
+use Rattle.model.proofs.Tests.{and-false, put_same, put_other}
+use Rattle.invariant.proofs.Pointwise.{place_alike, place_slots}
+use Rattle.invariant.proofs.Pages.{till_sane, busy_there, busy_vacant, busy_same}
+use Rattle.invariant.proofs.Orders.{Sound, attached_below, attached_of, place_good}
 use Rattle.layout.specs.declared.Shape.{Shape}
 use Rattle.layout.specs.Layout.{Mem, head, entry, load, save, writes}
 use Rattle.layout.specs.Fields.{head_pages, head_first_free, head_first_entry, entry_high, slot_tag, slot_generation, slot_next_free, slot_previous_free, slot_object, slot_rights, slot_flags, row_id}

@@ -15,9 +15,9 @@ use Rattle.model.specs.State.{till, State}
 use Rattle.model.specs.Request.{Request, Answer}
 use Rattle.model.specs.Step.{step, run}
 use Rattle.model.specs.Words.{read_list, used_words, words_of, all_words}
-use Rattle.model.specs.Lists.{words_length}
-use Rattle.invariant.specs.Pages.{till_sane}
-use Rattle.invariant.specs.Kept.{kept}
+use Rattle.model.proofs.Lists.{words_length}
+use Rattle.invariant.proofs.Pages.{till_sane}
+use Rattle.invariant.proofs.Kept.{kept}
 use Rattle.layout.specs.declared.Shape.{Shape}
 use Rattle.representation.specs.Represents.{Rep}
 use Rattle.request.specs.Place.{request_at, next_at}

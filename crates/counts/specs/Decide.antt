@@ -6,7 +6,7 @@ use borrow.Author.Tests.{eq-eqb, eqb-true, le-leb}
 use Rattle.words.specs.Pick.{clash}
 use Rattle.words.specs.All.{all_at, all_yes}
 use Rattle.model.specs.State.{till, Body, Body.reservation, Body.claim, Body.parcel, Body.plan, Row, State, max_batch}
-use Rattle.model.specs.Sums.{sum_part}
+use Rattle.model.proofs.Sums.{sum_part}
 use Rattle.model.specs.WellFormed.{All, BodyRange, RowRange, handle_count, WellFormed}
 use Rattle.layout.specs.declared.Shape.{Shape}
 use Rattle.layout.specs.Layout.{Mem, total, object, index, load}

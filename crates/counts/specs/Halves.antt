@@ -16,7 +16,7 @@ use Rattle.words.specs.All.{all, all_at, all_yes, all_same}
 use Rattle.model.specs.Base.{bit, occurs}
 use Rattle.model.specs.State.{till, max_slots}
 use Rattle.model.specs.Storage.{slots_of}
-use Rattle.model.specs.Tests.{bit_small}
+use Rattle.model.proofs.Tests.{bit_small}
 use Rattle.layout.specs.declared.Shape.{Shape}
 use Rattle.layout.specs.Layout.{Addr, Addr.reg, Mem, total, root, head, entry, cell, row, item, index, objects_at, object, is_in, in_no, same, same_all, place, place_low, in_object, load, save, load_out, length_save, save_past, loads_same}
 use Rattle.layout.specs.Fields.{root_used_rows, head_pages, head_first_entry, entry_frame, slot_tag, slot_object, object_active, row_kind, row_length, item_object}

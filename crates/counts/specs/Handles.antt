@@ -6,9 +6,9 @@ use Rattle.words.specs.Pick.{pick, eqb_sym}
 use Rattle.model.specs.Base.{bit, occurs, sum}
 use Rattle.model.specs.State.{till, Handle, Entry, Entry.moved, Entry.copied, Body, Body.reservation, Body.claim, Body.parcel, Body.plan, Row, State, max_slots}
 use Rattle.model.specs.Storage.{slots_of}
-use Rattle.model.specs.Sums.{sum_equal, sum_zero}
+use Rattle.model.proofs.Sums.{sum_equal, sum_zero}
 use Rattle.model.specs.WellFormed.{in_slot, held_by, handles_in, in_handles, in_rows, handle_count}
-use Rattle.model.specs.Counting.{occurs_append, sum_append, sum_front, sum_cut}
+use Rattle.model.proofs.Counting.{occurs_append, sum_append, sum_front, sum_cut}
 use Rattle.layout.specs.declared.Shape.{Shape}
 use Rattle.layout.specs.Layout.{Mem, root, head, entry, cell, object, index, row, item}
 use Rattle.layout.specs.Fields.{root_used_rows, head_pages, head_first_entry, entry_frame, slot_tag, slot_generation, slot_object, slot_rights, slot_flags, row_kind, row_length, item_object}

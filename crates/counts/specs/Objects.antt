@@ -9,7 +9,7 @@ use Rattle.model.specs.Base.{bit}
 use Rattle.model.specs.State.{till, Stage, Stage.still_new, Stage.now_active, Stage.now_retired, Object, State, max_limit}
 use Rattle.model.specs.Create.{class_of}
 use Rattle.model.specs.WellFormed.{ObjectRange, StageCount, WellFormed}
-use Rattle.model.specs.Tests.{bit_small}
+use Rattle.model.proofs.Tests.{bit_small}
 use Rattle.layout.specs.declared.Shape.{Shape}
 use Rattle.layout.specs.Layout.{Addr.reg, Mem, objects_at, object, load}
 use Rattle.layout.specs.Fields.{object_koid, object_kind, object_class, object_supported, object_exportable, object_stage, object_active, object_limit}

@@ -8,7 +8,7 @@ use borrow.Author.Tests.{ne_eqb, eqb-true, eqb-false, lt-ltb, le-ltb, ltb-true, 
 use Rattle.words.specs.Pick.{pick, pick_has, bool, both}
 use Rattle.words.specs.All.{all, all_at, all_yes}
 use Rattle.model.specs.Base.{occurs}
-use Rattle.model.specs.Counting.{occurs_append}
+use Rattle.model.proofs.Counting.{occurs_append}
 use Rattle.layout.specs.declared.Shape.{Shape}
 use Rattle.layout.specs.Layout.{Mem, object}
 use Rattle.layout.specs.Fields.{object_active}

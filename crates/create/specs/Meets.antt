@@ -14,8 +14,8 @@ use Rattle.layout.specs.Sizes.{page_size, pages_max}
 use Rattle.model.specs.Base.{bit, nth, every, range, occurs, sum}
 use Rattle.model.specs.State.{till, Slot.absent, max_slots}
 use Rattle.model.specs.Create.{TableParameters, ObjectParameters, table_permitted, object_permitted, permitted, class_of, new_table, new_object_record, created}
-use Rattle.model.specs.Created.{created_well_formed}
-use Rattle.model.specs.Sums.{sum_equal, range_all, length_range}
+use Rattle.model.proofs.Created.{created_well_formed}
+use Rattle.model.proofs.Sums.{sum_equal, range_all, length_range}
 use Rattle.representation.specs.Represents.{class_word, slot_in, TableIs, ObjectIs, Represents, Rep}
 use Rattle.representation.specs.Unique.{shape_for}
 use Rattle.create.specs.Parameters.{from, from_length, table_from, object_of, tables_in, objects_in, parameters_of, need, page_sum, pages_small, shape_in, Good, TableGood, table_is, ObjectGood, object_is, good_checked, plan_good, plan_bad}

@@ -10,7 +10,7 @@ use Rattle.layout.specs.Sizes.{pages_max, tables_max, frames_max, objects_max, r
 use Rattle.model.specs.Base.{at_most, between, every, sum}
 use Rattle.model.specs.State.{till, max_tables, max_frames, max_objects, max_rows, max_limit, max_slots}
 use Rattle.model.specs.Create.{TableParameters, ObjectParameters, Parameters, max_pages, table_permitted, object_permitted, permitted}
-use Rattle.model.specs.Tests.{within}
+use Rattle.model.proofs.Tests.{within}
 
 -- n things, from that of number k on
 abbrev pub from {ℓ} : {A : Type ℓ} → (ℕ → A) → ℕ → ℕ → List A

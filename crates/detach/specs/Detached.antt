@@ -9,11 +9,11 @@ use Rattle.model.specs.Base.{occurs, without, drop_if}
 use Rattle.model.specs.State.{till, Slot.absent, Table, is_absent, max_slots}
 use Rattle.model.specs.Storage.{with_free, on_page, detach}
 use Rattle.model.specs.WellFormed.{is_attached}
-use Rattle.model.specs.Tests.{pick_same}
-use Rattle.model.specs.Sums.{occurs_without, occurs_drop_if}
-use Rattle.model.specs.Bounds.{pages_max_law}
-use Rattle.invariant.specs.Pages.{till_sane, vacant_there, busy_other}
-use Rattle.invariant.specs.Orders.{Sound, attached_below, below_of, absent_past}
+use Rattle.model.proofs.Tests.{pick_same}
+use Rattle.model.proofs.Sums.{occurs_without, occurs_drop_if}
+use Rattle.model.proofs.Bounds.{pages_max_law}
+use Rattle.invariant.proofs.Pages.{till_sane, vacant_there, busy_other}
+use Rattle.invariant.proofs.Orders.{Sound, attached_below, below_of, absent_past}
 use Rattle.layout.specs.Layout.{Mem, head, entry, upds}
 use Rattle.layout.specs.Fields.{head_epoch, head_pages, head_first_free, head_first_empty, head_first_detached, head_first_entry, entry_frame, entry_next, entry_previous, slot_next_free, slot_previous_free}
 use Rattle.layout.specs.Sizes.{page_size}

@@ -8,7 +8,7 @@ use Rattle.std.proofs.Math.Seq.{set_out}
 use Rattle.words.specs.Pick.{bool}
 use Rattle.model.specs.State.{till, max_slots}
 use Rattle.model.specs.Storage.{slots_of}
-use Rattle.model.specs.Bounds.{slots_max_law}
+use Rattle.model.proofs.Bounds.{slots_max_law}
 use Rattle.layout.specs.declared.Shape.{Shape}
 use Rattle.layout.specs.Layout.{Addr, Mem, head, entry, cell, place, load, save, save_load, length_save, Write, writes, length_writes}
 use Rattle.layout.specs.Fields.{head_pages, head_first_free, head_free_slots, head_first_entry, entry_frame, slot_next_free, slot_previous_free}

@@ -12,10 +12,10 @@ use Rattle.model.specs.Base.{pick, occurs, without, drop_if, bit}
 use Rattle.model.specs.State.{Sizes, till, Slot, Slot.absent, Slot.vacant, Slot.reserved, Slot.transfer_reserved, Slot.occupied, Table, is_vacant, is_absent, is_busy, max_slots}
 use Rattle.model.specs.Storage.{with_free, page_of, busy_of, slots_of, on_page}
 use Rattle.model.specs.WellFormed.{is_attached}
-use Rattle.model.specs.Sums.{occurs_drop_if}
-use Rattle.invariant.specs.Pages.{Sane, till_sane, vacant_there, page_in, page_of_law, page_below, on_page_law}
-use Rattle.invariant.specs.Orders.{Sound}
-use Rattle.invariant.specs.Growth.{busy_nowhere}
+use Rattle.model.proofs.Sums.{occurs_drop_if}
+use Rattle.invariant.proofs.Pages.{Sane, till_sane, vacant_there, page_in, page_of_law, page_below, on_page_law}
+use Rattle.invariant.proofs.Orders.{Sound}
+use Rattle.invariant.proofs.Growth.{busy_nowhere}
 use Rattle.layout.specs.declared.Shape.{Shape}
 use Rattle.layout.specs.Layout.{total, load}
 use Rattle.layout.specs.Fields.{head_first_free, head_free_slots, slot_next_free, slot_previous_free}

@@ -10,9 +10,9 @@ use Rattle.model.specs.Base.{occurs, without, drop_if, insert}
 use Rattle.model.specs.State.{till, Slot, Slot.absent, Slot.vacant, Slot.reserved, Slot.transfer_reserved, Slot.occupied, Table, State, is_vacant, is_absent, max_slots}
 use Rattle.model.specs.Storage.{with_free, busy_of, on_page, detach}
 use Rattle.model.specs.WellFormed.{is_attached, Frames}
-use Rattle.model.specs.Tests.{and_right, bit_true}
-use Rattle.invariant.specs.Pages.{till_sane}
-use Rattle.invariant.specs.Orders.{Sound, below_of, detach_sound}
+use Rattle.model.proofs.Tests.{and_right, bit_true}
+use Rattle.invariant.proofs.Pages.{till_sane}
+use Rattle.invariant.proofs.Orders.{Sound, below_of, detach_sound}
 use Rattle.layout.specs.declared.Shape.{Shape}
 use Rattle.layout.specs.Layout.{Mem, head, entry, group, load, in_head, in_entry, InAll, length_writes, load_writes, upds, Write.at}
 use Rattle.layout.specs.Fields.{head_page_limit, head_epoch, head_pages, head_first_detached, head_first_entry, entry_frame, entry_next, slot_tag, slot_place, slot_position, row_id}

@@ -1,4 +1,3 @@
 pub mod Fields
 pub mod Ops
 pub mod Format
-pub mod Laws

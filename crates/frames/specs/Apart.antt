@@ -5,8 +5,8 @@ use Rattle.std.proofs.Math.Option.{some}
 use Rattle.model.specs.Base.{occurs, insert}
 use Rattle.model.specs.State.{State}
 use Rattle.model.specs.Change.{with_frames}
-use Rattle.model.specs.Counting.{bit_other}
-use Rattle.invariant.specs.Frames.{rising_tail}
+use Rattle.model.proofs.Counting.{bit_other}
+use Rattle.invariant.proofs.Frames.{rising_tail}
 use Rattle.layout.specs.declared.Shape.{Shape}
 use Rattle.layout.specs.Layout.{Mem, root, owner, index, load}
 use Rattle.layout.specs.ShapeOf.{roots_kept}

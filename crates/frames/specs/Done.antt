@@ -6,8 +6,8 @@ use Rattle.std.proofs.Math.Option.{none, some}
 use Rattle.model.specs.Base.{insert}
 use Rattle.model.specs.State.{till, Table, State}
 use Rattle.model.specs.WellFormed.{Frames}
-use Rattle.model.specs.Tests.{apart}
-use Rattle.invariant.specs.Orders.{Sound}
+use Rattle.model.proofs.Tests.{apart}
+use Rattle.invariant.proofs.Orders.{Sound}
 use Rattle.layout.specs.declared.Shape.{Shape}
 use Rattle.layout.specs.Layout.{Addr.reg, Mem, total, head, entry, owner, load}
 use Rattle.layout.specs.Fields.{head_first_entry, slot_tag, slot_place, slot_position, row_id}

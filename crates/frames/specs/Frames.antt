@@ -7,10 +7,10 @@ use Rattle.words.specs.Pick.{bool}
 use Rattle.model.specs.Base.{bit, occurs, insert, put, sum}
 use Rattle.model.specs.State.{till, Table, State}
 use Rattle.model.specs.WellFormed.{Rising, pages_with, Frames}
-use Rattle.model.specs.Tests.{apart, bit_true, bit_small}
-use Rattle.model.specs.Sums.{sum_put}
-use Rattle.model.specs.Counting.{bit_same}
-use Rattle.invariant.specs.Frames.{owned}
+use Rattle.model.proofs.Tests.{apart, bit_true, bit_small}
+use Rattle.model.proofs.Sums.{sum_put}
+use Rattle.model.proofs.Counting.{bit_same}
+use Rattle.invariant.proofs.Frames.{owned}
 use Rattle.layout.specs.declared.Shape.{Shape}
 use Rattle.layout.specs.Layout.{Mem, head, owner}
 use Rattle.layout.specs.Fields.{head_first_entry}

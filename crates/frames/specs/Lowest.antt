@@ -6,10 +6,10 @@ use Rattle.words.specs.Pick.{bool, clash}
 use Rattle.model.specs.Base.{bit, occurs, sum, is_some}
 use Rattle.model.specs.State.{Sizes, Body, Body.reservation, Body.claim, Body.parcel, Body.plan, Row, State}
 use Rattle.model.specs.WellFormed.{Rising, is_frame, pages_with, frames_in, plans_with, Frames}
-use Rattle.model.specs.Sums.{sum_zero}
-use Rattle.model.specs.Tests.{bit_true}
-use Rattle.model.specs.Counting.{bit_same, sum_some}
-use Rattle.invariant.specs.Orders.{attached_below}
+use Rattle.model.proofs.Sums.{sum_zero}
+use Rattle.model.proofs.Tests.{bit_true}
+use Rattle.model.proofs.Counting.{bit_same, sum_some}
+use Rattle.invariant.proofs.Orders.{attached_below}
 use Rattle.layout.specs.declared.Shape.{Shape}
 use Rattle.layout.specs.Layout.{Mem, owner, group, index, load}
 use Rattle.layout.specs.Sizes.{plan_owner}

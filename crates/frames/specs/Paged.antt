@@ -4,7 +4,7 @@ use Rattle.std.proofs.Common.{sym, ap, ◌∙◌, inl, inr, ⊎_elim, arith}
 use Rattle.words.specs.Pick.{bool}
 use Rattle.model.specs.Base.{occurs}
 use Rattle.model.specs.State.{till, State}
-use Rattle.model.specs.Counting.{sum_next, runs_apart}
+use Rattle.model.proofs.Counting.{sum_next, runs_apart}
 use Rattle.layout.specs.declared.Shape.{Shape}
 use Rattle.layout.specs.Layout.{Addr, Addr.reg, Mem, root, head, entry, owner, cell, same, same_is, Write.at, upd}
 use Rattle.layout.specs.ShapeOf.{Permitted}

@@ -5,9 +5,9 @@ use Rattle.std.proofs.Math.Nat.{div-eq_of_lt-le}
 use Rattle.words.specs.Pick.{bool}
 use Rattle.model.specs.Base.{bit, occurs, insert, sum}
 use Rattle.model.specs.State.{State}
-use Rattle.model.specs.Tests.{bit_small}
-use Rattle.model.specs.Sums.{sum_equal, sum_zero, sum_add, occurs_insert}
-use Rattle.model.specs.Counting.{bit_same, bit_other}
+use Rattle.model.proofs.Tests.{bit_small}
+use Rattle.model.proofs.Sums.{sum_equal, sum_zero, sum_add, occurs_insert}
+use Rattle.model.proofs.Counting.{bit_same, bit_other}
 use Rattle.layout.specs.Layout.{Mem, root, owner, group}
 use Rattle.layout.specs.Fields.{root_free_frames}
 use Rattle.layout.specs.Sizes.{frames_max}

@@ -7,8 +7,8 @@ use Rattle.words.specs.Pick.{bool}
 use Rattle.model.specs.Base.{put}
 use Rattle.model.specs.State.{Sizes, till, Table, State}
 use Rattle.model.specs.Change.{with_table, with_frames}
-use Rattle.model.specs.Sums.{sum_equal}
-use Rattle.invariant.specs.Orders.{Sound}
+use Rattle.model.proofs.Sums.{sum_equal}
+use Rattle.invariant.proofs.Orders.{Sound}
 use Rattle.layout.specs.declared.Shape.{Shape}
 use Rattle.layout.specs.Layout.{Mem, load}
 use Rattle.layout.specs.ShapeOf.{roots_kept}

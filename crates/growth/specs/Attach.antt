@@ -14,10 +14,10 @@ use Rattle.model.specs.State.{till, Slot, Slot.absent, Slot.vacant, State, max_s
 use Rattle.model.specs.Storage.{slots_of, on_page, attach}
 use Rattle.model.specs.Change.{with_table, with_frames}
 use Rattle.model.specs.WellFormed.{Frames}
-use Rattle.model.specs.Counting.{sum_next}
-use Rattle.invariant.specs.Pages.{till_sane}
-use Rattle.invariant.specs.Pointwise.{attach_slots, attach_free}
-use Rattle.invariant.specs.Orders.{Room, order_is, absent_past, attach_sound}
+use Rattle.model.proofs.Counting.{sum_next}
+use Rattle.invariant.proofs.Pages.{till_sane}
+use Rattle.invariant.proofs.Pointwise.{attach_slots, attach_free}
+use Rattle.invariant.proofs.Orders.{Room, order_is, absent_past, attach_sound}
 use Rattle.layout.specs.declared.Shape.{Shape}
 use Rattle.layout.specs.Layout.{Mem, head, load, Write, writes, length_writes}
 use Rattle.layout.specs.Turns.{turns, length_turns}

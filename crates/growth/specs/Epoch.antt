@@ -6,7 +6,7 @@ use Rattle.std.proofs.Math.Bool.{and-true}
 use Rattle.model.specs.State.{till, State}
 use Rattle.model.specs.Storage.{advance}
 use Rattle.model.specs.Change.{with_table}
-use Rattle.invariant.specs.Orders.{recast}
+use Rattle.invariant.proofs.Orders.{recast}
 use Rattle.layout.specs.declared.Shape.{Shape}
 use Rattle.layout.specs.Layout.{Mem, head, load, Write.at, upd, in_head, length_writes, load_writes}
 use Rattle.layout.specs.Fields.{head_epoch, slot_tag, slot_place, slot_position}

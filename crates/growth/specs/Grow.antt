@@ -16,14 +16,14 @@ use Rattle.model.specs.State.{Sizes, till, Table, State, max_batch}
 use Rattle.model.specs.Storage.{slots_of, pages_from, pages_for, attach, attach_all, grow, advance}
 use Rattle.model.specs.Change.{with_table, with_frames}
 use Rattle.model.specs.WellFormed.{is_attached, Rising, Frames}
-use Rattle.model.specs.Tests.{apart, bit_small, same, also_some}
-use Rattle.model.specs.Sums.{without_none}
-use Rattle.model.specs.Counting.{bit_same}
-use Rattle.model.specs.Bounds.{pages_max_law, batch_max_law}
-use Rattle.invariant.specs.Pages.{Sane, till_sane}
-use Rattle.invariant.specs.Orders.{Sound, Room, attach_sound}
-use Rattle.invariant.specs.Frames.{Grows, pages_grow, reserve_length, attach_all_owned, rising_tail}
-use Rattle.invariant.specs.StorageViews.{occurs_inserted, rising_inserted}
+use Rattle.model.proofs.Tests.{apart, bit_small, same, also_some}
+use Rattle.model.proofs.Sums.{without_none}
+use Rattle.model.proofs.Counting.{bit_same}
+use Rattle.model.proofs.Bounds.{pages_max_law, batch_max_law}
+use Rattle.invariant.proofs.Pages.{Sane, till_sane}
+use Rattle.invariant.proofs.Orders.{Sound, Room, attach_sound}
+use Rattle.invariant.proofs.Frames.{Grows, pages_grow, reserve_length, attach_all_owned, rising_tail}
+use Rattle.invariant.proofs.StorageViews.{occurs_inserted, rising_inserted}
 use Rattle.layout.specs.declared.Shape.{Shape}
 use Rattle.layout.specs.Layout.{Addr.reg, Mem, head, entry, item, load}
 use Rattle.layout.specs.Fields.{head_pages, head_first_detached, entry_next, item_page, item_frame}

@@ -13,9 +13,9 @@ use Rattle.codec.specs.Codec.{next_generation}
 use Rattle.model.specs.State.{till, Table, max_slots}
 use Rattle.model.specs.Storage.{slots_of}
 use Rattle.model.specs.Create.{max_pages}
-use Rattle.model.specs.Bounds.{slots_max_law, pages_max_law}
-use Rattle.invariant.specs.Pages.{till_sane, page_of_law, page_below, vacant_there}
-use Rattle.invariant.specs.Orders.{Room}
+use Rattle.model.proofs.Bounds.{slots_max_law, pages_max_law}
+use Rattle.invariant.proofs.Pages.{till_sane, page_of_law, page_below, vacant_there}
+use Rattle.invariant.proofs.Orders.{Room}
 use Rattle.layout.specs.declared.Shape.{Shape}
 use Rattle.layout.specs.Layout.{Addr, Mem, head, entry, cell, load, Write, Write.at, writes, upd, upds, In, InAll, in_head, in_entry, in_cell_law, length_writes, load_writes}
 use Rattle.layout.specs.Turns.{turns, turns_m, length_turns, load_turns}

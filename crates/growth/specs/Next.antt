@@ -13,9 +13,9 @@ use Rattle.model.specs.Base.{same_list}
 use Rattle.model.specs.State.{till, Table, max_batch}
 use Rattle.model.specs.Storage.{slots_of, pages_from, pages_for}
 use Rattle.model.specs.Create.{max_pages}
-use Rattle.model.specs.Bounds.{pages_max_law}
-use Rattle.model.specs.Tests.{apart, also_some}
-use Rattle.invariant.specs.Orders.{Sound}
+use Rattle.model.proofs.Bounds.{pages_max_law}
+use Rattle.model.proofs.Tests.{apart, also_some}
+use Rattle.invariant.proofs.Orders.{Sound}
 use Rattle.layout.specs.declared.Shape.{Shape}
 use Rattle.layout.specs.Layout.{Addr, Mem, total, head, entry, item, in_item, load, save, same, length_save, load_save, load_save_any, is_in}
 use Rattle.layout.specs.Fields.{head_pages, head_first_detached, head_first_entry, entry_next, item_page}

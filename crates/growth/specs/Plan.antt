@@ -8,11 +8,11 @@ use Rattle.words.specs.Pick.{bool}
 use Rattle.model.specs.Base.{also, occurs}
 use Rattle.model.specs.State.{Sizes, till, Table, max_batch}
 use Rattle.model.specs.Storage.{slots_of, pages_from, pages_for}
-use Rattle.model.specs.Tests.{apart, same}
+use Rattle.model.proofs.Tests.{apart, same}
 use Rattle.model.specs.Create.{max_pages}
-use Rattle.model.specs.Bounds.{pages_max_law}
-use Rattle.invariant.specs.Orders.{Sound}
-use Rattle.invariant.specs.Pages.{till_sane, page_slots_law}
+use Rattle.model.proofs.Bounds.{pages_max_law}
+use Rattle.invariant.proofs.Orders.{Sound}
+use Rattle.invariant.proofs.Pages.{till_sane, page_slots_law}
 use Rattle.layout.specs.Layout.{Mem, head, entry}
 use Rattle.layout.specs.Fields.{head_first_detached, head_first_entry, entry_next}
 use Rattle.layout.specs.Sizes.{batch_max}

@@ -10,10 +10,10 @@ use Rattle.model.specs.Base.{pick, bit, occurs, without, push_all}
 use Rattle.model.specs.State.{till, Slot.vacant, Table, max_slots}
 use Rattle.model.specs.Storage.{slots_of, page_range, on_page, busy_of, attach}
 use Rattle.model.specs.WellFormed.{is_attached}
-use Rattle.model.specs.Tests.{same}
-use Rattle.model.specs.Sums.{without_none, length_push, length_range}
-use Rattle.invariant.specs.Pages.{till_sane, page_in, page_slots_law, vacant_there, busy_other, busy_none}
-use Rattle.invariant.specs.Orders.{Sound, Room, absent_past, attached_of}
+use Rattle.model.proofs.Tests.{same}
+use Rattle.model.proofs.Sums.{without_none, length_push, length_range}
+use Rattle.invariant.proofs.Pages.{till_sane, page_in, page_slots_law, vacant_there, busy_other, busy_none}
+use Rattle.invariant.proofs.Orders.{Sound, Room, absent_past, attached_of}
 use Rattle.layout.specs.Layout.{Mem}
 use Rattle.layout.specs.Fields.{head_page_limit, head_mask, head_lifecycle, head_cursor, head_epoch, head_pages, head_first_free, head_free_slots, head_first_empty, head_first_detached, entry_frame, entry_high, entry_busy, entry_next, entry_previous, slot_tag, slot_generation, slot_next_free, slot_previous_free, slot_object, slot_rights, slot_flags}
 use Rattle.layout.specs.Values.{tag_vacant}

@@ -11,12 +11,12 @@ use Rattle.words.specs.Pick.{bool, clash, both, both_is}
 use Rattle.model.specs.Base.{bit, pick, occurs}
 use Rattle.model.specs.State.{till, Lifecycle, Lifecycle.active, Lifecycle.tearing_down, Lifecycle.retired, Row, State, is_active, max_batch, known_flags}
 use Rattle.model.specs.Create.{max_pages}
-use Rattle.model.specs.Bounds.{slots_max_law, pages_max_law, batch_max_law}
+use Rattle.model.proofs.Bounds.{slots_max_law, pages_max_law, batch_max_law}
 use Rattle.model.specs.Book.{find, opens_in, any_open}
 use Rattle.model.specs.WellFormed.{HandleRange, EntryRange, All, JustEnough, Rising, PlanRange, BodyRange, RowRange, frames_in, plans_with, IdsRise, WellFormed}
-use Rattle.model.specs.Tests.{same, bit_true}
-use Rattle.invariant.specs.Marks.{in_row, is_by, both_marks}
-use Rattle.invariant.specs.BookLemmas.{ids_order}
+use Rattle.model.proofs.Tests.{same, bit_true}
+use Rattle.invariant.proofs.Marks.{in_row, is_by, both_marks}
+use Rattle.invariant.proofs.BookLemmas.{ids_order}
 use Rattle.layout.specs.declared.Shape.{Shape}
 use Rattle.layout.specs.Layout.{Mem, root, head, index, rank, row, item}
 use Rattle.layout.specs.Fields.{root_next_id, root_used_rows, head_lifecycle, head_cursor, slot_tag, slot_place, slot_position, row_id, row_kind, row_table, row_length, row_count, item_slot, item_operation, item_moved, item_page, item_frame}

@@ -7,7 +7,7 @@ use Rattle.words.specs.Pick.{bool}
 use Rattle.model.specs.Base.{bit, pick, occurs}
 use Rattle.model.specs.State.{Entry}
 use Rattle.model.specs.Book.{find, moved_of}
-use Rattle.invariant.specs.Marks.{in_row, is_by}
+use Rattle.invariant.proofs.Marks.{in_row, is_by}
 use Rattle.layout.specs.Layout.{Mem, index, row, item, cell}
 use Rattle.layout.specs.Fields.{slot_tag, slot_generation, slot_place, slot_position, slot_object, slot_rights, slot_flags, row_id, row_kind, row_table, row_length, item_slot, item_operation, item_moved}
 use Rattle.layout.specs.Values.{tag_occupied, operation_move}

@@ -7,9 +7,9 @@ use Rattle.std.proofs.Math.Dec.{leb}
 use Rattle.std.proofs.lemmas.Bool.{lt-leb}
 use Rattle.words.specs.Pick.{bool, both}
 use Rattle.model.specs.Base.{bit, pick, occurs, sum}
-use Rattle.model.specs.Sums.{sum_equal}
-use Rattle.model.specs.Counting.{sum_front}
-use Rattle.model.specs.Tests.{bit_small, zero_or}
+use Rattle.model.proofs.Sums.{sum_equal}
+use Rattle.model.proofs.Counting.{sum_front}
+use Rattle.model.proofs.Tests.{bit_small, zero_or}
 use Rattle.model.specs.WellFormed.{frames_in, plans_with}
 use Rattle.layout.specs.declared.Shape.{Shape}
 use Rattle.layout.specs.Layout.{Mem, root, owner, index, rank, row, item}

@@ -16,7 +16,7 @@ use Rattle.layout.specs.Values.{tag_reserved, tag_occupied, kind_parcel, kind_pl
 use Rattle.layout.specs.Sizes.{page_size, pages_max, slots_max, batch_max}
 use Rattle.representation.specs.Represents.{entry_at, word_in, frame_of, slot_word}
 use Rattle.model.specs.State.{max_slots}
-use Rattle.model.specs.Bounds.{slots_max_law}
+use Rattle.model.proofs.Bounds.{slots_max_law}
 use Rattle.ledger.specs.Items.{tests, passed, passes, pick_yes, pick_no, place_b, PlaceOk, place_is, place_yes, item_b, ItemOk, item_is, item_yes}
 use Rattle.ledger.specs.Plans.{plan_b, PlanOk, plan_is, plan_yes}
 

@@ -4,8 +4,8 @@ use Rattle.std.proofs.Common.{sym, ap, ◌∙◌, arith, eqb-true, lt-ltb, le-lt
 use Rattle.std.proofs.lemmas.Bool.{eqb-false}
 use Rattle.words.specs.Pick.{bool, both}
 use Rattle.model.specs.Base.{bit, sum}
-use Rattle.model.specs.Sums.{sum_add}
-use Rattle.model.specs.Tests.{bit_true, bit_small}
+use Rattle.model.proofs.Sums.{sum_add}
+use Rattle.model.proofs.Tests.{bit_true, bit_small}
 
 -- a number stands once among those below n, if it is one
 sum_one : (v n : ℕ) → (sum n λ y. bit (eqb v y)) ≡ bit (ltb v n)

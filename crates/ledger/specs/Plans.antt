@@ -6,7 +6,7 @@ use Rattle.words.specs.All.{all, all_at, all_yes}
 use Rattle.model.specs.Base.{sum}
 use Rattle.model.specs.State.{till}
 use Rattle.model.specs.Storage.{slots_of}
-use Rattle.model.specs.Bounds.{slots_max_law}
+use Rattle.model.proofs.Bounds.{slots_max_law}
 use Rattle.layout.specs.declared.Shape.{Shape}
 use Rattle.layout.specs.Layout.{Mem, root, owner, index, row, item}
 use Rattle.layout.specs.Fields.{root_used_rows, row_kind, row_table, row_length, row_count, item_page, item_frame, item_free_slots}

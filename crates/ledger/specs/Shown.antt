@@ -10,8 +10,8 @@ use Rattle.words.specs.Pick.{bool, clash, both}
 use Rattle.model.specs.Base.{bit}
 use Rattle.model.specs.Book.{find}
 use Rattle.model.specs.WellFormed.{IdsRise}
-use Rattle.invariant.specs.Marks.{in_row, is_by}
-use Rattle.invariant.specs.Counts.{none_in}
+use Rattle.invariant.proofs.Marks.{in_row, is_by}
+use Rattle.invariant.proofs.Counts.{none_in}
 use Rattle.layout.specs.declared.Shape.{Shape}
 use Rattle.layout.specs.Layout.{Mem, root, index, rank, row, item}
 use Rattle.layout.specs.Fields.{root_next_id, root_used_rows, slot_tag, slot_place, slot_position, row_id, row_kind, row_table, row_length, item_slot, item_operation, item_moved}

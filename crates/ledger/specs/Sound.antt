@@ -12,12 +12,12 @@ use Rattle.words.specs.Pick.{bool, clash, both}
 use Rattle.model.specs.Base.{bit, pick}
 use Rattle.model.specs.State.{till, Slot.absent, Row, State, is_active, max_batch, known_flags}
 use Rattle.model.specs.Create.{max_pages}
-use Rattle.model.specs.Bounds.{slots_max_law, pages_max_law, batch_max_law}
+use Rattle.model.proofs.Bounds.{slots_max_law, pages_max_law, batch_max_law}
 use Rattle.model.specs.Book.{find, opens_in, any_open}
 use Rattle.model.specs.WellFormed.{HandleRange, EntryRange, All, Batch, JustEnough, Rising, PlanRange, BodyRange, RowRange, Ids, Marks}
-use Rattle.model.specs.Tests.{or_false}
-use Rattle.invariant.specs.Marks.{in_row, is_by}
-use Rattle.invariant.specs.Counts.{none_in}
+use Rattle.model.proofs.Tests.{or_false}
+use Rattle.invariant.proofs.Marks.{in_row, is_by}
+use Rattle.invariant.proofs.Counts.{none_in}
 use Rattle.layout.specs.declared.Shape.{Shape}
 use Rattle.layout.specs.Layout.{Mem, Addr, root, head, index, row, item}
 use Rattle.layout.specs.Fields.{root_next_id, root_used_rows, head_lifecycle, slot_tag, slot_place, slot_position, row_kind, row_table, row_length, row_count, row_epoch, item_slot, item_operation, item_rights, item_granted, item_page, item_frame}

@@ -11,7 +11,7 @@ use Rattle.authority.specs.Rights.{contains}
 use Rattle.codec.specs.declared.HandleValue.{HandleValue}
 use Rattle.codec.specs.Codec.{decode_of, encode}
 use Rattle.model.specs.State.{max_slots}
-use Rattle.model.specs.Tests.{apart}
+use Rattle.model.proofs.Tests.{apart}
 use Rattle.layout.specs.declared.Shape.{Shape}
 use Rattle.layout.specs.declared.CellWords.{CellWords}
 use Rattle.layout.specs.Layout.{Mem, head, entry, cell, object, load}

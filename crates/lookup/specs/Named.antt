@@ -10,7 +10,7 @@ use Rattle.codec.specs.declared.Decoded.TheVariants.{At, Invalid as NoSlot}
 use Rattle.codec.specs.Codec.{decodes, slot_in as slot_named, generation_in, decode_of}
 use Rattle.model.specs.State.{Handle, Slot.occupied, Lifecycle.active, Table, State, is_active, is_occupied}
 use Rattle.model.specs.Lookup.{View as Named, view_slot, lookup, on_view}
-pub use Rattle.model.specs.Decided.{on_active, on_handle}
+pub use Rattle.model.proofs.Decided.{on_active, on_handle}
 use Rattle.model.specs.Decision.{Decision, Decision.refusal, unless◌refuse◌then◌}
 use Rattle.layout.specs.declared.Shape.{Shape}
 use Rattle.layout.specs.Layout.{Mem, head, cell}

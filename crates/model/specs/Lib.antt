@@ -13,15 +13,3 @@ pub mod Step
 pub mod Create
 pub mod WellFormed
 pub mod Words
-pub mod Tests
-pub mod Sums
-pub mod Counting
-pub mod Bounds
-pub mod Cases
-pub mod PlanCases
-pub mod Effects
-pub mod WordCases
-pub mod Decided
-pub mod Created
-pub mod Refusals
-pub mod Lists

@@ -4,12 +4,12 @@ use Rattle.std.proofs.Common.{sym, ap, ◌∙◌, arith, ne_eqb, lt-ltb, ltb-tru
 use Rattle.std.proofs.Math.Option.{Option, none, some}
 use Rattle.words.specs.Pick.{bool, clash}
 use Rattle.model.specs.Base.{bit, pick, occurs, sum, is_some}
-use Rattle.model.specs.Sums.{sum_equal}
+use Rattle.model.proofs.Sums.{sum_equal}
 use Rattle.model.specs.State.{till, Slot, Table, State, is_vacant, is_busy, is_absent, max_slots}
 use Rattle.model.specs.Storage.{page_of, slots_of, busy_in, busy_of}
 use Rattle.model.specs.WellFormed.{is_attached, Orders, WellFormed}
-use Rattle.model.specs.Counting.{sum_front}
-use Rattle.model.specs.Bounds.{pages_max_law}
+use Rattle.model.proofs.Counting.{sum_front}
+use Rattle.model.proofs.Bounds.{pages_max_law}
 use Rattle.layout.specs.declared.Shape.{Shape}
 use Rattle.layout.specs.Layout.{Mem, head, entry, cell}
 use Rattle.layout.specs.Fields.{head_pages, head_first_entry, entry_frame, entry_busy, slot_tag, slot_generation, slot_object, slot_rights, slot_flags}

@@ -3,10 +3,10 @@ use Rattle.std.specs.Prelude.{◌≡◌, refl, Bool, true, false, not, ◌&&◌,
 use Rattle.std.proofs.Common.{sym, ap, ◌∙◌, arith, eq-eqb, ne_eqb, ltb-true, le-ltb}
 use Rattle.words.specs.Pick.{pick, bool, clash}
 use Rattle.model.specs.Base.{bit, sum}
-use Rattle.model.specs.Sums.{sum_equal, sum_zero}
+use Rattle.model.proofs.Sums.{sum_equal, sum_zero}
 use Rattle.model.specs.State.{till, max_slots}
 use Rattle.model.specs.Storage.{slots_of}
-use Rattle.model.specs.Counting.{sum_append, sum_cut}
+use Rattle.model.proofs.Counting.{sum_append, sum_cut}
 use Rattle.layout.specs.Layout.{Mem, head, entry, cell}
 use Rattle.layout.specs.Fields.{head_pages, head_first_entry, entry_frame, entry_busy, slot_tag}
 use Rattle.layout.specs.Values.{tag_vacant}

@@ -10,9 +10,9 @@ use native.Mathlib.Omega.{arith}
 use borrow.Author.Tests.{eq-eqb, ne_eqb, eqb-true, eqb-false, not-true}
 use Rattle.words.specs.Pick.{both, both_is}
 use Rattle.model.specs.Base.{bit, occurs, sum}
-use Rattle.model.specs.Sums.{sum_equal}
-use Rattle.model.specs.Tests.{bit_small, bit_true}
-use Rattle.model.specs.Counting.{bit_other, sum_tight, sum_occurs}
+use Rattle.model.proofs.Sums.{sum_equal}
+use Rattle.model.proofs.Tests.{bit_small, bit_true}
+use Rattle.model.proofs.Counting.{bit_other, sum_tight, sum_occurs}
 use Rattle.representation.specs.Represents.{Chain, Linked}
 use Rattle.storage.specs.Order.{list_from, same?, occurs_head, NoDup}
 

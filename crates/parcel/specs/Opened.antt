@@ -16,7 +16,7 @@ use Rattle.model.specs.Book.{add_row, free_row, id_left}
 use Rattle.model.specs.Request.{Request.new_object, Request.duplicate, Request.retire_object, Answer.done, Answer.opened}
 use Rattle.model.specs.Decision.{Decision, Decision.refusal, Decision.accept, unless◌refuse◌then◌}
 use Rattle.model.specs.Lookup.{lookup, on_view}
-use Rattle.model.specs.Decided.{on_handle}
+use Rattle.model.proofs.Decided.{on_handle}
 use Rattle.model.specs.Step.{new_object_of, duplicate_of, retire_object_of, decide}
 use Rattle.model.specs.Words.{used_words}
 use Rattle.layout.specs.declared.Shape.{Shape}

@@ -16,11 +16,11 @@ use Rattle.model.specs.Change.{with_table}
 use Rattle.model.specs.Book.{find}
 use Rattle.model.specs.Decision.{as_parcel, joined, handles_of}
 use Rattle.model.specs.Step.{fill_all}
-use Rattle.model.specs.Sums.{occurs_split}
-use Rattle.model.specs.Tests.{apart, some_same}
-use Rattle.invariant.specs.Parcels.{parts}
-use Rattle.invariant.specs.Pointwise.{fill_all_none, fill_all_append, keep_busy}
-use Rattle.invariant.specs.StorageViews.{fill_all_busy}
+use Rattle.model.proofs.Sums.{occurs_split}
+use Rattle.model.proofs.Tests.{apart, some_same}
+use Rattle.invariant.proofs.Parcels.{parts}
+use Rattle.invariant.proofs.Pointwise.{fill_all_none, fill_all_append, keep_busy}
+use Rattle.invariant.proofs.StorageViews.{fill_all_busy}
 use Rattle.layout.specs.declared.Shape.{Shape}
 use Rattle.layout.specs.Layout.{Mem, row, item, load}
 use Rattle.layout.specs.Fields.{row_length, item_slot}

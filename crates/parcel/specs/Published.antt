@@ -19,19 +19,19 @@ use Rattle.model.specs.Request.{Request.publish, Answer.done}
 use Rattle.model.specs.Decision.{Decision.refusal, as_parcel, handles_of, distinct}
 use Rattle.model.specs.Step.{fill_all, publish_of, decide}
 use Rattle.model.specs.Words.{used_words}
-use Rattle.model.specs.Tests.{apart, and_left, and_right}
-use Rattle.invariant.specs.Pointwise.{fill_all_slots}
-use Rattle.invariant.specs.Parcels.{not_parcel, parts}
-use Rattle.invariant.specs.Marks.{Owns}
-use Rattle.invariant.specs.BookLemmas.{found_range}
-use Rattle.invariant.specs.StorageDecisions.{reservation_owns}
+use Rattle.model.proofs.Tests.{apart, and_left, and_right}
+use Rattle.invariant.proofs.Pointwise.{fill_all_slots}
+use Rattle.invariant.proofs.Parcels.{not_parcel, parts}
+use Rattle.invariant.proofs.Marks.{Owns}
+use Rattle.invariant.proofs.BookLemmas.{found_range}
+use Rattle.invariant.proofs.StorageDecisions.{reservation_owns}
 use Rattle.layout.specs.declared.Shape.{Shape}
 use Rattle.layout.specs.Layout.{Mem, row, load}
 use Rattle.layout.specs.Sizes.{batch_max}
 use Rattle.representation.specs.Represents.{is_marked, Rep}
 use Rattle.storage.specs.Reps.{Held, held_of}
 use Rattle.book.specs.Ops.{row_link, reservation_link, close_w}
-use Rattle.model.specs.Counting.{nth_occurs}
+use Rattle.model.proofs.Counting.{nth_occurs}
 use Rattle.book.specs.Find.{Fits, fits_of, RowAt}
 use Rattle.book.specs.Marks.{Unnamed, unnamed, named_reservation, named_parcel}
 use Rattle.book.specs.Fades.{Fades, fades_rows, named_fades, unnamed_fades, fits_drop}

@@ -8,7 +8,7 @@ use Rattle.model.specs.Book.{drop_row}
 use Rattle.model.specs.WellFormed.{HandleRange, All}
 use Rattle.model.specs.Request.{Request.release_parcel}
 use Rattle.model.specs.Step.{release_parcel_of, decide}
-use Rattle.invariant.specs.BookLemmas.{found_range}
+use Rattle.invariant.proofs.BookLemmas.{found_range}
 use Rattle.layout.specs.declared.Shape.{Shape}
 use Rattle.layout.specs.Layout.{row, item, load}
 use Rattle.layout.specs.Fields.{item_object}

@@ -12,11 +12,11 @@ use Rattle.model.specs.Request.{Request.drop_plan, Answer.done}
 use Rattle.model.specs.Decision.{Decision.accept}
 use Rattle.model.specs.Step.{drop_plan_of, decide, step}
 use Rattle.model.specs.WellFormed.{PlanRange, frames_in, plans_with, WellFormed}
-use Rattle.model.specs.Tests.{bit_true, bit_small}
-use Rattle.model.specs.Counting.{bit_same}
-use Rattle.invariant.specs.BookLemmas.{found_range, over_drop, length_dropped}
-use Rattle.invariant.specs.Pages.{till_sane}
-use Rattle.invariant.specs.Kept.{kept}
+use Rattle.model.proofs.Tests.{bit_true, bit_small}
+use Rattle.model.proofs.Counting.{bit_same}
+use Rattle.invariant.proofs.BookLemmas.{found_range, over_drop, length_dropped}
+use Rattle.invariant.proofs.Pages.{till_sane}
+use Rattle.invariant.proofs.Kept.{kept}
 use Rattle.layout.specs.declared.Shape.{Shape}
 use Rattle.layout.specs.Layout.{root, owner, index, item, load}
 use Rattle.layout.specs.Fields.{root_used_rows, item_frame}

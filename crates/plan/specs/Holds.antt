@@ -8,7 +8,7 @@ use Rattle.words.specs.Pick.{bool}
 use Rattle.model.specs.Base.{occurs}
 use Rattle.model.specs.State.{State}
 use Rattle.model.specs.Change.{with_frames}
-use Rattle.model.specs.Counting.{bit_same}
+use Rattle.model.proofs.Counting.{bit_same}
 use Rattle.layout.specs.declared.Shape.{Shape}
 use Rattle.layout.specs.Layout.{Addr, Addr.reg, Mem, total, root, head, owner, index, row, item, load, save, same, same_is, is_in, in_row, in_item, length_save, load_save, load_save_any, Write.at, upds, load_writes}
 use Rattle.layout.specs.Fields.{root_used_rows, head_epoch, head_free_slots, head_pages, head_first_detached, head_first_entry, index_place, row_count, row_epoch, item_page, item_frame, item_free_slots}

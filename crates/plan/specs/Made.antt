@@ -8,11 +8,11 @@ use Rattle.model.specs.Change.{with_frames}
 use Rattle.model.specs.Book.{add_row}
 use Rattle.model.specs.Request.{Request.make_plan, Answer.planned}
 use Rattle.model.specs.Decision.{Decision, leave◌answer◌}
-use Rattle.model.specs.Decided.{Room}
+use Rattle.model.proofs.Decided.{Room}
 use Rattle.model.specs.Step.{with_room, make_plan_of, decide}
 use Rattle.model.specs.Words.{used_words}
-use Rattle.model.specs.Tests.{at_most_law}
-use Rattle.invariant.specs.Snapshots.{snapshot_pages}
+use Rattle.model.proofs.Tests.{at_most_law}
+use Rattle.invariant.proofs.Snapshots.{snapshot_pages}
 use Rattle.layout.specs.declared.Shape.{Shape}
 use Rattle.layout.specs.Layout.{total, item, load}
 use Rattle.layout.specs.Fields.{item_page}

@@ -12,9 +12,9 @@ use Rattle.model.specs.State.{Sizes, till, Table, StorageSnapshot}
 use Rattle.model.specs.Storage.{slots_of, pages_for, snapshot_with, still_is, is_stale}
 use Rattle.model.specs.Create.{max_pages}
 use Rattle.model.specs.WellFormed.{All, JustEnough}
-use Rattle.model.specs.Tests.{same_list_equal}
-use Rattle.invariant.specs.Orders.{Sound}
-use Rattle.invariant.specs.Pages.{Sane, page_slots_law}
+use Rattle.model.proofs.Tests.{same_list_equal}
+use Rattle.invariant.proofs.Orders.{Sound}
+use Rattle.invariant.proofs.Pages.{Sane, page_slots_law}
 use Rattle.layout.specs.Layout.{Mem}
 use Rattle.layout.specs.Sizes.{batch_max}
 use Rattle.representation.specs.Represents.{TableIs, PlanIs}

@@ -14,10 +14,10 @@ use Rattle.model.specs.Request.{Request.use_plan}
 use Rattle.model.specs.Decision.{Decision, Decision.refusal, unless◌refuse◌then◌, when◌refuse◌then◌}
 use Rattle.model.specs.Step.{reserve_in, use_plan_of, decide}
 use Rattle.model.specs.WellFormed.{PlanRange}
-use Rattle.model.specs.Bounds.{batch_max_law}
-use Rattle.invariant.specs.BookLemmas.{length_dropped}
-use Rattle.invariant.specs.Pages.{till_sane}
-use Rattle.invariant.specs.Snapshots.{fresh_pages}
+use Rattle.model.proofs.Bounds.{batch_max_law}
+use Rattle.invariant.proofs.BookLemmas.{length_dropped}
+use Rattle.invariant.proofs.Pages.{till_sane}
+use Rattle.invariant.proofs.Snapshots.{fresh_pages}
 use Rattle.layout.specs.declared.Shape.{Shape}
 use Rattle.layout.specs.Layout.{Mem, root, head, row, item, load}
 use Rattle.layout.specs.Fields.{root_next_id, head_lifecycle, head_cursor, row_table, item_page, item_frame}

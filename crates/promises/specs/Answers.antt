@@ -19,8 +19,8 @@ use Rattle.model.specs.Decision.{Decision, Decision.refusal, Decision.refusal_af
 use Rattle.model.specs.Lookup.{lookup}
 use Rattle.model.specs.Transfer.{items_fault, copies_fault, entry_for}
 use Rattle.model.specs.Step.{decide, step, carry, new_object_of, duplicate_of, release_parcel_of, retire_object_of, reserve_of, trim_of, abort_of, publish_of, get_info_of, resolve_of, replace_of, close_of, scan_handles_of, prepare_transfer_of, prepare_consumption_of, rollback_of, commit_of, direct_commit_of, direct_rollback_of, remove_stopping_owner_of, remove_at, next_occupied, teardown_start_of, tear_at, teardown_step_of, teardown_finish_of, take_at, take_empty_page_of, make_plan_of, use_plan_of, drop_plan_of}
-use Rattle.model.specs.Decided.{Decided, Any, accepts, checked, with_some, with_view, with_handle, with_reservation, with_claim, with_plan, with_room_law, while_tearing, after_id, either_way, found_or, first_or}
-use Rattle.model.specs.Refusals.{is_refused, numbered, refused_keeps}
+use Rattle.model.proofs.Decided.{Decided, Any, accepts, checked, with_some, with_view, with_handle, with_reservation, with_claim, with_plan, with_room_law, while_tearing, after_id, either_way, found_or, first_or}
+use Rattle.model.proofs.Refusals.{is_refused, numbered, refused_keeps}
 use Rattle.model.specs.Words.{used_words, words_of}
 use Rattle.format.specs.Ops.{op_new_object, op_duplicate, op_release_parcel, op_retire_object, op_reserve, op_trim, op_abort, op_publish, op_get_info, op_resolve, op_replace, op_close, op_scan_handles, op_prepare_transfer, op_prepare_consumption, op_rollback, op_commit, op_direct_commit, op_direct_rollback, op_remove_stopping_owner, op_teardown_start, op_teardown_step, op_teardown_finish, op_take_empty_page, op_make_plan, op_use_plan, op_drop_plan}
 

@@ -15,11 +15,11 @@ use Rattle.model.specs.Create.{permitted}
 use Rattle.model.specs.Request.{Route.buffered, Answer.opened, Request, Request.duplicate, Request.reserve, Request.publish, Request.close, Request.prepare_consumption, Request.rollback, Request.commit}
 use Rattle.model.specs.Step.{step, run}
 use Rattle.model.specs.WellFormed.{WellFormed, Equal}
-use Rattle.invariant.specs.Pages.{till_sane}
-use Rattle.invariant.specs.Kept.{kept}
-use Rattle.model.specs.Refusals.{spends}
+use Rattle.invariant.proofs.Pages.{till_sane}
+use Rattle.invariant.proofs.Kept.{kept}
+use Rattle.model.proofs.Refusals.{spends}
 use Rattle.model.specs.Words.{read_list, used_words, padded, words_of, all_words}
-use Rattle.model.specs.Tests.{same_list_equal}
+use Rattle.model.proofs.Tests.{same_list_equal}
 use Rattle.layout.specs.declared.Shape.{Shape}
 use Rattle.layout.specs.Layout.{head, load, load_root}
 use Rattle.layout.specs.Fields.{root_next_id, head_first_free}

@@ -11,10 +11,10 @@ use Rattle.model.specs.Create.{max_pages}
 use Rattle.model.specs.Request.{Request.reserve}
 use Rattle.model.specs.Step.{reserve_of, decide, step}
 use Rattle.model.specs.WellFormed.{WellFormed, is_attached}
-use Rattle.model.specs.Tests.{bool, at_most_law}
-use Rattle.model.specs.Decided.{Any, accepts, with_room_law, carried}
-use Rattle.invariant.specs.Pages.{Sane}
-use Rattle.invariant.specs.Snapshots.{snapshot_pages}
+use Rattle.model.proofs.Tests.{bool, at_most_law}
+use Rattle.model.proofs.Decided.{Any, accepts, with_room_law, carried}
+use Rattle.invariant.proofs.Pages.{Sane}
+use Rattle.invariant.proofs.Snapshots.{snapshot_pages}
 use Rattle.promises.specs.BatchesLemmas.{table_bound, Takes, wide_takes, scattered, scattered_well_formed}
 
 -- "Page 262,143 has 63 slots": the slots that the last page of the largest table lacks

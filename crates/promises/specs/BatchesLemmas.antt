@@ -15,9 +15,9 @@ use Rattle.model.specs.State.{max_tables, max_frames, max_objects, max_rows, max
 use Rattle.model.specs.Storage.{page_of, slots_of, pages_from, pages_for}
 use Rattle.model.specs.Create.{max_pages}
 use Rattle.model.specs.WellFormed.{WellFormed, Orders, is_attached, is_frame, in_slot, is_reserved_by, is_moving_by}
-use Rattle.model.specs.Tests.{apart, bool, clash, same, zero_or, and_left, bit_true, bit_small, also_some}
-use Rattle.model.specs.Sums.{range_all, sum_zero}
-use Rattle.invariant.specs.Pages.{Sane}
+use Rattle.model.proofs.Tests.{apart, bool, clash, same, zero_or, and_left, bit_true, bit_small, also_some}
+use Rattle.model.proofs.Sums.{range_all, sum_zero}
+use Rattle.invariant.proofs.Pages.{Sane}
 
 -- every page but the last of the largest table has all its slots
 pub whole : (z : Sizes) → Sane z → (p : ℕ) → suc p < max_pages z → slots_of z p ≡ z.page_slots

@@ -7,7 +7,7 @@ use Rattle.model.specs.State.{Sizes, till, State}
 use Rattle.model.specs.Request.{Request, Answer}
 use Rattle.model.specs.Step.{step, run}
 use Rattle.model.specs.Words.{read_list, Outcome, call, ran, answer_short, words_of, all_words}
-use Rattle.model.specs.Lists.{run_length, all_length}
+use Rattle.model.proofs.Lists.{run_length, all_length}
 use Rattle.layout.specs.declared.Shape.{Shape}
 use Rattle.representation.specs.Represents.{Rep}
 use Rattle.contract.specs.Meets.{Called, Meets}

@@ -13,11 +13,11 @@ use Rattle.model.specs.WellFormed.{Equal}
 use Rattle.model.specs.Words.{read_list, words_of}
 use Rattle.layout.specs.declared.Shape.{Shape}
 use Rattle.representation.specs.Represents.{Rep}
-use Rattle.invariant.specs.Pages.{till_sane}
+use Rattle.invariant.proofs.Pages.{till_sane}
 use Rattle.noninterference.specs.Names.{value_of}
 use Rattle.noninterference.specs.Runs.{is_move, permitted, wanting, accepted, lowered, lower_request, lower_table, lower_state}
-use Rattle.noninterference.specs.Theorem.{held_and_plain}
-use Rattle.noninterference.specs.Plans.{PlansStand, held_and_plain_plans}
+use Rattle.noninterference.proofs.Theorem.{held_and_plain}
+use Rattle.noninterference.proofs.Plans.{PlansStand, held_and_plain_plans}
 use Rattle.promises.specs.Lower.{lower_words, lower_answers, Ending, Ending.rolled_back, Ending.committed, end_h, end_p, last_h, last_p, reads_lowered, reads_both, reads_last_h, reads_last_p}
 use Rattle.promises.specs.Terms.{Call, Calls, left, list_of, answers_of, Passed}
 use Rattle.promises.specs.Calls.{run_both, together}

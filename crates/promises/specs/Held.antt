@@ -11,16 +11,16 @@ use Rattle.model.specs.Base.{every}
 use Rattle.model.specs.State.{Sizes, till, State}
 use Rattle.model.specs.Request.{Route, Item, Request, Request.close, Request.prepare_transfer, Request.rollback, Request.commit}
 use Rattle.model.specs.Request.{Answer, Answer.refused, Answer.done, Answer.opened, Answer.batch, Answer.info_of, Answer.resolved, Answer.renewed, Answer.scanned, Answer.removed, Answer.closed, Answer.taken, Answer.planned}
-use Rattle.model.specs.Refusals.{is_refused}
+use Rattle.model.proofs.Refusals.{is_refused}
 use Rattle.model.specs.Book.{find, spend_id}
 use Rattle.model.specs.Step.{close_of, rollback_of, commit_of, decide, step, run}
-use Rattle.model.specs.Decided.{Any, accepts, with_handle, with_claim, carried}
+use Rattle.model.proofs.Decided.{Any, accepts, with_handle, with_claim, carried}
 use Rattle.model.specs.Words.{used_words, words_of, all_words}
-use Rattle.model.specs.Lists.{words_length, run_length}
+use Rattle.model.proofs.Lists.{words_length, run_length}
 use Rattle.noninterference.specs.Names.{value_of}
 use Rattle.noninterference.specs.Runs.{accepted, lowered, lower_request, lower_answer, lower_table, lower_state}
 use Rattle.noninterference.specs.Theorem.{Agree}
-use Rattle.noninterference.specs.Plans.{PlansStand, PlansAgree}
+use Rattle.noninterference.proofs.Plans.{PlansStand, PlansAgree}
 use Rattle.promises.specs.Answers.{number_0, zero_accepts, prepare_answers}
 use Rattle.promises.specs.Lower.{Ending, Ending.rolled_back, Ending.committed, last_h, last_p, lower_answers, answers_lowered}
 use Rattle.promises.specs.Calls.{run_both, all_words_both, run_words}

@@ -14,9 +14,9 @@ use Rattle.model.specs.Base.{pick, nth, or_else}
 use Rattle.model.specs.Request.{Item}
 use Rattle.model.specs.Request.{Request, Request.new_object, Request.duplicate, Request.release_parcel, Request.retire_object, Request.reserve, Request.trim, Request.abort, Request.publish, Request.get_info, Request.resolve, Request.replace, Request.close, Request.scan_handles, Request.prepare_transfer, Request.prepare_consumption, Request.rollback, Request.commit, Request.direct_commit, Request.direct_rollback, Request.remove_stopping_owner, Request.teardown_start, Request.teardown_step, Request.teardown_finish, Request.take_empty_page, Request.make_plan, Request.use_plan, Request.drop_plan}
 use Rattle.model.specs.Words.{Reading, and_then, Fields, odd, read_field, read_fields, fit_all, may, must, good_record, read_record, read_many, operation_of, read_transfer_item, read_parcel_item, plain_requests, plain_request, with_items, read_request, read_up_to, read_list}
-use Rattle.model.specs.Lists.{Front, request_in_front, reading_ends}
+use Rattle.model.proofs.Lists.{Front, request_in_front, reading_ends}
 use Rattle.noninterference.specs.Names.{request_by}
-use Rattle.model.specs.Tests.{◌&◌, some_same}
+use Rattle.model.proofs.Tests.{◌&◌, some_same}
 
 -- ---- the words
 

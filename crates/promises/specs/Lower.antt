@@ -13,10 +13,10 @@ use Rattle.model.specs.State.{Sizes, State}
 use Rattle.model.specs.Request.{Answer, Answer.refused, Answer.done, Answer.opened, Answer.batch, Answer.info_of, Answer.resolved, Answer.renewed, Answer.scanned, Answer.removed, Answer.closed, Answer.taken, Answer.planned}
 use Rattle.model.specs.Request.{Request, Request.new_object, Request.duplicate, Request.release_parcel, Request.retire_object, Request.reserve, Request.trim, Request.abort, Request.publish, Request.get_info, Request.resolve, Request.replace, Request.close, Request.scan_handles, Request.prepare_transfer, Request.prepare_consumption, Request.rollback, Request.commit, Request.direct_commit, Request.direct_rollback, Request.remove_stopping_owner, Request.teardown_start, Request.teardown_step, Request.teardown_finish, Request.take_empty_page}
 use Rattle.noninterference.specs.Names.{names_of, request_by}
-use Rattle.model.specs.Refusals.{is_refused}
+use Rattle.model.proofs.Refusals.{is_refused}
 use Rattle.model.specs.Step.{step, run}
 use Rattle.model.specs.Words.{odd, read_request, read_list, used_words, words_of, all_words}
-use Rattle.model.specs.Lists.{words_length}
+use Rattle.model.proofs.Lists.{words_length}
 use Rattle.noninterference.specs.Runs.{lowered, lower_request, lower_answer}
 use Rattle.request.specs.Place.{here, fields_from, fields_at, good_map, op_at, request_of, request_at}
 use Rattle.request.specs.Laws.{Turn, list_at, request_is}

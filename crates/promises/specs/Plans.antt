@@ -14,12 +14,12 @@ use Rattle.model.specs.Book.{find}
 use Rattle.model.specs.Lookup.{value_at}
 use Rattle.model.specs.Step.{use_plan_of, drop_plan_of, decide, step, run}
 use Rattle.model.specs.WellFormed.{PlanRange, WellFormed}
-use Rattle.invariant.specs.Pages.{Sane}
-use Rattle.invariant.specs.BookLemmas.{found_range}
-use Rattle.invariant.specs.StorageDecisions.{sound_at}
-use Rattle.invariant.specs.Frames.{reserve_length}
-use Rattle.invariant.specs.Snapshots.{fresh_pages}
-use Rattle.invariant.specs.Kept.{run_kept}
+use Rattle.invariant.proofs.Pages.{Sane}
+use Rattle.invariant.proofs.BookLemmas.{found_range}
+use Rattle.invariant.proofs.StorageDecisions.{sound_at}
+use Rattle.invariant.proofs.Frames.{reserve_length}
+use Rattle.invariant.proofs.Snapshots.{fresh_pages}
+use Rattle.invariant.proofs.Kept.{run_kept}
 use Rattle.promises.specs.PlansLemmas.{SameButFrames, used_frames, reserved_now}
 
 -- what using the plan i of n slots gives in the state s

@@ -11,10 +11,10 @@ use Rattle.model.specs.Book.{find}
 use Rattle.model.specs.Step.{step, run}
 use Rattle.model.specs.WellFormed.{WellFormed}
 use Rattle.model.specs.Words.{read_list, padded, all_words}
-use Rattle.model.specs.Tests.{same_list_equal}
+use Rattle.model.proofs.Tests.{same_list_equal}
 use Rattle.representation.specs.Represents.{Rep}
 use Rattle.representation.specs.Unique.{rep_unique}
-use Rattle.invariant.specs.Pages.{till_sane}
+use Rattle.invariant.proofs.Pages.{till_sane}
 use Rattle.noninterference.specs.Runs.{lowered, lower_state}
 use Rattle.contract.specs.Meets.{Called, Meets}
 use Rattle.promises.specs.Lower.{Ending, Ending.rolled_back, Ending.committed, end_h, end_p, rollback_words, commit_words, closing_words, reads_rollback, reads_commit}

@@ -12,14 +12,14 @@ use Rattle.model.specs.State.{Sizes, Slot, Slot.reserved, Page, Table, Body.plan
 use Rattle.model.specs.Storage.{with_free, advance, page_of, place, keep, keep_all, take_free, attach, attach_all, grow, is_stale}
 use Rattle.model.specs.Change.{with_frames}
 use Rattle.model.specs.Decision.{unless◌refuse◌then◌}
-use Rattle.model.specs.Tests.{at_most_law}
+use Rattle.model.proofs.Tests.{at_most_law}
 use Rattle.model.specs.Request.{Request.reserve, Request.use_plan, Answer.batch, Answer.refused}
 use Rattle.model.specs.Book.{find, free_row, id_left}
 use Rattle.model.specs.Lookup.{value_at}
-use Rattle.model.specs.Refusals.{is_refused}
+use Rattle.model.proofs.Refusals.{is_refused}
 use Rattle.model.specs.Step.{reserve_in, reserve_of, use_plan_of, decide, carry, step}
 use Rattle.model.specs.WellFormed.{PlanRange}
-use Rattle.invariant.specs.Snapshots.{fresh_is}
+use Rattle.invariant.proofs.Snapshots.{fresh_is}
 
 -- a page is attached or not, whatever its frame's number
 abbrev pub hidden : Option ℕ → Option ℕ

@@ -10,9 +10,9 @@ use Rattle.model.specs.State.{till, State}
 use Rattle.model.specs.Request.{Request}
 use Rattle.model.specs.Decision.{Decision, Decision.refusal, Decision.refusal_after_id, Decision.accept}
 use Rattle.model.specs.Step.{decide, step, carry, run}
-use Rattle.model.specs.Refusals.{is_transfer, numbered, judged, spends, Fits, decide_fits}
+use Rattle.model.proofs.Refusals.{is_transfer, numbered, judged, spends, Fits, decide_fits}
 use Rattle.model.specs.Words.{read_list, call, answer_short, words_of, all_words}
-use Rattle.model.specs.Lists.{words_length}
+use Rattle.model.proofs.Lists.{words_length}
 use Rattle.layout.specs.declared.Shape.{Shape}
 use Rattle.representation.specs.Represents.{Rep}
 use Rattle.answer.specs.Does.{id_spent}

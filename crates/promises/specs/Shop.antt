@@ -13,7 +13,7 @@ use Rattle.model.specs.Request.{Request, Request.new_object, Request.duplicate, 
 use Rattle.model.specs.Step.{new_object_of, duplicate_of, release_parcel_of, retire_object_of, reserve_of, trim_of, abort_of, publish_of, get_info_of, close_of, replace_of, resolve_of, scan_handles_of, prepare_transfer_of}
 use Rattle.model.specs.Step.{prepare_consumption_of, rollback_of, commit_of, direct_commit_of, direct_rollback_of, remove_stopping_owner_of, teardown_start_of, teardown_step_of, teardown_finish_of, take_empty_page_of, decide, step, run, make_plan_of, use_plan_of, drop_plan_of}
 use Rattle.model.specs.Words.{read_request, read_list, used_words, padded, words_of, all_words}
-use Rattle.model.specs.Tests.{same_list_equal}
+use Rattle.model.proofs.Tests.{same_list_equal}
 use Rattle.noninterference.specs.Runs.{wants_row, wants_id, lowered}
 use Rattle.layout.specs.declared.Shape.{Shape}
 use Rattle.representation.specs.Represents.{Rep}

@@ -6,7 +6,7 @@ use Rattle.model.specs.Base.{or_else}
 use Rattle.model.specs.State.{till, State}
 use Rattle.model.specs.Request.{Request}
 use Rattle.model.specs.Step.{step, run}
-use Rattle.model.specs.Refusals.{spends}
+use Rattle.model.proofs.Refusals.{spends}
 use Rattle.model.specs.Words.{read_list, all_words}
 use Rattle.layout.specs.declared.Shape.{Shape}
 use Rattle.representation.specs.Represents.{Rep}

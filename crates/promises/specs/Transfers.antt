@@ -18,11 +18,11 @@ use Rattle.model.specs.Decision.{Decision}
 use Rattle.model.specs.Lookup.{value_at}
 use Rattle.model.specs.Step.{restore_all, abort_of, publish_of, rollback_of, commit_of, direct_commit_of, direct_rollback_of, decide, carry, step, run}
 use Rattle.model.specs.WellFormed.{WellFormed}
-use Rattle.model.specs.Tests.{bool, same}
-use Rattle.model.specs.Decided.{Decided, Any, accepts, with_claim, carried}
-use Rattle.invariant.specs.BookLemmas.{find_swap_same}
+use Rattle.model.proofs.Tests.{bool, same}
+use Rattle.model.proofs.Decided.{Decided, Any, accepts, with_claim, carried}
+use Rattle.invariant.proofs.BookLemmas.{find_swap_same}
 use Rattle.noninterference.specs.Runs.{accepted}
-use Rattle.noninterference.specs.Rows.{find_drop, find_swap}
+use Rattle.noninterference.proofs.Rows.{find_drop, find_swap}
 use Rattle.promises.specs.TransfersLemmas.{Steady, steady_self, vacates_same, closings, claimed, claim_in, claim_active, rolled_steady, rolled_held}
 use Rattle.promises.specs.TransfersLemmas.{rolled_others, moves_of, Prepared, prepares, consumes, prepared_steady, prepared_vacates, prepared_held}
 use Rattle.promises.specs.TransfersLemmas.{accepted_leaves, both_dropped, other_row}

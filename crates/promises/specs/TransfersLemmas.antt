@@ -25,21 +25,21 @@ use Rattle.model.specs.Lookup.{View.holds, lookup, value_at, handle_or}
 use Rattle.model.specs.Transfer.{is_copy, items_fault, copies_fault, entry_by, entry_for}
 use Rattle.model.specs.Step.{restore_all, prepare_transfer_of, prepare_consumption_of, carry, step, run}
 use Rattle.model.specs.WellFormed.{WellFormed}
-use Rattle.model.specs.Tests.{apart, bool, clash, same, bit_small}
-use Rattle.model.specs.Sums.{member_occurs}
-use Rattle.model.specs.Decided.{Decided, Any, accepts, checked, with_view, after_id}
-use Rattle.invariant.specs.Pointwise.{given, given_out, filled, moved_handles, restore_all_is, fill_all_slots, keep_all_slots}
-use Rattle.invariant.specs.BookLemmas.{found_range, ids_none}
-use Rattle.invariant.specs.Marks.{Owns, owns, both_marks, keys_claim}
-use Rattle.invariant.specs.Items.{stands_at, taken, items_stand, items_once}
-use Rattle.invariant.specs.Pages.{busy_in_equal, busy_there}
-use Rattle.invariant.specs.Orders.{below_of}
-use Rattle.invariant.specs.StorageDecisions.{sound_at}
+use Rattle.model.proofs.Tests.{apart, bool, clash, same, bit_small}
+use Rattle.model.proofs.Sums.{member_occurs}
+use Rattle.model.proofs.Decided.{Decided, Any, accepts, checked, with_view, after_id}
+use Rattle.invariant.proofs.Pointwise.{given, given_out, filled, moved_handles, restore_all_is, fill_all_slots, keep_all_slots}
+use Rattle.invariant.proofs.BookLemmas.{found_range, ids_none}
+use Rattle.invariant.proofs.Marks.{Owns, owns, both_marks, keys_claim}
+use Rattle.invariant.proofs.Items.{stands_at, taken, items_stand, items_once}
+use Rattle.invariant.proofs.Pages.{busy_in_equal, busy_there}
+use Rattle.invariant.proofs.Orders.{below_of}
+use Rattle.invariant.proofs.StorageDecisions.{sound_at}
 use Rattle.noninterference.specs.Runs.{accepted, with_slots}
-use Rattle.noninterference.specs.Rows.{claim_open, find_new}
-use Rattle.noninterference.specs.Items.{Names, look_holds, AllName, all_name}
-use Rattle.noninterference.specs.Endings.{vacate_life, vacate_mask, close_is}
-use Rattle.noninterference.specs.Restore.{page_idle}
+use Rattle.noninterference.proofs.Rows.{claim_open, find_new}
+use Rattle.noninterference.proofs.Items.{Names, look_holds, AllName, all_name}
+use Rattle.noninterference.proofs.Endings.{vacate_life, vacate_mask, close_is}
+use Rattle.noninterference.proofs.Restore.{page_idle}
 
 -- u is t with other slots, each as busy as before and of the same generation
 pub record Steady (t u : Table) : Type 0 where

@@ -10,8 +10,8 @@ use Rattle.layout.specs.declared.Shape.{Shape}
 use Rattle.layout.specs.Layout.{load}
 use Rattle.representation.specs.Represents.{Rep}
 use Rattle.representation.specs.Unique.{shape_for}
-use Rattle.written.specs.Whole.{written, has_words}
-use Rattle.written.specs.Limits.{written_small}
+use Rattle.written.proofs.Whole.{written, has_words}
+use Rattle.written.proofs.Limits.{written_small}
 use Rattle.wellformed.specs.View.{view_of}
 use Rattle.wellformed.specs.Whole.{check_b, check_complete, shown}
 use Rattle.contract.specs.Meets.{Called, Meets}

@@ -9,21 +9,21 @@ use Rattle.std.proofs.Math.ListN.{get_or}
 use Rattle.model.specs.Base.{range}
 use Rattle.model.specs.State.{till, Slot, Slot.reserved, Slot.occupied, State, max_tables, max_frames, max_objects, max_rows, max_limit, max_slots}
 use Rattle.model.specs.Create.{Parameters, permitted, created}
-use Rattle.model.specs.Created.{created_well_formed}
+use Rattle.model.proofs.Created.{created_well_formed}
 use Rattle.model.specs.Request.{Route.buffered, Operation.as_move, Operation.as_copy, Request, Request.new_object, Request.duplicate, Request.reserve, Request.publish, Request.prepare_transfer, Request.abort, Request.get_info, Request.rollback, Request.take_empty_page, Request.teardown_start, Request.teardown_step, Request.teardown_finish}
 use Rattle.model.specs.Step.{run}
 use Rattle.model.specs.Words.{read_list}
-use Rattle.model.specs.Cases.{item}
+use Rattle.model.proofs.Cases.{item}
 use Rattle.model.specs.WellFormed.{WellFormed}
-use Rattle.invariant.specs.Pages.{till_sane}
-use Rattle.invariant.specs.Kept.{run_kept}
+use Rattle.invariant.proofs.Pages.{till_sane}
+use Rattle.invariant.proofs.Kept.{run_kept}
 use Rattle.layout.specs.Layout.{Addr, Mem, load, root, head, entry, owner, group, cell, object, index, rank, row, item as item_at}
 use Rattle.layout.specs.Fields.{head_lifecycle}
 use Rattle.layout.specs.Values.{life_retired}
 use Rattle.representation.specs.Represents.{slot_in, Rep}
 use Rattle.representation.specs.Unique.{shape_for, rep_unique}
 use Rattle.written.specs.Words.{table_at, page_at, owner_of, word_at}
-use Rattle.written.specs.Whole.{written, has_words}
+use Rattle.written.proofs.Whole.{written, has_words}
 use Rattle.noninterference.specs.Runs.{lower_state}
 use Rattle.promises.specs.Lower.{Ending.rolled_back, rollback_words, reads_rollback}
 use Rattle.promises.specs.Terms.{Call, Calls, left, list_of, Together}

@@ -6,7 +6,7 @@ use Rattle.std.proofs.Math.Option.{Option, none, some}
 use Rattle.words.specs.Pick.{bool}
 use Rattle.model.specs.Base.{bit, occurs, sum}
 use Rattle.model.specs.State.{till, Handle, Slot, Page, Lifecycle, Lifecycle.active, Lifecycle.tearing_down, Lifecycle.retired, Table, Class, Class.leaf, Class.rendezvous_only, Class.never, Stage, Stage.still_new, Stage.now_active, Stage.now_retired, Object, Entry, Entry.moved, Entry.copied, Body, Body.reservation, Body.claim, Body.parcel, Body.plan, StorageSnapshot, Row, State}
-use Rattle.model.specs.Counting.{bit_same, bit_other}
+use Rattle.model.proofs.Counting.{bit_same, bit_other}
 use Rattle.model.specs.WellFormed.{Rising, pages_with, plans_with, WellFormed}
 use Rattle.layout.specs.declared.Shape.{Shape}
 use Rattle.layout.specs.declared.ShapeRead.TheVariants.{Shape as found}

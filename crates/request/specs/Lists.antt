@@ -11,8 +11,8 @@ use Rattle.format.specs.Format.{musts, mays, transfer_item_must, transfer_item_m
 use Rattle.model.specs.Base.{pick, nth}
 use Rattle.model.specs.Request.{Item, Request, Request.publish, Request.prepare_transfer}
 use Rattle.model.specs.Words.{Reading, and_then, Fields, may, must, read_record, read_many, route_of, plain_requests, plain_request, with_items, read_request, read_up_to, read_list}
-use Rattle.model.specs.Lists.{Front, request_in_front, reading_ends}
-use Rattle.model.specs.Tests.{◌&◌, nth_some}
+use Rattle.model.proofs.Lists.{Front, request_in_front, reading_ends}
+use Rattle.model.proofs.Tests.{◌&◌, nth_some}
 use Rattle.format.specs.Fields.{op_field, table_field, id_field, route_field, forbidden_object_field, forbidden_kind_field, an_op, an_operation, zero_word}
 use Rattle.format.specs.Ops.{op_publish, op_prepare_transfer, op_last}
 use Rattle.request.specs.declared.Next.TheVariants.{At}

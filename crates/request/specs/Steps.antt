@@ -8,7 +8,7 @@ use Prim.Native.Nat.{ℕ, zero, suc, ◌+◌, ◌-◌, ◌*◌, ◌/◌, ◌≤�
 use native.Mathlib.Omega.{arith}
 use borrow.Author.Tests.{lt-ltb, le-ltb, ltb-true, ltb-false, eq-eqb, ne_eqb}
 use Rattle.format.specs.Format.{transfer_item_must, transfer_item_may, parcel_item_must, field_count, answer_words, musts, mays}
-use Rattle.format.specs.Laws.{must_below, may_below}
+use Rattle.format.proofs.Laws.{must_below, may_below}
 use Rattle.format.specs.Ops.{op_publish, op_prepare_transfer}
 use Rattle.format.specs.Fields.{an_op, an_operation, zero_word}
 use Rattle.model.specs.Base.{or_else, is_some}

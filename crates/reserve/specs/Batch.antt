@@ -10,11 +10,11 @@ use Rattle.model.specs.State.{till, Slot.reserved, Body.reservation, State, is_a
 use Rattle.model.specs.Storage.{take_free}
 use Rattle.model.specs.Change.{with_table}
 use Rattle.model.specs.Book.{add_row}
-use Rattle.model.specs.Sums.{occurs_split}
+use Rattle.model.proofs.Sums.{occurs_split}
 use Rattle.model.specs.Lookup.{value_at}
 use Rattle.model.specs.Request.{Answer.batch}
 use Rattle.model.specs.Words.{used_words}
-use Rattle.invariant.specs.Pages.{vacant_there}
+use Rattle.invariant.proofs.Pages.{vacant_there}
 use Rattle.layout.specs.declared.Shape.{Shape}
 use Rattle.layout.specs.Layout.{root, head, index, item, load}
 use Rattle.layout.specs.Fields.{root_used_rows, head_first_free, slot_next_free, slot_previous_free, index_place, item_slot}

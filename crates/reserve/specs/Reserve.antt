@@ -5,12 +5,12 @@ use Rattle.model.specs.Storage.{grow}
 use Rattle.model.specs.Change.{with_frames}
 use Rattle.model.specs.Request.{Request.reserve}
 use Rattle.model.specs.Decision.{Decision}
-use Rattle.model.specs.Decided.{Room}
+use Rattle.model.proofs.Decided.{Room}
 use Rattle.model.specs.Step.{with_room, reserve_in, reserve_of, decide}
-use Rattle.model.specs.Tests.{at_most_law}
-use Rattle.model.specs.Bounds.{batch_max_law}
-use Rattle.invariant.specs.Pages.{till_sane}
-use Rattle.invariant.specs.Snapshots.{snapshot_pages}
+use Rattle.model.proofs.Tests.{at_most_law}
+use Rattle.model.proofs.Bounds.{batch_max_law}
+use Rattle.invariant.proofs.Pages.{till_sane}
+use Rattle.invariant.proofs.Snapshots.{snapshot_pages}
 use Rattle.layout.specs.declared.Shape.{Shape}
 use Rattle.layout.specs.Sizes.{batch_max}
 use Rattle.representation.specs.Represents.{Rep}

@@ -16,10 +16,10 @@ use Rattle.model.specs.Book.{add_row, free_row, id_left}
 use Rattle.model.specs.Lookup.{value_at}
 use Rattle.model.specs.Request.{Request, Answer.batch}
 use Rattle.model.specs.Decision.{Decision, Decision.refusal, unless◌refuse◌then◌, given◌refuse◌then◌}
-use Rattle.model.specs.Decided.{Room}
+use Rattle.model.proofs.Decided.{Room}
 use Rattle.model.specs.Step.{with_room, reserve_in, decide}
 use Rattle.model.specs.Words.{used_words}
-use Rattle.model.specs.Bounds.{batch_max_law}
+use Rattle.model.proofs.Bounds.{batch_max_law}
 use Rattle.layout.specs.declared.Shape.{Shape}
 use Rattle.layout.specs.Layout.{root, load}
 use Rattle.layout.specs.Fields.{root_next_id, root_used_rows, root_free_frames}

@@ -13,7 +13,7 @@ use Rattle.model.specs.State.{till, Slot.reserved, Table, Body.reservation, Stat
 use Rattle.model.specs.Storage.{with_free, take_free}
 use Rattle.model.specs.Change.{with_table}
 use Rattle.model.specs.Lookup.{value_at}
-use Rattle.invariant.specs.Pointwise.{place_free, take_free_none, take_free_more}
+use Rattle.invariant.proofs.Pointwise.{place_free, take_free_none, take_free_more}
 use Rattle.layout.specs.declared.Shape.{Shape}
 use Rattle.layout.specs.Layout.{Mem, head, item, load}
 use Rattle.layout.specs.Fields.{head_first_free, slot_generation, item_slot}

@@ -15,7 +15,7 @@ use Rattle.representation.specs.Represents.{word_in, frame_of}
 use Rattle.head.specs.declared.TableHead.{TableHead}
 use Rattle.head.specs.Head.{head_at, empty_by}
 use Rattle.words.specs.Pick.{pick, yes_is, no_is}
-use Rattle.model.specs.Bounds.{slots_max_law}
+use Rattle.model.proofs.Bounds.{slots_max_law}
 use Rattle.storage.specs.Sight.{cell_p, slot_p, page_p}
 use Rattle.storage.specs.Ops.{up, move_p, occupy_p, move_w, occupy_w}
 use Rattle.storage.specs.Late.{frame_from, link_from, frame_of_law, vacant_w, held_w, marked_w, linked_w, unlinked_w, first_without, fewer_w, fewer_by, more_w, more_by}

@@ -8,10 +8,10 @@ use Rattle.words.specs.Pick.{bool, clash}
 use Rattle.model.specs.Base.{occurs, is_some}
 use Rattle.model.specs.State.{till, Handle, Slot, Slot.transfer_reserved, Slot.occupied, Table, generation, is_busy, is_vacant, is_absent}
 use Rattle.model.specs.Storage.{place, keep}
-use Rattle.model.specs.Tests.{and-false}
-use Rattle.invariant.specs.Pointwise.{place_alike}
-use Rattle.invariant.specs.Pages.{till_sane, busy_there, busy_vacant, busy_same}
-use Rattle.invariant.specs.Orders.{Sound}
+use Rattle.model.proofs.Tests.{and-false}
+use Rattle.invariant.proofs.Pointwise.{place_alike}
+use Rattle.invariant.proofs.Pages.{till_sane, busy_there, busy_vacant, busy_same}
+use Rattle.invariant.proofs.Orders.{Sound}
 use Rattle.layout.specs.Layout.{Mem, row}
 use Rattle.layout.specs.Fields.{head_page_limit, head_mask, head_lifecycle, head_cursor, head_epoch, head_pages, head_first_free, head_free_slots, head_first_empty, head_first_detached, entry_frame, entry_high, entry_busy, entry_next, entry_previous, slot_tag, slot_generation, slot_next_free, slot_previous_free, slot_place, slot_position, slot_object, slot_rights, slot_flags, row_id}
 use Rattle.layout.specs.Values.{tag_transfer_reserved}

@@ -5,7 +5,7 @@ use Rattle.std.proofs.Math.Option.{some}
 use Rattle.words.specs.Pick.{bool}
 use Rattle.model.specs.Base.{occurs}
 use Rattle.model.specs.State.{till, Handle, Slot.reserved, Slot.transfer_reserved, Table, Object, Entry, Entry.moved, Entry.copied, Body, Body.reservation, Body.claim, Body.parcel, Body.plan, Row, State}
-use Rattle.invariant.specs.Orders.{Sound}
+use Rattle.invariant.proofs.Orders.{Sound}
 use Rattle.layout.specs.Layout.{Addr.reg, Mem, root, head, entry, owner, group, cell, object, index, rank, row, item}
 use Rattle.layout.specs.Fields.{root_next_id, root_used_rows, root_free_frames, head_page_limit, head_mask, head_lifecycle, head_cursor, head_epoch, head_pages, head_first_free, head_free_slots, head_first_empty, head_first_detached, head_first_entry, entry_frame, entry_high, entry_busy, entry_next, entry_previous, slot_tag, slot_generation, slot_next_free, slot_previous_free, slot_place, slot_position, slot_object, slot_rights, slot_flags, object_koid, object_kind, object_class, object_supported, object_exportable, object_stage, object_active, object_limit, index_place, index_rank, row_id, row_kind, row_table, row_length, row_count, row_epoch, item_slot, item_operation, item_moved, item_object, item_rights, item_flags, item_granted, item_page, item_frame, item_free_slots}
 use Rattle.layout.specs.Values.{tag_transfer_reserved, operation_move}

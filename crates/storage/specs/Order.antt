@@ -5,9 +5,9 @@ use Rattle.std.proofs.Math.Nat.{suc_inj}
 use Rattle.std.proofs.lemmas.Bool.{eqb-false}
 use Rattle.model.specs.Base.{bit, occurs, without, sum}
 use Rattle.representation.specs.Represents.{Chain, Linked}
-use Rattle.model.specs.Sums.{without_none, sum_add}
-use Rattle.model.specs.Tests.{bit_small}
-use Rattle.model.specs.Counting.{occurs_append, bit_same, bit_other}
+use Rattle.model.proofs.Sums.{without_none, sum_add}
+use Rattle.model.proofs.Tests.{bit_small}
+use Rattle.model.proofs.Counting.{occurs_append, bit_same, bit_other}
 
 -- two numbers are equal or not
 pub same? : (a b : ℕ) → (a ≡ b) ⊎ (a ≡ b → ⊥)

@@ -6,10 +6,10 @@ use Rattle.codec.specs.Codec.{next_generation}
 use Rattle.model.specs.State.{till, Handle, Slot, Slot.vacant, Slot.reserved, Slot.transfer_reserved, Slot.occupied, Table, State, generation, is_busy, is_absent}
 use Rattle.model.specs.Storage.{with_free, place, keep, vacate}
 use Rattle.model.specs.Change.{with_table}
-use Rattle.model.specs.Tests.{put_other, put_same}
-use Rattle.invariant.specs.Pointwise.{Alike, place_alike, place_slots, vacate_alike, vacate_slots}
-use Rattle.invariant.specs.Pages.{till_sane, vacant_there}
-use Rattle.invariant.specs.Orders.{Sound, good_of, take_good, keep_good, vacate_good}
+use Rattle.model.proofs.Tests.{put_other, put_same}
+use Rattle.invariant.proofs.Pointwise.{Alike, place_alike, place_slots, vacate_alike, vacate_slots}
+use Rattle.invariant.proofs.Pages.{till_sane, vacant_there}
+use Rattle.invariant.proofs.Orders.{Sound, good_of, take_good, keep_good, vacate_good}
 use Rattle.layout.specs.declared.Shape.{Shape}
 use Rattle.layout.specs.Layout.{Mem, rank, row, item, load}
 use Rattle.layout.specs.ShapeOf.{roots_kept}

@@ -6,8 +6,8 @@ use Rattle.model.specs.Base.{pick, occurs}
 use Rattle.model.specs.State.{Sizes, till, Slot, Slot.absent, Slot.reserved, Slot.transfer_reserved, Table, generation, is_vacant, is_absent, max_slots}
 use Rattle.model.specs.Storage.{busy_of}
 use Rattle.model.specs.WellFormed.{is_attached}
-use Rattle.model.specs.Tests.{and_left, bit_true}
-use Rattle.invariant.specs.Orders.{Sound, attached_below}
+use Rattle.model.proofs.Tests.{and_left, bit_true}
+use Rattle.invariant.proofs.Orders.{Sound, attached_below}
 use Rattle.layout.specs.Layout.{Mem, row}
 use Rattle.layout.specs.Fields.{head_page_limit, head_mask, head_lifecycle, head_cursor, head_epoch, head_pages, head_first_free, head_free_slots, head_first_empty, head_first_detached, entry_frame, entry_high, entry_busy, entry_next, entry_previous, slot_tag, slot_generation, slot_next_free, slot_previous_free, slot_object, slot_rights, slot_flags, row_id}
 use Rattle.layout.specs.Values.{tag_vacant}

@@ -11,13 +11,13 @@ use Rattle.words.specs.Pick.{bool, clash}
 use Rattle.model.specs.Base.{put, bit, occurs, is_some}
 use Rattle.model.specs.State.{till, Slot, Slot.reserved, Table, generation, is_busy, is_vacant, is_absent}
 use Rattle.model.specs.Storage.{with_free, busy_of, place, keep}
-use Rattle.model.specs.Bounds.{busy_small}
+use Rattle.model.proofs.Bounds.{busy_small}
 use Rattle.model.specs.WellFormed.{is_attached}
-use Rattle.model.specs.Tests.{and-false}
-use Rattle.model.specs.Sums.{without_none}
-use Rattle.invariant.specs.Pointwise.{place_alike, place_slots}
-use Rattle.invariant.specs.Pages.{till_sane, vacant_there, busy_own, busy_other, vacant_idle}
-use Rattle.invariant.specs.Orders.{Sound, attached_below, attached_of, below_of}
+use Rattle.model.proofs.Tests.{and-false}
+use Rattle.model.proofs.Sums.{without_none}
+use Rattle.invariant.proofs.Pointwise.{place_alike, place_slots}
+use Rattle.invariant.proofs.Pages.{till_sane, vacant_there, busy_own, busy_other, vacant_idle}
+use Rattle.invariant.proofs.Orders.{Sound, attached_below, attached_of, below_of}
 use Rattle.layout.specs.Layout.{Mem, row}
 use Rattle.layout.specs.Fields.{head_first_free, head_free_slots, head_first_empty, head_first_detached, entry_high, entry_busy, entry_next, entry_previous, slot_tag, slot_generation, slot_next_free, slot_previous_free, slot_place, slot_position, slot_flags, row_id}
 use Rattle.layout.specs.Values.{tag_vacant, tag_reserved}

@@ -13,8 +13,8 @@ use Rattle.codec.specs.Codec.{next_generation}
 use Rattle.model.specs.Base.{occurs}
 use Rattle.model.specs.State.{till, Slot.transfer_reserved, Slot.occupied, Table, is_busy, is_vacant, is_absent}
 use Rattle.model.specs.Storage.{vacate, keep}
-use Rattle.invariant.specs.Pages.{busy_there, vacant_there}
-use Rattle.invariant.specs.Orders.{Sound, attached_below, attached_of}
+use Rattle.invariant.proofs.Pages.{busy_there, vacant_there}
+use Rattle.invariant.proofs.Orders.{Sound, attached_below, attached_of}
 use Rattle.layout.specs.declared.Shape.{Shape}
 use Rattle.layout.specs.Layout.{Mem, total, head, row, load}
 use Rattle.layout.specs.Fields.{head_pages, head_first_free, head_first_empty, entry_busy, entry_next, entry_previous, slot_generation, slot_next_free, slot_previous_free, row_id}

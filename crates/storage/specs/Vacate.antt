@@ -10,11 +10,11 @@ use Rattle.model.specs.Base.{put, bit, occurs, is_some}
 use Rattle.model.specs.State.{Sizes, till, Slot, Slot.vacant, Table, generation, is_busy, is_vacant, is_absent, max_slots}
 use Rattle.model.specs.Storage.{busy_of, place, vacate}
 use Rattle.model.specs.WellFormed.{is_attached}
-use Rattle.model.specs.Tests.{and-false, bit_small}
-use Rattle.model.specs.Bounds.{slots_max_law}
-use Rattle.invariant.specs.Pointwise.{place_alike, vacate_slots}
-use Rattle.invariant.specs.Pages.{till_sane, busy_there, busy_vacant, vacant_there, busy_own, busy_other}
-use Rattle.invariant.specs.Orders.{Sound, attached_below, attached_of, below_of}
+use Rattle.model.proofs.Tests.{and-false, bit_small}
+use Rattle.model.proofs.Bounds.{slots_max_law}
+use Rattle.invariant.proofs.Pointwise.{place_alike, vacate_slots}
+use Rattle.invariant.proofs.Pages.{till_sane, busy_there, busy_vacant, vacant_there, busy_own, busy_other}
+use Rattle.invariant.proofs.Orders.{Sound, attached_below, attached_of, below_of}
 use Rattle.layout.specs.Layout.{Mem}
 use Rattle.layout.specs.Fields.{head_first_free, head_free_slots, head_first_empty, head_first_detached, entry_high, entry_busy, entry_next, entry_previous, slot_tag, slot_generation, slot_next_free, slot_previous_free, slot_flags}
 use Rattle.layout.specs.Values.{tag_vacant}

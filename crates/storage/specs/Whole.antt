@@ -8,12 +8,12 @@ use Rattle.model.specs.Base.{put, bit, sum}
 use Rattle.model.specs.State.{Sizes, till, Table, State}
 use Rattle.model.specs.Change.{with_table}
 use Rattle.model.specs.WellFormed.{is_frame, WellFormed}
-use Rattle.model.specs.Tests.{bit_true, same}
-use Rattle.model.specs.Sums.{sum_part, sum_equal}
-use Rattle.model.specs.Counting.{runs_apart, sum_next}
-use Rattle.invariant.specs.Pointwise.{Alike}
-use Rattle.invariant.specs.Orders.{Sound}
-use Rattle.invariant.specs.StorageState.{storage_of, sound_of}
+use Rattle.model.proofs.Tests.{bit_true, same}
+use Rattle.model.proofs.Sums.{sum_part, sum_equal}
+use Rattle.model.proofs.Counting.{runs_apart, sum_next}
+use Rattle.invariant.proofs.Pointwise.{Alike}
+use Rattle.invariant.proofs.Orders.{Sound}
+use Rattle.invariant.proofs.StorageState.{storage_of, sound_of}
 use Rattle.layout.specs.declared.Shape.{Shape}
 use Rattle.layout.specs.Layout.{Addr.reg, Mem, root, head, entry, owner, cell}
 use Rattle.layout.specs.Fields.{root_next_id, root_used_rows, root_free_frames, head_pages, head_first_entry, entry_frame, slot_tag, slot_place, slot_position, row_id}

@@ -7,9 +7,9 @@ use borrow.Author.Tests.{eq-eqb, ne_eqb, eqb-true, lt-ltb, le-ltb, ltb-true, ltb
 use Rattle.words.specs.Pick.{bool, both}
 use Rattle.words.specs.All.{all, all_at, all_more, all_stop, all_end}
 use Rattle.model.specs.Base.{bit, sum}
-use Rattle.model.specs.Tests.{bit_small}
-use Rattle.model.specs.Sums.{sum_equal}
-use Rattle.model.specs.Counting.{sum_append}
+use Rattle.model.proofs.Tests.{bit_small}
+use Rattle.model.proofs.Sums.{sum_equal}
+use Rattle.model.proofs.Counting.{sum_append}
 use Rattle.codec.specs.Codec.{generation_limit}
 use Rattle.layout.specs.declared.Shape.{Shape}
 use Rattle.layout.specs.declared.CellWords.{CellWords}

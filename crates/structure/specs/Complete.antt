@@ -10,9 +10,9 @@ use Rattle.model.specs.Base.{bit, occurs, sum, is_some}
 use Rattle.model.specs.State.{till, Lifecycle, Lifecycle.active, Lifecycle.tearing_down, Lifecycle.retired, Body, Body.reservation, Body.claim, Body.parcel, Body.plan, Row, State, generation, is_absent, is_occupied, is_retired, max_slots}
 use Rattle.model.specs.Storage.{slots_of}
 use Rattle.model.specs.WellFormed.{LifeRange, TableRange, is_frame, pages_with, frames_in, plans_with, is_attached, WellFormed}
-use Rattle.model.specs.Tests.{bool, clash, bit_true, zero_or}
-use Rattle.model.specs.Sums.{sum_equal, sum_add, sum_part}
-use Rattle.model.specs.Counting.{bit_same, sum_some, sum_ones, sum_occurs}
+use Rattle.model.proofs.Tests.{bool, clash, bit_true, zero_or}
+use Rattle.model.proofs.Sums.{sum_equal, sum_add, sum_part}
+use Rattle.model.proofs.Counting.{bit_same, sum_some, sum_ones, sum_occurs}
 use Rattle.layout.specs.declared.Shape.{Shape}
 use Rattle.layout.specs.Layout.{Mem, head, entry, owner, cell, index}
 use Rattle.layout.specs.Fields.{head_page_limit, head_lifecycle, head_cursor, head_pages, entry_frame, entry_high, slot_tag, slot_generation, slot_object, slot_rights, slot_flags}

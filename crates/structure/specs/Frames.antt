@@ -5,9 +5,9 @@ use Rattle.std.proofs.lemmas.Bool.{lt-leb}
 use Rattle.model.specs.Base.{bit, occurs, sum, range, drop_if}
 use Rattle.model.specs.State.{Row}
 use Rattle.model.specs.WellFormed.{Rising, over_rows, frames_in, plans_with}
-use Rattle.model.specs.Tests.{bool, bit_small, zero_or}
-use Rattle.model.specs.Sums.{sum_equal, sum_zero, sum_add, occurs_drop_if, range_all}
-use Rattle.model.specs.Counting.{bit_same, bit_other, sum_le, sum_up, sum_tight, sum_swap, sum_append, sum_ones, sum_one, sum_link, sum_occurs}
+use Rattle.model.proofs.Tests.{bool, bit_small, zero_or}
+use Rattle.model.proofs.Sums.{sum_equal, sum_zero, sum_add, occurs_drop_if, range_all}
+use Rattle.model.proofs.Counting.{bit_same, bit_other, sum_le, sum_up, sum_tight, sum_swap, sum_append, sum_ones, sum_one, sum_link, sum_occurs}
 use Rattle.layout.specs.declared.Shape.{Shape}
 use Rattle.layout.specs.Layout.{Mem, head, entry, owner}
 use Rattle.layout.specs.ShapeOf.{Permitted}

@@ -10,9 +10,9 @@ use Rattle.model.specs.State.{till, Slot, Slot.absent, Page, Lifecycle, Lifecycl
 use Rattle.model.specs.State.{generation, is_absent, is_busy, is_occupied, is_retired, no_page, max_slots, known_flags}
 use Rattle.model.specs.Storage.{slots_of, busy_of, busy_in as model_busy}
 use Rattle.model.specs.WellFormed.{HandleRange, SlotRange, LifeRange, is_frame}
-use Rattle.model.specs.Tests.{bool, clash}
-use Rattle.model.specs.Sums.{sum_equal}
-use Rattle.model.specs.Counting.{bit_same, bit_other, sum_front}
+use Rattle.model.proofs.Tests.{bool, clash}
+use Rattle.model.proofs.Sums.{sum_equal}
+use Rattle.model.proofs.Counting.{bit_same, bit_other, sum_front}
 use Rattle.layout.specs.Layout.{Mem, head, entry, cell}
 use Rattle.layout.specs.Fields.{head_pages, entry_frame, entry_high, slot_tag, slot_generation, slot_object, slot_rights, slot_flags}
 use Rattle.layout.specs.Values.{tag_vacant, tag_occupied, life_active, life_tearing_down, life_retired}

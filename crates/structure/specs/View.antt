@@ -8,9 +8,9 @@ use Rattle.model.specs.Base.{bit, sum, is_some}
 use Rattle.model.specs.State.{till, Page, Table, State, generation, is_absent, is_occupied, is_retired, no_page, no_table, max_slots}
 use Rattle.model.specs.Storage.{busy_of, page_of}
 use Rattle.model.specs.WellFormed.{SlotRange, TableRange, is_frame, pages_with, Frames, is_attached, Generations}
-use Rattle.model.specs.Tests.{bool, clash}
-use Rattle.model.specs.Sums.{sum_equal}
-use Rattle.model.specs.Counting.{sum_cut}
+use Rattle.model.proofs.Tests.{bool, clash}
+use Rattle.model.proofs.Sums.{sum_equal}
+use Rattle.model.proofs.Counting.{sum_cut}
 use Rattle.layout.specs.declared.Shape.{Shape}
 use Rattle.layout.specs.ShapeOf.{Permitted}
 use Rattle.layout.specs.Layout.{Addr, Mem, head, entry, cell}

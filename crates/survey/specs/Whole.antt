@@ -12,7 +12,7 @@ use Rattle.words.specs.All.{all, all_at, all_yes, all_same}
 use Rattle.model.specs.Base.{bit, occurs}
 use Rattle.model.specs.State.{till, max_slots}
 use Rattle.model.specs.Storage.{slots_of}
-use Rattle.model.specs.Sums.{sum_part}
+use Rattle.model.proofs.Sums.{sum_part}
 use Rattle.layout.specs.declared.Shape.{Shape}
 use Rattle.layout.specs.Layout.{Mem, head, entry, cell}
 use Rattle.layout.specs.Cells.{cell_at}

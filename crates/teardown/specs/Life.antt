@@ -6,8 +6,8 @@ use Rattle.words.specs.Pick.{bool}
 use Rattle.model.specs.Base.{put}
 use Rattle.model.specs.State.{till, Lifecycle, Table, State}
 use Rattle.model.specs.Change.{with_table, with_life}
-use Rattle.model.specs.Sums.{sum_equal}
-use Rattle.invariant.specs.Orders.{recast}
+use Rattle.model.proofs.Sums.{sum_equal}
+use Rattle.invariant.proofs.Orders.{recast}
 use Rattle.layout.specs.declared.Shape.{Shape}
 use Rattle.layout.specs.Layout.{Mem, cell, head, load, Write, Write.at, upds, in_head, length_writes, load_writes}
 use Rattle.layout.specs.ShapeOf.{roots_kept}

@@ -19,7 +19,7 @@ use Rattle.model.specs.Request.{Request.remove_stopping_owner, Request.teardown_
 use Rattle.model.specs.Decision.{Decision, Decision.refusal, Decision.accept, unless◌refuse◌then◌, table◌of◌refuse◌then◌, teardown_cursor◌refuse◌then◌}
 use Rattle.model.specs.Step.{next_occupied, remove_at, remove_stopping_owner_of, teardown_start_of, tear_at, teardown_step_of, teardown_finish_of, decide}
 use Rattle.model.specs.Words.{info_words, used_words}
-use Rattle.invariant.specs.StorageViews.{next_occupied_law}
+use Rattle.invariant.proofs.StorageViews.{next_occupied_law}
 use Rattle.layout.specs.declared.Shape.{Shape}
 use Rattle.layout.specs.Layout.{Mem, head, load}
 use Rattle.layout.specs.Fields.{head_lifecycle, head_cursor, slot_tag, slot_generation, slot_object}

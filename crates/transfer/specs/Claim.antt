@@ -12,7 +12,7 @@ use Rattle.model.specs.State.{till, Slot.transfer_reserved, Table, Entry, Entry.
 use Rattle.model.specs.Storage.{keep, keep_all}
 use Rattle.model.specs.Change.{with_table}
 use Rattle.model.specs.Book.{add_row, moved_of}
-use Rattle.invariant.specs.Pointwise.{keep_busy}
+use Rattle.invariant.proofs.Pointwise.{keep_busy}
 use Rattle.layout.specs.declared.Shape.{Shape}
 use Rattle.layout.specs.Layout.{Addr, Addr.reg, total, root, index, item, load, save, same, same_is, is_in, in_item, length_save, load_save_any, Write, Write.at, writes, load_writes}
 use Rattle.layout.specs.Fields.{root_used_rows, index_place, item_operation, item_moved, item_object, item_rights, item_flags, item_granted}

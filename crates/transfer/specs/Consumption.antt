@@ -14,10 +14,10 @@ use Rattle.model.specs.Book.{add_row, free_row, id_left}
 use Rattle.model.specs.Request.{Request.prepare_consumption, Answer.opened}
 use Rattle.model.specs.Decision.{Decision, Decision.refusal, Decision.accept, unless◌refuse◌then◌}
 use Rattle.model.specs.Lookup.{lookup, on_view}
-use Rattle.model.specs.Decided.{on_handle}
+use Rattle.model.proofs.Decided.{on_handle}
 use Rattle.model.specs.Step.{prepare_consumption_of, decide}
 use Rattle.model.specs.Words.{used_words}
-use Rattle.model.specs.Counting.{bit_other}
+use Rattle.model.proofs.Counting.{bit_other}
 use Rattle.layout.specs.declared.Shape.{Shape}
 use Rattle.layout.specs.Layout.{index, load}
 use Rattle.representation.specs.Represents.{Represents, Rep}

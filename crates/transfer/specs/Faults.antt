@@ -15,8 +15,8 @@ use Rattle.model.specs.Objects.{is_now_retired}
 use Rattle.model.specs.Lookup.{View as Named, View.invalid, View.busy, View.holds, view_slot, lookup}
 use Rattle.model.specs.Transfer.{Check, ◌or◌, first_fault, permits, is_copy, is_known, is_busy_now, held_in, item_checks, copy_checks, first_of, items_fault, entry_by, entry_for}
 use Rattle.model.specs.WellFormed.{WellFormed, All}
-use Rattle.model.specs.Tests.{apart}
-use Rattle.invariant.specs.Items.{stands_at, fault_head, held_view, both_none}
+use Rattle.model.proofs.Tests.{apart}
+use Rattle.invariant.proofs.Items.{stands_at, fault_head, held_view, both_none}
 use Rattle.layout.specs.declared.Shape.{Shape}
 use Rattle.layout.specs.Layout.{Mem}
 use Rattle.representation.specs.Represents.{class_word, ObjectIs, Represents}

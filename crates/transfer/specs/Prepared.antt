@@ -18,10 +18,10 @@ use Rattle.model.specs.Decision.{Decision, Decision.refusal, Decision.refusal_af
 use Rattle.model.specs.Transfer.{items_fault, copies_fault, entry_for}
 use Rattle.model.specs.Step.{prepare_transfer_of, decide}
 use Rattle.model.specs.WellFormed.{All}
-use Rattle.invariant.specs.Rows.{good}
-use Rattle.invariant.specs.Counts.{slot_counted}
-use Rattle.invariant.specs.CountLemmas.{of_same}
-use Rattle.invariant.specs.Items.{items_stand, items_count, taken}
+use Rattle.invariant.proofs.Rows.{good}
+use Rattle.invariant.proofs.Counts.{slot_counted}
+use Rattle.invariant.proofs.CountLemmas.{of_same}
+use Rattle.invariant.proofs.Items.{items_stand, items_count, taken}
 use Rattle.layout.specs.declared.Shape.{Shape}
 use Rattle.layout.specs.Regions.{region, in_place}
 use Rattle.layout.specs.Layout.{layout, root, load, save, in_root, load_root}

@@ -18,7 +18,7 @@ use Rattle.model.specs.Book.{copies_of}
 use Rattle.model.specs.Lookup.{View.holds}
 use Rattle.model.specs.Transfer.{first_fault, copy_checks, first_of, copies_fault, entry_for}
 use Rattle.model.specs.WellFormed.{WellFormed, All, in_handles}
-use Rattle.model.specs.Tests.{apart}
+use Rattle.model.proofs.Tests.{apart}
 use Rattle.layout.specs.declared.Shape.{Shape}
 use Rattle.layout.specs.Layout.{Addr, Addr.reg, total, object, load, In, is_in, in_is, load_out, writes_past, loads_same}
 use Rattle.layout.specs.RegionNames.{region_object}

@@ -9,7 +9,7 @@ use borrow.Author.Tests.{lt-leb, eqb-true, eqb-false, ltb-true, ltb-false}
 use Rattle.words.specs.Pick.{bool, clash, both}
 use Rattle.words.specs.All.{all}
 use Rattle.model.specs.Base.{occurs}
-use Rattle.model.specs.Counting.{occurs_append}
+use Rattle.model.proofs.Counting.{occurs_append}
 use Rattle.layout.specs.declared.Shape.{Shape}
 use Rattle.layout.specs.Layout.{Mem, total, load}
 use Rattle.structure.specs.Checks.{outline_b}

@@ -4,8 +4,8 @@ use Rattle.std.proofs.Math.Path.{refl, ap, subst}
 use Rattle.std.proofs.Common.{sym, arith, le-ltb, ltb-true, ltb-false}
 use Rattle.model.specs.Base.{is_some}
 use Rattle.model.specs.State.{till, Table, Object, State, is_active, no_table, no_page, max_tables, max_frames, max_objects, max_rows}
-use Rattle.model.specs.Sums.{sum_part}
-use Rattle.model.specs.Tests.{bool, clash}
+use Rattle.model.proofs.Sums.{sum_part}
+use Rattle.model.proofs.Tests.{bool, clash}
 use Rattle.model.specs.WellFormed.{ObjectRange, Ranges, Orders, Generations, StageCount, Counts, AtRest, WellFormed}
 use Rattle.layout.specs.declared.Shape.{Shape}
 use Rattle.layout.specs.Layout.{Addr, Mem, root, head, object}

@@ -7,7 +7,7 @@ use Rattle.model.specs.Base.{nth, occurs}
 use Rattle.model.specs.State.{Handle, Entry, Entry.moved, Entry.copied, Body, Row}
 use Rattle.model.specs.Book.{find, moved_of}
 use Rattle.model.specs.WellFormed.{frames_in, plans_with}
-use Rattle.model.specs.Counting.{bit_same}
+use Rattle.model.proofs.Counting.{bit_same}
 use Rattle.representation.specs.Represents.{Chain, Linked}
 
 -- ---- among the numbers below n

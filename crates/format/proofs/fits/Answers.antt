@@ -1,5 +1,5 @@
 use mathlib.Core.Path.{refl}
-use Rattle.format.specs.Laws.{kind_fits, no_kind}
+use Rattle.format.proofs.Laws.{kind_fits, no_kind}
 use Rattle.format.specs.Fields.{any_word, number32, a_koid, a_route, an_op, an_operation, zero_word}
 use Rattle.format.specs.Format.{field_fits}
 use Rattle.format.proofs.fits.Goals as goal

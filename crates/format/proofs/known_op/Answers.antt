@@ -1,4 +1,4 @@
-use Rattle.format.specs.Laws.{known_yes, known_no}
+use Rattle.format.proofs.Laws.{known_yes, known_no}
 use Rattle.format.proofs.known_op.Goals as goal
 
 pub returns-then-word-ge1 : goal.returns-then-word-ge1

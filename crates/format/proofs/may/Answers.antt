@@ -1,5 +1,5 @@
 use Rattle.format.specs.Format.{mays}
-use Rattle.format.specs.Laws.{none_at, entry_at}
+use Rattle.format.proofs.Laws.{none_at, entry_at}
 use mathlib.Core.Path.{refl}
 use borrow.Author.Rules.{rules}
 use Rattle.format.proofs.may.Goals as goal

@@ -1,5 +1,5 @@
 use native.Mathlib.Omega.{arith}
-use Rattle.model.specs.Bounds.{slots_full, slots_none, slots_last}
+use Rattle.model.proofs.Bounds.{slots_full, slots_none, slots_last}
 use Rattle.head.proofs.slots_of.Goals as goal
 
 pub returns-then-p-lt-LAST_PAGE : goal.returns-then-p-lt-LAST_PAGE

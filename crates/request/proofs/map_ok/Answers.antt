@@ -3,7 +3,7 @@ use Rattle.model.specs.Words.{odd}
 use Rattle.request.specs.Place.{good_map}
 use Rattle.request.specs.Steps.{both_no}
 use mathlib.Core.Path.{sym, ◌∙◌}
-use Rattle.authority.specs.Laws.{both_yes}
+use Rattle.authority.proofs.Laws.{both_yes}
 use Rattle.request.proofs.map_ok.Goals as goal
 
 pub returns-then-covers : goal.returns-then-covers

@@ -1,5 +1,5 @@
 use mathlib.Core.Path.{refl, sym, ◌∙◌}
-use Rattle.authority.specs.Laws.{both_yes, both_no}
+use Rattle.authority.proofs.Laws.{both_yes, both_no}
 use Rattle.authority.proofs.HandleRights.contains.Goals as goal
 
 pub returns-then-contains : goal.returns-then-contains

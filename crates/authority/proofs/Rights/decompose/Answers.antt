@@ -1,6 +1,6 @@
 use borrow.Author.Rules.{rules}
 use Rattle.authority.specs.Rights.{operations, propagation}
-use Rattle.authority.specs.Laws.{operations_is, propagation_is}
+use Rattle.authority.proofs.Laws.{operations_is, propagation_is}
 use Rattle.authority.proofs.Rights.decompose.Goals as goal
 
 pub returns : goal.returns

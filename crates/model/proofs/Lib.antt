@@ -1,0 +1,12 @@
+pub mod Tests
+pub mod Sums
+pub mod Counting
+pub mod Bounds
+pub mod Cases
+pub mod PlanCases
+pub mod Effects
+pub mod WordCases
+pub mod Decided
+pub mod Created
+pub mod Refusals
+pub mod Lists
