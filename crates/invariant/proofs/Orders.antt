@@ -182,7 +182,7 @@ module _ (z : Sizes) (sane : Sane z) where
       let here : is_absent (t.slots k) ≡ false = busy_there (t.slots k) was in
       with_order z (place z t k x) (k ∷ fr) (place_sound t fr (k ∷ fr) k x o here refl (next_range (generation (t.slots k)))
       (λ j. bool (eqb j k)
-      (λ e. let i : occurs k fr ≡ 0 = o.free k ∙ rw (busy_vacant (t.slots k) was) in rw (e, eqb-true j k e) (omega arith))
+      (λ e. let i : occurs j fr ≡ 0 = rw (eqb-true j k e) (o.free k ∙ rw (busy_vacant (t.slots k) was)) in rw e (omega arith))
       (λ e. rw e (omega (arith, o.free j))))) (k ∷ (place z t k x).free)
 
   pub vacate_all_sound : (ks : List ℕ) (t : Table) (fr : List ℕ) → Sound z t fr → ((j : ℕ) → occurs j ks ≤ 1)
@@ -298,7 +298,7 @@ module _ (z : Sizes) (sane : Sane z) where
             let v : occurs k fr ≡ 0 = o.free k ∙ rw (absent_out z t fr o k (rw i r.out)) in rw e (omega arith))
             (λ e. rw e (omega (arith, o.free k))));
         empty = λ q. bool (eqb q p)
-            (λ e. let i : occurs p t.empty ≡ 0 = o.empty p ∙ rw r.out in
+            (λ e. let i : occurs q t.empty ≡ 0 = rw (eqb-true q p e) (o.empty p ∙ rw r.out) in
             rw (e, eqb-true q p e, busy_none z sane (λ k. pick (on_page z p k) (vacant g) (t.slots k)) p (λ j y. rw y)) (omega arith))
             (λ e. let y : q ≡ p → ⊥ = eqb-false q p e in
             rw (e, busy_other z sane (λ k. pick (on_page z p k) (vacant g) (t.slots k)) t.slots q (λ j i l. rw (i, e)))
@@ -334,7 +334,7 @@ module _ (z : Sizes) (sane : Sane z) where
             (λ e. rw e)
             (λ e. rw (e, busy_other z sane (λ k. pick (on_page z p k) absent (t.slots k)) t.slots q (λ j i l. rw (i, e))) (o.empty q));
         detached = λ q. bool (eqb q p)
-            (λ e. let i : occurs p t.detached ≡ 0 = o.detached p ∙ rw (att, and-false (ltb p t.size)) in
+            (λ e. let i : occurs q t.detached ≡ 0 = rw (eqb-true q p e) (o.detached p ∙ rw (att, and-false (ltb p t.size))) in
             rw (e, eqb-true q p e, lt-ltb p t.size under) (omega arith))
             (λ e. rw e (omega (arith, o.detached q)));
         generations = λ k h. bool (on_page z p k)
