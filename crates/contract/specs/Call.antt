@@ -62,7 +62,7 @@ small_take n ws l h i = bool (ltb i n)
 module _ (one : One) (steps : Steps one) (well : List ℕ → Shape → Bool)
     (sound : (ws : List ℕ) (sh : Shape) → Shaped ws sh → Small ws → well ws sh ≡ true → (s : State) × Rep ws sh s)
     (complete : (ws : List ℕ) (sh : Shape) (s : State) → Rep ws sh s → well ws sh ≡ true) where
-  -- on the words of a well_formed_law state
+  -- on the words of a well-formed state
   module _ (ws list os : List ℕ) (sh : Shape) (s : State) (r : Rep ws sh s) where
     -- what a call gives is what the model says
     record Right (x : Called) (o : Outcome) : Type 0 where
@@ -170,7 +170,7 @@ module _ (one : One) (steps : Steps one) (well : List ℕ → Shape → Bool)
       unchecked : (sh : Shape) → shape_of ws ≡ found sh → well (take (total sh) ws) sh ≡ false → run_w one well ws list os ≡ called 18 ws os
       unchecked sh e b = let w : take (total sh) ws ++ drop (total sh) ws ≡ ws = take-append-drop (total sh) ws in rw (e, b, w)
 
-      -- no well_formed_law state: 18
+      -- no well-formed state: 18
       outside : (x : ShapeRead) → shape_of ws ≡ x → ((sh : Shape) (s : State) → Rep ws sh s → ⊥) → (run_w one well ws list os).result ≡ 18
       outside (found sh) e h = bool (well (take (total sh) ws) sh)
           (λ b. let i = found_rep sh e b in absurd (h sh i.0 i.1))

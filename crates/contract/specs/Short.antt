@@ -54,7 +54,7 @@ scan_short z fits s b c =
     let w : Walk = walk t.slots start (min z.scan_slots (length_of z t - start)) z.scan_entries in
     omega (arith, entry_words_law (map (snapshot_at s t) w.found), map_length (snapshot_at s t) w.found, walk_most t.slots start (min z.scan_slots (length_of z t - start)) z.scan_entries)
 
--- of a well_formed_law state, whose plans are of at most 64 slots
+-- of a well-formed state, whose plans are of at most 64 slots
 module _ (z : Sizes) (fits : z.scan_entries ≤ till.scan_entries) (s : State) (w : WellFormed z s) where
   pub decide_short : (r : Request) → Decided Any Any (λ u a. Short a) (decide z s r)
   unfolding decide new_object_of duplicate_of release_parcel_of retire_object_of reserve_of trim_of abort_of publish_of get_info_of resolve_of replace_of close_of scan_handles_of prepare_transfer_of prepare_consumption_of rollback_of commit_of direct_commit_of direct_rollback_of remove_stopping_owner_of teardown_start_of teardown_step_of teardown_finish_of take_empty_page_of make_plan_of use_plan_of drop_plan_of used_words

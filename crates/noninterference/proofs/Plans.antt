@@ -21,7 +21,7 @@ use Rattle.model.specs.Step.{prepare_transfer_of, prepare_consumption_of, rollba
 use Rattle.model.specs.WellFormed.{WellFormed, Equal}
 use Rattle.model.proofs.Tests.{apart, bool, clash}
 use Rattle.invariant.proofs.BookLemmas.{find_drop_same, find_drop_other, find_swap_same, drop_swap}
-use Rattle.invariant.proofs.Pages.{Sane}
+use Rattle.invariant.specs.Pages.{Sane}
 use Rattle.invariant.proofs.Kept.{kept as always_kept}
 use Rattle.noninterference.specs.Names.{value_of}
 use Rattle.noninterference.specs.Runs.{is_move, permitted, wanting, lowered, lower_request, lower_row}
