@@ -6,8 +6,8 @@ use mathlib.Core.Path.{◌≡◌, refl}
 use native.Mathlib.Omega.{arith}
 use Rattle.request.proofs.clear_part.Given as goal
 
-abbrev pub invariant-loop : goal.invariant-loop
-invariant-loop l = (l.k ≤ 72) × (length l.out ≡ length l.initial.out) × (l.out ≡ cleared l.initial.out l.base l.k)
+abbrev pub invariant-loop-k : goal.invariant-loop-k
+invariant-loop-k l = (l.k ≤ 72) × (length l.out ≡ length l.initial.out) × (l.out ≡ cleared l.initial.out l.base l.k)
 
-abbrev pub decreases-loop : goal.decreases-loop
-decreases-loop l = 72 - l.k
+abbrev pub decreases-loop-k : goal.decreases-loop-k
+decreases-loop-k l = 72 - l.k

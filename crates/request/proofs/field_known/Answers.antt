@@ -3,7 +3,7 @@ use borrow.Author.Rules.{rules}
 use Rattle.request.proofs.field_known.Goals as goal
 
 pub returns-in-Word : goal.returns-in-Word
-returns-in-Word c = known_found _ _ _ _ c.field_in.result _ c.field_in.ensures c.w-1.in-Word-own.w.1
+returns-in-Word c = known_found _ _ _ _ c.field_in.result _ c.field_in.ensures c.in-Word.is
 
 pub returns-in-Absent : goal.returns-in-Absent
-returns-in-Absent c = known_not_found _ _ _ _ c.field_in.result c.field_in.ensures c.enum_told-1.in-Absent-own.given.1
+returns-in-Absent c = known_not_found _ _ _ _ c.field_in.result c.field_in.ensures c.in-Absent.is

@@ -3,10 +3,10 @@ use borrow.Author.Rules.{rules}
 use Rattle.request.proofs.fits_too.Goals as goal
 
 pub returns-then-fits : goal.returns-then-fits
-returns-then-fits c = fit_word _ _ _ _ _ _ c.field_in.ensures c.w-1.in-Word-own.w.1 c.fits.ensures c.if-fits.true
+returns-then-fits c = fit_word _ _ _ _ _ _ c.field_in.ensures c.in-Word.is c.fits.ensures c.if-fits.true
 
 pub returns-else-fits : goal.returns-else-fits
-returns-else-fits c = unfit_word _ _ _ _ _ _ c.field_in.ensures c.w-1.in-Word-own.w.1 c.fits.ensures c.if-fits.false
+returns-else-fits c = unfit_word _ _ _ _ _ _ c.field_in.ensures c.in-Word.is c.fits.ensures c.if-fits.false
 
 pub returns-in-Absent : goal.returns-in-Absent
-returns-in-Absent c = fit_absent _ _ _ _ c.field_in.ensures c.enum_told-1.in-Absent-own.given.1
+returns-in-Absent c = fit_absent _ _ _ _ c.field_in.ensures c.in-Absent.is

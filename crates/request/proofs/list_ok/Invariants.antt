@@ -5,8 +5,8 @@ use lib.ListN.{length}
 use native.Mathlib.Omega.{arith}
 use Rattle.request.proofs.list_ok.Given as goal
 
-abbrev pub invariant-loop : goal.invariant-loop
-invariant-loop l = (l.place ≤ length l.rq) × (l.count ≤ l.place) × Counting l.rq l.place l.count
+abbrev pub invariant-loop-place : goal.invariant-loop-place
+invariant-loop-place l = (l.place ≤ length l.rq) × (l.count ≤ l.place) × Counting l.rq l.place l.count
 
-abbrev pub decreases-loop : goal.decreases-loop
-decreases-loop l = length l.rq - l.place
+abbrev pub decreases-loop-place : goal.decreases-loop-place
+decreases-loop-place l = length l.rq - l.place

@@ -3,8 +3,8 @@ use borrow.Author.Rules.{rules}
 use native.Mathlib.Omega.{arith}
 use Rattle.request.proofs.records_end.Given as goal
 
-abbrev pub invariant-loop : goal.invariant-loop
-invariant-loop l = Skipped l.rq l.at l.count l.place l.left
+abbrev pub invariant-loop-left : goal.invariant-loop-left
+invariant-loop-left l = Skipped l.rq l.at l.count l.place l.left
 
-abbrev pub decreases-loop : goal.decreases-loop
-decreases-loop l = l.left
+abbrev pub decreases-loop-left : goal.decreases-loop-left
+decreases-loop-left l = l.left

@@ -3,8 +3,17 @@ use borrow.Author.Rules.{rules}
 use native.Mathlib.Omega.{arith}
 use Rattle.request.proofs.records_ok.Goals as goal
 
+pub loop-more-init : goal.loop-more-init
+loop-more-init c = many_first _ _ _ _ _ _
+
 pub returns-in_default : goal.returns-in_default
-returns-in_default c = many_bad _ _ _ _ _ _ _ _ c.loop-more.invariant c.loop-more-test.true (bad_is c.record_ok.result _ c.record_ok.ensures c.enum_told-1.in_default-own.given.1)
+returns-in_default c = many_bad _ _ _ _ _ _ _ _ c.loop-more.invariant c.loop-more-test.true (bad_is c.record_ok.result _ c.record_ok.ensures c.in_default.is)
+
+pub loop-more-smaller : goal.loop-more-smaller
+loop-more-smaller c = omega arith
+
+pub loop-more-preserved : goal.loop-more-preserved
+loop-more-preserved c = many_turn _ _ _ _ _ _ _ _ _ c.loop-more.invariant c.loop-more-test.true (at_is c.record_ok.result _ _ c.record_ok.ensures c.in-At.is)
 
 pub returns : goal.returns
 returns c = many_end_law _ _ _ _ _ _ _ _ c.loop-more.invariant c.loop-more-test.false

@@ -3,8 +3,8 @@ use borrow.Author.Rules.{rules}
 use native.Mathlib.Omega.{arith}
 use Rattle.request.proofs.records_ok.Given as goal
 
-abbrev pub invariant-loop : goal.invariant-loop
-invariant-loop l = Many l.first l.must l.allowed l.rq l.at l.count l.place l.left
+abbrev pub invariant-loop-more : goal.invariant-loop-more
+invariant-loop-more l = Many l.first l.must l.allowed l.rq l.at l.count l.place l.more
 
-abbrev pub decreases-loop : goal.decreases-loop
-decreases-loop l = l.left
+abbrev pub decreases-loop-more : goal.decreases-loop-more
+decreases-loop-more l = l.more

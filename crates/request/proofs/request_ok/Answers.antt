@@ -7,7 +7,7 @@ pub overflow_add-must : goal.overflow_add-must
 overflow_add-must c = omega (arith, maps_fit c.field-op.result c.must-must.result c.may-may.result c.must-must.ensures c.may-may.ensures)
 
 pub returns-in_default : goal.returns-in_default
-returns-in_default c = request_bad _ _ _ _ _ c.field-op.ensures c.must-must.ensures c.may-may.ensures (bad_is c.record_ok.result _ c.record_ok.ensures c.enum_told-1.in_default-own.given.1)
+returns-in_default c = request_bad _ _ _ _ _ c.field-op.ensures c.must-must.ensures c.may-may.ensures (bad_is c.record_ok.result _ c.record_ok.ensures c.in_default.is)
 
 pub returns : goal.returns
-returns c = request_go _ _ _ _ _ c.field-op.ensures c.must-must.ensures c.may-may.ensures _ _ _ (at_is c.record_ok.result _ _ c.record_ok.ensures c.end-1.in-At-own.end.1) c.field-count.ensures c.items_ok.ensures
+returns c = request_go _ _ _ _ _ c.field-op.ensures c.must-must.ensures c.may-may.ensures _ _ _ (at_is c.record_ok.result _ _ c.record_ok.ensures c.in-At.is) c.field-count.ensures c.items_ok.ensures
