@@ -1,9 +1,8 @@
 -- An answer has at most 72 words, for any page size and any scan of at most 8 entries. Assumes nothing.
-use Rattle.std.specs.Prelude.{◌≡◌, refl, true, not, ℕ, zero, suc, ◌-◌, ◌≤◌, min, length, take, eqb, ltb}
-use Rattle.std.proofs.Common.{ap, ltb-false}
+use Rattle.std.specs.Prelude.{◌≡◌, refl, not, ℕ, zero, suc, ◌-◌, ◌≤◌, min, length, take, eqb, ltb}
+use Rattle.std.proofs.Common.{ap}
 use mathlib.Core.List.{List, [], ◌∷◌, map}
 use native.Mathlib.Omega.{arith}
-use Rattle.std.proofs.lemmas.Bool.{not-true}
 use Rattle.words.specs.Pick.{bool}
 use Rattle.authority.specs.Rights.{contains, duplicate_right}
 use Rattle.model.specs.Base.{at_most, is_some}
@@ -23,7 +22,6 @@ use Rattle.model.specs.WellFormed.{WellFormed}
 use Rattle.model.proofs.Tests.{at_most_law}
 use Rattle.invariant.proofs.BookLemmas.{found_range}
 use Rattle.contract.specs.Run.{Short}
-use Rattle.layout.specs.Sizes.{batch_max}
 
 take_most {ℓ} : {A : Type ℓ} (n : ℕ) (xs : List A) → length (take n xs) ≤ n
 take_most zero xs = omega arith
