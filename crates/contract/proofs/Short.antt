@@ -1,9 +1,8 @@
 -- An answer has at most 72 words, for any page size and any scan of at most 8 entries. Assumes nothing.
-use Rattle.std.specs.Prelude.{◌≡◌, refl, true, not, ℕ, zero, suc, ◌-◌, ◌≤◌, min, length, take, eqb, ltb}
-use Rattle.std.proofs.Common.{ap, ltb-false}
+use Rattle.std.specs.Prelude.{◌≡◌, refl, not, ℕ, zero, suc, ◌-◌, ◌≤◌, min, length, take, eqb, ltb}
+use Rattle.std.proofs.Common.{ap}
 use mathlib.Core.List.{List, [], ◌∷◌, map}
 use native.Mathlib.Omega.{arith}
-use Rattle.std.proofs.lemmas.Bool.{not-true}
 use Rattle.words.specs.Pick.{bool}
 use Rattle.authority.specs.Rights.{contains, duplicate_right}
 use Rattle.model.specs.Base.{at_most, is_some}
@@ -23,7 +22,6 @@ use Rattle.model.specs.WellFormed.{WellFormed}
 use Rattle.model.proofs.Tests.{at_most_law}
 use Rattle.invariant.proofs.BookLemmas.{found_range}
 use Rattle.contract.specs.Run.{Short}
-use Rattle.layout.specs.Sizes.{batch_max}
 
 take_most {ℓ} : {A : Type ℓ} (n : ℕ) (xs : List A) → length (take n xs) ≤ n
 take_most zero xs = omega arith
@@ -54,7 +52,7 @@ scan_short z fits s b c =
     let w : Walk = walk t.slots start (min z.scan_slots (length_of z t - start)) z.scan_entries in
     omega (arith, entry_words_law (map (snapshot_at s t) w.found), map_length (snapshot_at s t) w.found, walk_most t.slots start (min z.scan_slots (length_of z t - start)) z.scan_entries)
 
--- of a well_formed_law state, whose plans are of at most 64 slots
+-- of a well-formed state, whose plans are of at most 64 slots
 module _ (z : Sizes) (fits : z.scan_entries ≤ till.scan_entries) (s : State) (w : WellFormed z s) where
   pub decide_short : (r : Request) → Decided Any Any (λ u a. Short a) (decide z s r)
   unfolding decide new_object_of duplicate_of release_parcel_of retire_object_of reserve_of trim_of abort_of publish_of get_info_of resolve_of replace_of close_of scan_handles_of prepare_transfer_of prepare_consumption_of rollback_of commit_of direct_commit_of direct_rollback_of remove_stopping_owner_of teardown_start_of teardown_step_of teardown_finish_of take_empty_page_of make_plan_of use_plan_of drop_plan_of used_words
