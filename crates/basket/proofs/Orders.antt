@@ -1,7 +1,8 @@
 -- Swapping neighbours reaches every order: if each price stands equally often in two baskets, the one is the other reordered. Assumes nothing.
 use Rattle.std.specs.Prelude.{◌≡◌, refl, Bool, true, false, List, [], ◌∷◌, ◌++◌, ℕ, ◌+◌, ◌<◌, eqb}
-use Rattle.std.proofs.Common.{sym, ap, subst, ◌∙◌, arith, eqb-true, eq-eqb}
-use Rattle.basket.specs.Basket.{total, Reordered, Reordered.same, Reordered.swap, order_never_alters}
+use Rattle.std.proofs.Common.{sym, ap, subst, arith, eqb-true, eq-eqb}
+use Rattle.basket.specs.Basket.{total, Reordered, Reordered.same, Reordered.swap}
+use Rattle.basket.proofs.Laws.{order_never_alters}
 
 -- how often a price stands in a basket
 abbrev pub one : Bool → ℕ
