@@ -20,10 +20,11 @@ use Rattle.model.proofs.Lists.{words_length, run_length}
 use Rattle.noninterference.specs.Names.{value_of}
 use Rattle.noninterference.specs.Runs.{accepted, lowered, lower_request, lower_answer, lower_table, lower_state}
 use Rattle.noninterference.specs.Theorem.{Agree}
-use Rattle.noninterference.proofs.Plans.{PlansStand, PlansAgree}
-use Rattle.promises.specs.Answers.{number_0, zero_accepts, prepare_answers}
-use Rattle.promises.specs.Lower.{Ending, Ending.rolled_back, Ending.committed, last_h, last_p, lower_answers, answers_lowered}
-use Rattle.promises.specs.Calls.{run_both, all_words_both, run_words}
+use Rattle.noninterference.specs.Plans.{PlansStand, PlansAgree}
+use Rattle.promises.proofs.Answers.{number_0, zero_accepts, prepare_answers}
+use Rattle.promises.specs.Lower.{Ending, Ending.rolled_back, Ending.committed, last_h, last_p, lower_answers}
+use Rattle.promises.proofs.Lower.{answers_lowered}
+use Rattle.promises.proofs.Calls.{run_both, all_words_both, run_words}
 
 opened_id : (i : ℕ) → get_or (words_of (opened i)) 1 0 ≡ i
 unfolding words_of used_words

@@ -10,9 +10,9 @@ use Rattle.model.specs.Words.{read_list}
 use Rattle.noninterference.specs.Runs.{permitted, wanting}
 use Rattle.promises.specs.Lower.{lower_words, Ending, end_h, end_p}
 use Rattle.promises.specs.Terms.{Call, Calls, list_of, Together}
-use Rattle.promises.specs.Demand2.{demand_2_lists, demand_2_calls}
+use Rattle.promises.proofs.Demand2.{demand_2_lists, demand_2_calls}
 use Rattle.promises.specs.Demand3.{TwoRuns}
-use Rattle.promises.specs.Shop.{ran, sh, shop, Begun, rep_shop, v61, v63, prepare_words, items, transfer, reads_prepare}
+use Rattle.promises.proofs.Shop.{ran, sh, shop, Begun, rep_shop, v61, v63, prepare_words, items, transfer, reads_prepare}
 
 -- two shops begun, in other memories and by other cuts; H moves two handles out, runs the list rs, whose words are `words`, and ends the transfer with r; P runs the
 -- list, in calls cut anywhere

@@ -12,7 +12,7 @@ use Rattle.layout.specs.declared.Shape.{Shape}
 use Rattle.representation.specs.Represents.{Rep}
 use Rattle.contract.specs.Meets.{Called, Meets}
 use Rattle.promises.specs.Terms.{Call, requests_in, Calls, list_of, requests_of, answers_of, Together}
-use Rattle.promises.specs.Lower.{no_words, reads_both}
+use Rattle.promises.proofs.Lower.{no_words, reads_both}
 
 -- ---- one call
 

@@ -25,12 +25,15 @@ use Rattle.representation.specs.Unique.{shape_for, rep_unique}
 use Rattle.written.specs.Words.{table_at, page_at, owner_of, word_at}
 use Rattle.written.proofs.Whole.{written, has_words}
 use Rattle.noninterference.specs.Runs.{lower_state}
-use Rattle.promises.specs.Lower.{Ending.rolled_back, rollback_words, reads_rollback}
+use Rattle.promises.specs.Lower.{Ending.rolled_back, rollback_words}
+use Rattle.promises.proofs.Lower.{reads_rollback}
 use Rattle.promises.specs.Terms.{Call, Calls, left, list_of, Together}
-use Rattle.promises.specs.Demand2.{demand_2_lists, demand_2_calls}
-use Rattle.promises.specs.Demand3.{TwoRuns, Same, demand_3}
-use Rattle.promises.specs.Shop.{ran, read_by}
-use Rattle.reach.specs.Every.{Starts, any_two}
+use Rattle.promises.proofs.Demand2.{demand_2_lists, demand_2_calls}
+use Rattle.promises.specs.Demand3.{TwoRuns, Same}
+use Rattle.promises.proofs.Demand3.{demand_3}
+use Rattle.promises.proofs.Shop.{ran, read_by}
+use Rattle.reach.specs.Every.{Starts}
+use Rattle.reach.proofs.Every.{any_two}
 
 -- three tables of two, one and two pages, three objects, three frames, five rows
 abbrev parameters : Parameters

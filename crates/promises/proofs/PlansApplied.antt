@@ -1,10 +1,10 @@
 -- That the promises on plans say something: each is put to use on the shop, and on its words. Assumes nothing.
-use Rattle.std.specs.Prelude.{◌≡◌, Bool, true, false, ℕ, ◌*◌, ◌≤◌, length, get_or, take, drop}
+use Rattle.std.specs.Prelude.{◌≡◌, true, false, ℕ, length, take, drop}
 use Rattle.std.proofs.Math.Path.{refl}
-use Rattle.std.proofs.Common.{sym, ap, subst, ◌∙◌, arith}
+use Rattle.std.proofs.Common.{sym, ap, ◌∙◌, arith}
 use mathlib.Core.List.{List, [], ◌∷◌, ◌++◌}
 use Rattle.std.proofs.Math.Option.{some}
-use Rattle.model.specs.State.{till, Slot, Slot.reserved, Table, Body.plan, StorageSnapshot, State, is_active, last_id}
+use Rattle.model.specs.State.{till, Slot.reserved, Table, Body.plan, StorageSnapshot, State, is_active, last_id}
 use Rattle.model.specs.Storage.{is_stale}
 use Rattle.model.specs.Request.{Request, Request.reserve, Request.make_plan, Request.use_plan, Request.drop_plan, Request.rollback, Request.commit, Answer.refused, Answer.done, Answer.batch}
 use Rattle.model.specs.Book.{find}
@@ -12,19 +12,19 @@ use Rattle.model.specs.Step.{step, run}
 use Rattle.model.specs.WellFormed.{WellFormed}
 use Rattle.model.specs.Words.{read_list, padded, all_words}
 use Rattle.model.proofs.Tests.{same_list_equal}
-use Rattle.representation.specs.Represents.{Rep}
 use Rattle.representation.specs.Unique.{rep_unique}
 use Rattle.invariant.proofs.Pages.{till_sane}
-use Rattle.noninterference.specs.Runs.{lowered, lower_state}
+use Rattle.noninterference.specs.Runs.{lowered}
 use Rattle.contract.specs.Meets.{Called, Meets}
-use Rattle.promises.specs.Lower.{Ending, Ending.rolled_back, Ending.committed, end_h, end_p, rollback_words, commit_words, closing_words, reads_rollback, reads_commit}
+use Rattle.promises.specs.Lower.{Ending, Ending.rolled_back, Ending.committed, end_h, end_p, rollback_words, commit_words, closing_words}
+use Rattle.promises.proofs.Lower.{reads_rollback, reads_commit}
 use Rattle.promises.specs.Terms.{Call, Calls, left, list_of}
-use Rattle.promises.specs.Demand2.{demand_2}
-use Rattle.promises.specs.Demand3.{TwoRuns, Same, demand_3}
-use Rattle.promises.specs.PlansLemmas.{frames_aside}
-use Rattle.promises.specs.Plans.{plan_serves, as_reserved, drop_accepted}
-use Rattle.promises.specs.ShopRuns.{held_leaves, runs_of}
-use Rattle.promises.specs.Shop.{ran, read_by, sh, shop, Begun, rep_shop, v61, v63, prepare_words, transfer}
+use Rattle.promises.proofs.Demand2.{demand_2}
+use Rattle.promises.specs.Demand3.{TwoRuns, Same}
+use Rattle.promises.proofs.Demand3.{demand_3}
+use Rattle.promises.proofs.Plans.{plan_serves, as_reserved, drop_accepted}
+use Rattle.promises.proofs.ShopRuns.{held_leaves, runs_of}
+use Rattle.promises.proofs.Shop.{ran, read_by, sh, shop, Begun, rep_shop, v61, v63, prepare_words, transfer}
 
 -- ---- on the definitions
 

@@ -19,8 +19,9 @@ use Rattle.answer.specs.Does.{id_spent}
 use Rattle.create.specs.Meets.{Asked, Meets as Creates}
 use Rattle.contract.specs.Meets.{Called, Passes, Meets}
 use Rattle.promises.specs.Terms.{Keeps, Each}
-use Rattle.promises.specs.Answers.{refused_words, number_0, is_number, in_range}
-use Rattle.promises.specs.Calls.{went, not_short}
+use Rattle.promises.specs.Answers.{is_number}
+use Rattle.promises.proofs.Answers.{refused_words, number_0, in_range}
+use Rattle.promises.proofs.Calls.{went, not_short}
 
 -- ---- a request in a list
 

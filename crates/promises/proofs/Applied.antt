@@ -1,7 +1,7 @@
 -- That the promises say something: each is put to use on the shop's words, every field of its conclusion. Assumes nothing.
 use Rattle.std.specs.Prelude.{◌≡◌, Bool, true, false, not, ◌||◌, length, get_or, replicate, eqb, ltb}
 use Rattle.std.proofs.Math.Path.{refl, ap, subst}
-use Rattle.std.proofs.Common.{sym, ◌∙◌, arith, zero-add, suc-add, get_or-take, ne_eqb, eqb-true}
+use Rattle.std.proofs.Common.{sym, ◌∙◌, arith, zero-add, suc-add, ne_eqb, eqb-true}
 use mathlib.Core.List.{List, [], ◌∷◌, ◌++◌, map}
 use Rattle.std.proofs.Math.Option.{Option, none, some}
 use Prim.Native.Nat.{ℕ, zero, suc, ◌+◌, ◌*◌, ◌≤◌, ◌<◌}
@@ -30,17 +30,21 @@ use Rattle.create.specs.Parameters.{parameters_of, tables_in}
 use Rattle.create.specs.Meets.{Meets as Creates}
 use Rattle.noninterference.specs.Runs.{accepted, lowered, with_slots, lower_table, lower_state}
 use Rattle.contract.specs.Meets.{Called, Meets}
-use Rattle.promises.specs.Lower.{Ending, Ending.rolled_back, Ending.committed, end_h, end_p, lower_answers, rollback_words, commit_words, closing_words, reads_rollback, reads_commit}
+use Rattle.promises.specs.Lower.{Ending, Ending.rolled_back, Ending.committed, end_h, end_p, lower_answers, rollback_words, commit_words, closing_words}
+use Rattle.promises.proofs.Lower.{reads_rollback, reads_commit}
 use Rattle.promises.specs.Terms.{Call, Calls, left, list_of, answers_of, Passed, Together, Each}
-use Rattle.promises.specs.Calls.{read_once}
-use Rattle.promises.specs.Held.{list_then}
-use Rattle.promises.specs.Demand1.{demand_1, demand_1_creation}
-use Rattle.promises.specs.Demand2.{demand_2, demand_2_lists, demand_2_calls, demand_2_cut, demand_2_creation}
-use Rattle.promises.specs.Demand3.{TwoRuns, Same, demand_3}
-use Rattle.promises.specs.Transfers.{SameOrders, transfer_keeps_orders, consumption_keeps_orders, rollback_keeps_orders, transfer_is_closing, consumption_is_closing}
-use Rattle.promises.specs.Batches.{lacking, NewPages, pages_of_64}
-use Rattle.promises.specs.ShopRuns.{held_leaves, runs_of}
-use Rattle.promises.specs.Shop.{ran, read_by, parameters, sh, new, shape_new, asked, opening_words, opening, reads_opening, shop, Begun, rep_new, rep_shop, v63, v62, v61, prepare_words, items, transfer, reads_prepare, list_words, plain_words, wrong, list, reads_list, refused_words, reads_refused, held_answers, plain_answers, held_answers_law}
+use Rattle.promises.proofs.Calls.{read_once}
+use Rattle.promises.proofs.Held.{list_then}
+use Rattle.promises.proofs.Demand1.{demand_1, demand_1_creation}
+use Rattle.promises.proofs.Demand2.{demand_2, demand_2_cut, demand_2_creation}
+use Rattle.promises.specs.Demand3.{TwoRuns, Same}
+use Rattle.promises.proofs.Demand3.{demand_3}
+use Rattle.promises.specs.Transfers.{SameOrders}
+use Rattle.promises.proofs.Transfers.{transfer_keeps_orders, consumption_keeps_orders, rollback_keeps_orders, transfer_is_closing, consumption_is_closing}
+use Rattle.promises.specs.Batches.{lacking, NewPages}
+use Rattle.promises.proofs.Batches.{pages_of_64}
+use Rattle.promises.proofs.ShopRuns.{held_leaves, runs_of}
+use Rattle.promises.proofs.Shop.{ran, read_by, parameters, sh, new, shape_new, asked, opening_words, opening, reads_opening, shop, Begun, rep_new, v63, v62, v61, prepare_words, items, transfer, reads_prepare, list_words, plain_words, wrong, list, reads_list, refused_words, reads_refused, held_answers, plain_answers, held_answers_law}
 
 -- word 5 of a state's words is the next id
 next_word : (ws : List ℕ) (s : State) → Rep ws sh s → get_or ws 5 0 ≡ s.book.next

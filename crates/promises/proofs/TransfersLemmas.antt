@@ -12,6 +12,7 @@ use borrow.Author.Tests.{eqb-true, ltb-true}
 use Rattle.authority.specs.Rights.{contains}
 use Rattle.codec.specs.Codec.{encode, slot_in, generation_in, slot_limit, generation_limit, next_generation}
 use Rattle.codec.proofs.Laws.{decodes_encoded, slot_encoded, generation_encoded, encode_decoded}
+use Rattle.promises.specs.Transfers.{moves_of}
 use Rattle.model.specs.Base.{pick, put, every, occurs, at_most}
 use Rattle.model.specs.State.{Sizes, Handle, Slot, Slot.vacant, Slot.transfer_reserved, Slot.occupied, Table, Entry, Entry.moved, Entry.copied}
 use Rattle.model.specs.State.{Body, Body.reservation, Body.claim, Row, State, generation, is_busy, is_absent, is_active, max_slots, max_batch}
@@ -263,11 +264,6 @@ module _ (z : Sizes) (s : State) (w : WellFormed z s) where
     rolled_others j c = rolled_slots j ∙ rw (given_out (moved_of es) (moved_handles es) j c)
 
 -- PREPARING
--- the values that a transfer moves, in its order
-abbrev pub moves_of : List Item → List ℕ
-moves_of [] = []
-moves_of (q ∷ qs) = pick (is_copy q.operation) (moves_of qs) (q.value ∷ moves_of qs)
-
 -- values that name handles are those of their slots
 module _ (s : State) (t : Table) where
   value_is : (v : ℕ) (h : Handle) → Names t v h → value_at t (slot_in t.mask v) ≡ v

@@ -1,12 +1,13 @@
 -- Tables with the numbers of frames left aside: growth in other frames, and the first free slots taken, give the same. Assumes nothing.
-use Rattle.std.specs.Prelude.{◌≡◌, Bool, true, false, List, [], ◌∷◌, map, ℕ, suc, ◌≤◌, ◌<◌, take, drop, eqb, ltb}
+use Rattle.std.specs.Prelude.{◌≡◌, true, false, List, [], ◌∷◌, map, ℕ, ◌≤◌, take, drop, eqb}
 use Rattle.std.proofs.Math.Path.{refl, ap, fun_ext}
 use Rattle.std.proofs.Common.{sym, ◌∙◌, arith}
 use Rattle.std.proofs.Math.Bool.{not}
-use Rattle.std.proofs.Math.Option.{Option, none, some}
+use Rattle.std.proofs.Math.Option.{some}
 use Rattle.std.proofs.Math.ListN.{length}
 use borrow.Author.Tests.{lt-ltb, le-ltb}
 use Rattle.words.specs.Pick.{bool, clash}
+use Rattle.promises.specs.Plans.{frames_aside, SameButFrames}
 use Rattle.model.specs.Base.{at_most}
 use Rattle.model.specs.State.{Sizes, Slot, Slot.reserved, Page, Table, Body.plan, StorageSnapshot, State, generation, is_active, max_batch}
 use Rattle.model.specs.Storage.{with_free, advance, page_of, place, keep, keep_all, take_free, attach, attach_all, grow, is_stale}
@@ -20,33 +21,6 @@ use Rattle.model.proofs.Refusals.{is_refused}
 use Rattle.model.specs.Step.{reserve_in, reserve_of, use_plan_of, decide, carry, step}
 use Rattle.model.specs.WellFormed.{PlanRange}
 use Rattle.invariant.proofs.Snapshots.{fresh_is}
-
--- a page is attached or not, whatever its frame's number
-abbrev pub hidden : Option ℕ → Option ℕ
-hidden none = none
-hidden (some f) = some 0
-
-abbrev pub page_aside : Page → Page
-page_aside p = record { frame = hidden p.frame; high = p.high }
-
--- a table with the numbers of its frames left aside
-abbrev pub frames_aside : Table → Table
-frames_aside t = record {
-  limit = t.limit;
-  mask = t.mask;
-  life = t.life;
-  epoch = t.epoch;
-  size = t.size;
-  pages = λ p. page_aside (t.pages p);
-  slots = t.slots;
-  free = t.free;
-  empty = t.empty;
-  detached = t.detached;
-}
-
--- two tables are the same but for the numbers of frames
-abbrev pub SameButFrames : Table → Table → Type 0
-SameButFrames t u = frames_aside t ≡ frames_aside u
 
 abbrev with_pages : Table → (ℕ → Page) → Table
 with_pages t f = record { limit = t.limit; mask = t.mask; life = t.life; epoch = t.epoch; size = t.size; pages = f; slots = t.slots; free = t.free; empty = t.empty; detached = t.detached }

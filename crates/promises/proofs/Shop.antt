@@ -22,7 +22,7 @@ use Rattle.create.specs.Parameters.{tables_in, objects_in, parameters_of}
 use Rattle.create.specs.Creation.{create_w}
 use Rattle.create.specs.Meets.{Asked, Meets as Creates, create_meets}
 use Rattle.promises.specs.Terms.{Call, Calls, left, list_of}
-use Rattle.promises.specs.Demand2.{demand_2_calls, demand_2_creation}
+use Rattle.promises.proofs.Demand2.{demand_2_calls, demand_2_creation}
 
 -- ---- computing
 
