@@ -14,7 +14,7 @@ from pathlib import Path
 
 root = Path(__file__).resolve().parent.parent
 PAGE = root / "docs" / "reading.md"
-SIGNS = ["--", "ℕ", "→", "∷", "[]", "≡", "refl", "omega", "++", "ap", "{ }", "∙", "ensures", "λ", "⌜", "now", ".entry", "Bool", "eqb", "ltb", "pick", "data", "record", "Type 0", "unless", "bit", "map", ".0", ".1", "pub", "abbrev", "unfoldable"]
+SIGNS = ["--", "ℕ", "→", "∷", "[]", "≡", "refl", "omega", "++", "ap", "◌", "{ }", "∙", "ensures", "result", ".now", ".old", ".new", "λ", "Bool", "eqb", "ltb", "pick", "data", "record", "Type 0", "unless", "bit", "map", ".0", ".1", "pub", "abbrev", "unfoldable"]
 
 
 def held(lines, text):
