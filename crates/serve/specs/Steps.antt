@@ -22,8 +22,8 @@ use Rattle.parcel.specs.Opened.{retire_object_does, new_object_does, duplicate_d
 use Rattle.parcel.specs.Released.{release_parcel_does}
 use Rattle.parcel.specs.Publishing.{ids_at}
 use Rattle.parcel.specs.Published.{publish_does}
-use Rattle.transfer.specs.Prepared.{transfer_at_does}
-use Rattle.transfer.specs.Consumption.{prepare_consumption_does}
+use Rattle.transfer.proofs.Prepared.{transfer_at_does}
+use Rattle.transfer.proofs.Consumption.{prepare_consumption_does}
 use Rattle.claim.proofs.Ends.{abort_does, trim_does}
 use Rattle.claim.proofs.RolledBack.{rollback_does}
 use Rattle.claim.proofs.Committed.{commit_does}
