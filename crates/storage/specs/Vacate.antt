@@ -1,7 +1,7 @@
 -- A table whose busy slot falls vacant, as it is seen, is the model's. Assumes nothing.
 use Rattle.std.specs.Prelude.{◌≡◌, true, false, ◌∷◌, length, eqb, ltb}
 use Rattle.std.proofs.Math.Path.{refl, sym, ap}
-use Rattle.std.proofs.Common.{◌∙◌, arith}
+use Rattle.std.proofs.Common.{subst, ◌∙◌, arith}
 use Prim.Native.Nat.{ℕ, suc, ◌+◌, ◌-◌, ◌/◌, ◌≤◌, ◌<◌, min}
 use borrow.Author.Tests.{eqb-true, eqb-false, eq-eqb, ne_eqb}
 use Rattle.words.specs.Pick.{bool, clash}
@@ -75,11 +75,11 @@ module _ (m : Mem) (v : Spot → ℕ) (t : Table) (z : Seen m v t) (o : Sound ti
     publish_free =
         let link : min (k + 1) 0xffff_ffff_ffff_ffff ≡ suc k = omega (arith, below_of till t t.free o k here, slots_max_law) in
         let out : occurs k t.free ≡ 0 = o.free k ∙ ap bit full in
-        rw link (chain_push (λ j. v (sl j slot_next_free)) (λ j. v (sl j slot_previous_free)) _ _ (v (hd head_first_free)) k t.free (record {
+        subst (λ (h : ℕ). Chain (λ j. publish_v v k g (sl j slot_next_free)) (λ j. publish_v v k g (sl j slot_previous_free)) h 0 (k ∷ t.free)) (sym link) (chain_push (λ j. v (sl j slot_next_free)) (λ j. v (sl j slot_previous_free)) (λ j. publish_v v k g (sl j slot_next_free)) (λ j. publish_v v k g (sl j slot_previous_free)) (v (hd head_first_free)) k t.free (record {
           next_at = rw (eq-eqb (suc k) (suc k) refl);
           next_off = λ j n. rw (ne_eqb (suc k) (suc j) (λ y. n (omega arith)));
           prev_at = rw (eq-eqb (suc k) (suc k) refl);
-          prev_head = λ j n q. rw (ne_eqb (suc k) (suc j) (λ y. n (omega arith)), eq-eqb (v (hd head_first_free)) (suc j) q);
+          prev_head = λ j n q. rw (ne_eqb (suc k) (suc j) (λ y. n (omega arith)), eq-eqb (v (hd head_first_free)) (suc j) q) link;
           prev_off = λ j n q. rw (ne_eqb (suc k) (suc j) (λ y. n (omega arith)), ne_eqb (v (hd head_first_free)) (suc j) q);
         }) z.free out)
 
@@ -199,13 +199,14 @@ module _ (m : Mem) (v : Spot → ℕ) (t : Table) (z : Seen m v t) (o : Sound ti
     free = publish_free m v t z o k (next_generation (v (sl k slot_generation))) here (busy_vacant (t.slots k) was);
     free_count = publish_count m v t z o k (next_generation (v (sl k slot_generation))) here (busy_vacant (t.slots k) was);
     empty = let link : min (k / page_size + 1) 0xffff_ffff_ffff_ffff ≡ suc (k / page_size) = omega (arith, below_of till t t.free o k here, slots_max_law) in
-        rw (was, ← left, n, link) (chain_push (λ p. v (pg p entry_next)) (λ p. v (pg p entry_previous)) _ _ (v (hd head_first_empty)) (k / page_size) t.empty (record {
+        rw (was, ← left, n) (subst (λ (h : ℕ). Chain (λ p. join_v w₂ (k / page_size) (pg p entry_next)) (λ p. join_v w₂ (k / page_size) (pg p entry_previous)) h 0 (k / page_size ∷ t.empty)) (sym link)
+        (chain_push (λ p. v (pg p entry_next)) (λ p. v (pg p entry_previous)) (λ p. join_v w₂ (k / page_size) (pg p entry_next)) (λ p. join_v w₂ (k / page_size) (pg p entry_previous)) (v (hd head_first_empty)) (k / page_size) t.empty (record {
           next_at = rw (eq-eqb (suc (k / page_size)) (suc (k / page_size)) refl);
           next_off = λ j h. rw (ne_eqb (suc (k / page_size)) (suc j) (λ y. h (omega arith)));
           prev_at = rw (eq-eqb (suc (k / page_size)) (suc (k / page_size)) refl);
-          prev_head = λ j h q. rw (ne_eqb (suc (k / page_size)) (suc j) (λ y. h (omega arith)), eq-eqb (v (hd head_first_empty)) (suc j) q);
+          prev_head = λ j h q. rw (ne_eqb (suc (k / page_size)) (suc j) (λ y. h (omega arith)), eq-eqb (v (hd head_first_empty)) (suc j) q) link;
           prev_off = λ j h q. rw (ne_eqb (suc (k / page_size)) (suc j) (λ y. h (omega arith)), ne_eqb (v (hd head_first_empty)) (suc j) q);
-        }) z.empty not_empty);
+        }) z.empty not_empty));
     detached = linked_frame (λ p. v (pg p entry_next)) _ (v (hd head_first_detached)) t.detached z.detached
         (λ q h. rw (ne_eqb (suc (k / page_size)) (suc q) (λ y. not_detached q h (omega arith))));
   }

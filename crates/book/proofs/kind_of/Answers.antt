@@ -1,0 +1,10 @@
+use Rattle.layout.specs.Layout.{load}
+use Rattle.book.specs.Code.{kind_yes, kind_no}
+use borrow.Author.Rules.{rules}
+use Rattle.book.proofs.kind_of.Goals as goal
+
+pub returns-then-eq : goal.returns-then-eq
+returns-then-eq c = kind_yes c.args.what (load c.args.s.now c.args.sh) c.args.sh c.args.id.0 _ _ _ _ c.row_of-link.ensures c.dec.ensures c.row_word.ensures c.eq.ensures c.if-eq.true
+
+pub returns : goal.returns
+returns c = kind_no c.args.what (load c.args.s.now c.args.sh) c.args.sh c.args.id.0 _ _ _ _ c.row_of-link.ensures c.dec.ensures c.row_word.ensures c.eq.ensures c.if-eq.false

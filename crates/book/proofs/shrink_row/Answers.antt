@@ -1,0 +1,7 @@
+use Rattle.book.specs.Ops.{shrink_w}
+use borrow.Author.Rules.{rules}
+use Rattle.book.proofs.shrink_row.Goals as goal
+
+pub returns : goal.returns
+unfolding shrink_w
+returns c = record { words = cc }

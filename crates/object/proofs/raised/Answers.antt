@@ -1,0 +1,4 @@
+use Rattle.object.proofs.raised.Goals as goal
+
+pub returns : goal.returns
+returns c = cc
