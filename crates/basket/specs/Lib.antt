@@ -1,2 +1,1 @@
 pub mod Basket
-pub mod Orders

@@ -32,7 +32,7 @@ Passes sh ws s (r ∷ rs) vs =
 
 -- `call till (some s)` is what the model says of a call on the state s
 pub record Meets (ws list os : List ℕ) (x : Called) : Type 0 where
-  -- the words represent the well_formed_law state s: the result and every answer word are the model's, and the words left represent the state that it leaves
+  -- the words represent the well-formed state s: the result and every answer word are the model's, and the words left represent the state that it leaves
   pub result : (sh : Shape) (s : State) → Rep ws sh s → x.result ≡ (call till (some s) list os).result
   pub answers : (sh : Shape) (s : State) → Rep ws sh s → x.answers ≡ (call till (some s) list os).answers
   pub state : (sh : Shape) (s u : State) → Rep ws sh s → (call till (some s) list os).state ≡ some u → Rep x.state sh u

@@ -10,7 +10,7 @@ use Rattle.model.proofs.Sums.{sum_equal, sum_zero}
 use Rattle.model.specs.WellFormed.{in_slot, held_by, handles_in, in_handles, in_rows, handle_count}
 use Rattle.model.proofs.Counting.{occurs_append, sum_append, sum_front, sum_cut}
 use Rattle.layout.specs.declared.Shape.{Shape}
-use Rattle.layout.specs.Layout.{Mem, root, head, entry, cell, object, index, row, item}
+use Rattle.layout.specs.Layout.{Mem, root, head, entry, cell, index, row, item}
 use Rattle.layout.specs.Fields.{root_used_rows, head_pages, head_first_entry, entry_frame, slot_tag, slot_generation, slot_object, slot_rights, slot_flags, row_kind, row_length, item_object}
 use Rattle.layout.specs.Sizes.{page_size, batch_max}
 use Rattle.layout.specs.Values.{tag_occupied}

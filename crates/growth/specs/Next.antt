@@ -1,7 +1,7 @@
 -- The pages that a table gets next: they are those of the model's plan, in the items of a row or compared with them. Assumes nothing.
 use Rattle.std.specs.Prelude.{◌≡◌, Bool, true, false, eqb}
 use Rattle.std.proofs.Math.Path.{refl, ap}
-use Rattle.std.proofs.Common.{sym, ◌∙◌, arith}
+use Rattle.std.proofs.Common.{subst, sym, ◌∙◌, arith}
 use Rattle.std.proofs.Math.Bool.{and-false}
 use mathlib.Core.List.{List, [], ◌∷◌}
 use Rattle.std.proofs.Math.Option.{none, some}
@@ -106,7 +106,7 @@ module _ (sh : Shape) (e x : ℕ) where
       let ws₁ : List ℕ = save ws sh (item x j item_page) (page_at d n) in
       let h₁ : total sh ≤ length ws₁ = omega (arith, length_save ws sh (item x j item_page) (page_at d n)) in
       let link : link_after (load ws sh) e d ≡ link_after m e d = ap (pick (eqb d 0) 0) (same_entries (e + (d - 1)) entry_next) in
-      rw link (
+      subst (λ (l : ℕ). Items (λ i p. load (pages_w ws₁ sh e x (suc j) l (size_after d n) k) sh (item x i item_page) ≡ p) j (page_at d n ∷ next_pages m e (link_after m e d) (size_after d n) k)) (sym link) (
         pages_before k ws₁ (suc j) (link_after m e d) (size_after d n) j h₁ (omega arith)
             ∙ load_save ws sh h (item x j item_page) (page_at d n) (in_item sh x j item_page low (omega arith) (omega arith)) (item x j item_page)
             ∙ rw (eq-eqb j j refl, eq-eqb x x refl),

@@ -1,13 +1,10 @@
--- Every request leaves a well_formed_law state.
-use Rattle.std.specs.Prelude.{◌≡◌, List, [], ◌∷◌}
-use Rattle.std.proofs.Math.Option.{some}
+-- Every request leaves a well-formed state.
+use Rattle.std.specs.Prelude.{List, [], ◌∷◌}
 use Rattle.model.specs.State.{Sizes, State}
 use Rattle.model.specs.Request.{Request}
 use Rattle.model.specs.Step.{step, run}
-use Rattle.model.specs.Create.{Parameters, create}
-use Rattle.model.proofs.Created.{create_well_formed}
 use Rattle.model.specs.WellFormed.{WellFormed}
-use Rattle.invariant.proofs.Pages.{Sane}
+use Rattle.invariant.specs.Pages.{Sane}
 use Rattle.invariant.proofs.BookLemmas.{row_whole}
 use Rattle.invariant.proofs.StorageState.{StorageClauses}
 use Rattle.invariant.proofs.StorageKept.{storage_kept}
@@ -51,7 +48,3 @@ kept z sane s w r = both_halves z (step z s r).0 (storage_kept z sane s w r) (bo
 pub run_kept : (z : Sizes) → Sane z → (s : State) → WellFormed z s → (rs : List Request) → WellFormed z (run z s rs).0
 run_kept z sane s w [] = w
 run_kept z sane s w (r ∷ rs) = run_kept z sane (step z s r).0 (kept z sane s w r) rs
-
--- every state reached from creation is well formed
-pub reached : (z : Sizes) → Sane z → (p : Parameters) (s : State) → create z p ≡ some s → (rs : List Request) → WellFormed z (run z s rs).0
-reached z sane p s e rs = run_kept z sane s (create_well_formed z p s e) rs

@@ -21,3 +21,4 @@ pub mod Growth
 pub mod BookHandles
 pub mod BookKept
 pub mod Kept
+pub mod Reached

@@ -8,12 +8,9 @@ use Rattle.model.specs.State.{Sizes, till, Slot, Slot.absent, Slot.vacant, Slot.
 use Rattle.model.specs.State.{is_busy, max_slots}
 use Rattle.model.specs.Storage.{page_of, slots_of, page_range, on_page, busy_in, busy_of}
 use Rattle.model.specs.Create.{max_pages}
+pub use Rattle.invariant.specs.Pages.{Sane}
 use Rattle.model.proofs.Tests.{bool, clash, and_left, and_right}
 use Rattle.model.proofs.Sums.{occurs_range}
-
--- a page has a slot
-pub record Sane (z : Sizes) : Type 0 where
-  pub page : 1 ≤ z.page_slots
 
 pub till_sane : Sane till
 till_sane = record { page = omega arith }

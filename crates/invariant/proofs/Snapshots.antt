@@ -1,10 +1,9 @@
 -- A plan's snapshot: what it says of its table, that it is in range, and what a plan that is not stale has kept.
-use Rattle.std.specs.Prelude.{◌≡◌, refl, Bool, true, false, not, ◌&&◌, List, [], ◌∷◌, ℕ, zero, suc, ◌+◌, ◌-◌, ◌^◌, ◌≤◌, ◌<◌, length, take, eqb, ltb}
-use Rattle.std.proofs.Common.{sym, ap, ◌∙◌, arith, length-take, ltb-true, eqb-true}
+use Rattle.std.specs.Prelude.{◌≡◌, refl, true, false, not, List, [], ◌∷◌, ℕ, zero, suc, ◌-◌, ◌≤◌, ◌<◌, length, take, eqb}
+use Rattle.std.proofs.Common.{ap, ◌∙◌, arith, length-take, ltb-true, eqb-true}
 use Rattle.std.proofs.Math.Option.{Option, none, some}
-use Rattle.std.proofs.lemmas.Bool.{not-true}
-use Rattle.model.specs.Base.{bit, pick, occurs, also, sum, same_list}
-use Rattle.model.specs.State.{Sizes, Table, StorageSnapshot, State, is_vacant, is_absent, max_slots, max_batch}
+use Rattle.model.specs.Base.{occurs}
+use Rattle.model.specs.State.{Sizes, Table, StorageSnapshot, State, is_vacant, max_slots, max_batch}
 use Rattle.model.proofs.Counting.{sum_occurs, sum_ones, sum_le}
 use Rattle.model.specs.Storage.{attach, slots_of, pages_from, pages_for, snapshot_with, snapshot_for, still_is, is_stale}
 use Rattle.model.specs.Create.{max_pages}

@@ -1,5 +1,5 @@
 -- Two decisions alike: the one in the state without the claim is the other one erased, and the claim stays as it is.
-use Rattle.std.specs.Prelude.{◌≡◌, Bool, true, false, not, ◌&&◌, ◌||◌, List, [], ◌∷◌, ℕ, ◌≤◌, ◌<◌, length, eqb}
+use Rattle.std.specs.Prelude.{◌≡◌, Bool, true, false, ◌&&◌, ◌||◌, List, [], ◌∷◌, ℕ, ◌≤◌, ◌<◌, length, eqb}
 use Rattle.std.proofs.Math.Path.{refl}
 use Rattle.std.proofs.Common.{sym, ap, ◌∙◌, arith}
 use Rattle.std.proofs.Math.Option.{Option, none, some}
@@ -29,7 +29,7 @@ Held t x (moved k h r ∷ es) (v ∷ vs) = (decodes x.mask v ≡ true) × (slot_
     × (x.slots k ≡ transfer_reserved (generation_in x.mask v) t) × Held t x es vs
 Held t x (copied h ∷ es) vs = ⊥
 
--- t is an open claim of the table b, of the values vs, in a well_formed_law state
+-- t is an open claim of the table b, of the values vs, in a well-formed state
 pub record Open (z : Sizes) (t b : ℕ) (es : List Entry) (vs : List ℕ) (s : State) : Type 0 where
   pub wf : WellFormed z s
   pub row : find t s.book.rows ≡ some (claim b es)

@@ -9,6 +9,7 @@ use Rattle.model.specs.Base.{member, or_else, at_most}
 use Rattle.model.specs.State.{Table, StorageSnapshot, Row, State}
 use Rattle.model.specs.State.{is_active, max_batch}
 use Rattle.model.specs.Storage.{pages_for, is_stale}
+use Rattle.model.specs.Book.{drop_id}
 use Rattle.model.specs.Change.{with_frames, with_book}
 use Rattle.model.specs.Request.{Answer.batch}
 use Rattle.model.specs.Decision.{Decision, distinct}
@@ -103,10 +104,10 @@ module _ (x : Case) where
 
   all_dropped : {rs rs₀ : List Row} (is : List ℕ) → member x.t is ≡ false → BookTwin x (with_rows x rs) (with-rows₀ x rs₀)
       → BookTwin x (with_rows x (drop_ids is rs)) (with-rows₀ x (drop_ids (map (lowered x.t) is) rs₀))
-  all_dropped [] m p = p
-  all_dropped (i ∷ is) m p = bool (eqb x.t i)
+  all_dropped {rs = rs} {rs₀ = rs₀} [] m p = p
+  all_dropped {rs = rs} {rs₀ = rs₀} (i ∷ is) m p = bool (eqb x.t i)
       (λ e. clash refl (rw e at m))
-      (λ e. all_dropped is (rw e at m) (dropped x i (λ y. eqb-false x.t i e (sym y)) p))
+      (λ e. all_dropped {rs = drop_id i rs} {rs₀ = drop_id (lowered x.t i) rs₀} is (rw e at m) (dropped x i (λ y. eqb-false x.t i e (sym y)) p))
 
   pub alike_publish : (i : ℕ) (is : List ℕ) → (i ≡ x.t → ⊥) → member x.t is ≡ false
       → Alike x true (publish_of x.z s i is) (publish_of x.z s₀ (lowered x.t i) (map (lowered x.t) is))

@@ -84,7 +84,7 @@ module _ (x : Case) where
 
   pub all_marked : (ks : List ℕ) (w : Table) → TableTwin w
       (keep_all x.z (λ g. transfer_reserved g s.book.next) ks w) (keep_all x.z (λ g. transfer_reserved g s₀.book.next) ks (T₀ w))
-  all_marked ks w = record { stems = stems_keep_all x.t x.z _ move_bare ks w; same = keep_all_erase x.t x.es x.z _ _ move_same ks w }
+  all_marked ks w = record { stems = stems_keep_all x.t x.z (λ g. transfer_reserved g s.book.next) move_bare ks w; same = keep_all_erase x.t x.es x.z (λ g. transfer_reserved g s.book.next) (λ g. transfer_reserved g s₀.book.next) move_same ks w }
 
   pub marked : (k : ℕ) (w : Table) → TableTwin w
       (keep x.z (λ g. transfer_reserved g s.book.next) w k) (keep x.z (λ g. transfer_reserved g s₀.book.next) (T₀ w) k)

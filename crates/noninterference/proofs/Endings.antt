@@ -4,7 +4,7 @@ use Rattle.std.proofs.Math.Path.{refl}
 use Rattle.std.proofs.Common.{sym, ap, ◌∙◌, arith, eqb-true, lt-ltb, eq-eqb}
 use Rattle.codec.specs.Codec.{decodes, slot_in, generation_in}
 use Rattle.model.specs.Base.{bit, put, every, occurs}
-use Rattle.model.specs.State.{Sizes, Handle, Slot.transfer_reserved, Slot.occupied, Table, Entry, Entry.moved, Entry.copied, Body.claim, Body.parcel, State}
+use Rattle.model.specs.State.{Sizes, Handle, Slot.occupied, Table, Entry, Entry.moved, Entry.copied, Body.claim, Body.parcel, State}
 use Rattle.model.specs.State.{is_active}
 use Rattle.model.specs.Storage.{place, vacate, vacate_all}
 use Rattle.model.specs.Change.{with_table}

@@ -157,7 +157,7 @@ held_stays t x y p (copied h' ∷ es) m vs h = absurd h
 
 module _ (z : Sizes) (kept : (s : State) → WellFormed z s → (r : Request) → WellFormed z (step z s r).0) (t b : ℕ) (es : List Entry) (vs : List ℕ)
   where
-    -- the claim is still open in a well_formed_law state where it stayed
+    -- the claim is still open in a well-formed state where it stayed
     still : (s u : State) → Open z t b es vs s → WellFormed z u → ((c : ℕ) → Stems t (s.tables c) (u.tables c))
         → find t u.book.rows ≡ find t s.book.rows → Open z t b es vs u
     still s u o w p q = let r : find t u.book.rows ≡ some (claim b es) = q ∙ o.row in record {

@@ -21,27 +21,18 @@ use Rattle.model.specs.Step.{prepare_transfer_of, prepare_consumption_of, rollba
 use Rattle.model.specs.WellFormed.{WellFormed, Equal}
 use Rattle.model.proofs.Tests.{apart, bool, clash}
 use Rattle.invariant.proofs.BookLemmas.{find_drop_same, find_drop_other, find_swap_same, drop_swap}
-use Rattle.invariant.proofs.Pages.{Sane}
+use Rattle.invariant.specs.Pages.{Sane}
 use Rattle.invariant.proofs.Kept.{kept as always_kept}
 use Rattle.noninterference.specs.Names.{value_of}
 use Rattle.noninterference.specs.Runs.{is_move, permitted, wanting, lowered, lower_request, lower_row}
 use Rattle.noninterference.specs.Erase.{erase_rows, erase}
+use Rattle.noninterference.specs.Plans.{PlanAt, PlansStand, PlansAgree}
 use Rattle.noninterference.proofs.Snapshots.{SameStorage, storage_lower, storage_keep_all, storage_restore_all, stale_same, stale_erase}
 use Rattle.noninterference.proofs.Basics.{lowered_above, lowered_below}
 use Rattle.noninterference.proofs.Rows.{find_erase}
 use Rattle.noninterference.proofs.Alike.{Open}
 use Rattle.noninterference.proofs.Endings.{rolled, erase_rolled, made, commit_is}
 use Rattle.noninterference.proofs.Beside.{Beside, runs_beside}
-
--- a plan that stands under an id
-abbrev pub PlanAt : State → (id table count : ℕ) → StorageSnapshot → (frames : List ℕ) → Type 0
-PlanAt s i b n w fs = find i s.book.rows ≡ some (plan b n w fs)
-
--- each plan of s stands in u, its id changed by f, and u has no other; what is stale in s, and nothing else, is stale in u
-pub record PlansStand (z : Sizes) (f : ℕ → ℕ) (s u : State) : Type 0 where
-  pub stands : (i b n : ℕ) (w : StorageSnapshot) (fs : List ℕ) → PlanAt s i b n w fs → PlanAt u (f i) b n w fs
-  pub others : (j b n : ℕ) (w : StorageSnapshot) (fs : List ℕ) → PlanAt u j b n w fs → (i : ℕ) × (j ≡ f i) × PlanAt s i b n w fs
-  pub stale : (b n : ℕ) (w : StorageSnapshot) → is_stale z (u.tables b) n w ≡ is_stale z (s.tables b) n w
 
 abbrev is_plan : Option Body → Bool
 is_plan none = false
@@ -179,12 +170,6 @@ module _ (z : Sizes) (b : ℕ) where
   closings_book : (vs : List ℕ) (s : State) → (run z s (map (close b) vs)).0.book ≡ s.book
   closings_book [] s = refl
   closings_book (v ∷ vs) s = closings_book vs (step z s (close b v)).0 ∙ close_book s v
-
--- run H left `h` with the transfer t of table b still open, run P left `p`: the plans are the same, and as stale or fresh
-pub record PlansAgree (z : Sizes) (t b : ℕ) (values : List ℕ) (h p : State) : Type 0 where
-  pub held : PlansStand z (lowered t) h p
-  pub rolled_back : PlansStand z (lowered t) (step z h (rollback t)).0 p
-  pub committed : PlansStand z (lowered t) (step z h (commit t)).0 (run z p (map (close b) values)).0
 
 module _ (z : Sizes) (kept : (s : State) → WellFormed z s → (r : Request) → WellFormed z (step z s r).0) (t b : ℕ) (es : List Entry) (vs : List ℕ)
     (s : State) (o : Open z t b es vs s) where

@@ -3,7 +3,7 @@ use Rattle.std.specs.Prelude.{◌≡◌, refl, Bool, true, false, List, [], ◌�
 use Rattle.std.proofs.Math.Path.{ap, fun_ext}
 use Rattle.std.proofs.Common.{◌∙◌}
 use Rattle.codec.specs.Codec.{next_generation}
-use Rattle.model.specs.Base.{pick, put, without}
+use Rattle.model.specs.Base.{pick, put}
 use Rattle.model.specs.State.{Sizes, Handle, Slot, Slot.absent, Slot.vacant, Slot.reserved, Slot.transfer_reserved, Slot.occupied, Table, Entry, Entry.moved, Entry.copied}
 use Rattle.model.specs.State.{generation, is_busy}
 use Rattle.model.specs.Storage.{with_free, advance, raised, busy_in, page_of, slots_of, on_page, empty_after, place, keep, keep_all, vacate, vacate_all, take_free, attach, attach_all, grow, detach}

@@ -4,13 +4,12 @@ use Rattle.std.proofs.Common.{subst}
 use Rattle.std.proofs.Math.Option.{Option}
 use Rattle.model.specs.Base.{every}
 use Rattle.model.specs.State.{Sizes, State}
-use Rattle.model.specs.Request.{Route, Item, Request, Request.close, Request.prepare_transfer, Request.rollback, Request.commit, Answer, Answer.done, Answer.opened}
+use Rattle.model.specs.Request.{Route, Item, Request, Request.prepare_transfer, Answer, Answer.opened}
 use Rattle.model.specs.Step.{step, run}
-use Rattle.model.specs.Words.{all_words}
 use Rattle.model.specs.WellFormed.{WellFormed, Equal}
 use Rattle.noninterference.specs.Names.{value_of}
-use Rattle.noninterference.specs.Runs.{is_move, permitted, wanting, accepted, lower_request, lower_answer, lower_table, lower_state}
-use Rattle.invariant.proofs.Pages.{Sane}
+use Rattle.noninterference.specs.Runs.{is_move, permitted, wanting, lower_request}
+use Rattle.invariant.specs.Pages.{Sane}
 use Rattle.invariant.proofs.Kept.{kept as always_kept}
 use Rattle.noninterference.proofs.Endings.{rollback_done, rollback_is, commit_done, closings_accepted, commit_is}
 use Rattle.noninterference.proofs.Beside.{Beside, runs_beside}

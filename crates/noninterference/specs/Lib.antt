@@ -3,3 +3,4 @@ pub mod Runs
 pub mod Erase
 pub mod Theorem
 pub mod World
+pub mod Plans

@@ -1,17 +1,11 @@
 -- Demand 3 of document 00: when the held and the plain run agree. The theorem that they do is `held_and_plain` of proofs/Theorem.antt.
-use Rattle.std.specs.Prelude.{◌≡◌, refl, true, false, List, map, ℕ}
-use Rattle.std.proofs.Common.{subst}
-use Rattle.std.proofs.Math.Option.{Option}
+use Rattle.std.specs.Prelude.{◌≡◌, true, List, map, ℕ}
 use Rattle.model.specs.Base.{every}
 use Rattle.model.specs.State.{Sizes, State}
-use Rattle.model.specs.Request.{Route, Item, Request, Request.close, Request.prepare_transfer, Request.rollback, Request.commit, Answer, Answer.done, Answer.opened}
+use Rattle.model.specs.Request.{Request.close, Request.rollback, Request.commit, Answer, Answer.done}
 use Rattle.model.specs.Step.{step, run}
 use Rattle.model.specs.Words.{all_words}
-use Rattle.model.specs.WellFormed.{WellFormed, Equal}
-use Rattle.noninterference.specs.Names.{value_of}
-use Rattle.noninterference.specs.Runs.{is_move, permitted, wanting, accepted, lower_request, lower_answer, lower_table, lower_state}
-use Rattle.invariant.proofs.Pages.{Sane}
-use Rattle.invariant.proofs.Kept.{kept as always_kept}
+use Rattle.noninterference.specs.Runs.{accepted, lower_answer, lower_table, lower_state}
 
 -- run H left `h` with the transfer t of table b still open, run P left `p`: they agree
 pub record Agree (z : Sizes) (t b : ℕ) (values : List ℕ) (h p : State × List Answer) : Type 0 where

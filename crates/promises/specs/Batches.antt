@@ -28,7 +28,7 @@ lacking z = z.page_slots - slots_of z (last_page z)
 abbrev pub most_pages : Sizes → ℕ
 most_pages z = (max_batch + lacking z + z.page_slots - 1) / z.page_slots
 
--- in no well_formed_law state does a batch need more than m new pages
+-- in no well-formed state does a batch need more than m new pages
 abbrev pub NewPages : Sizes → ℕ → Type 0
 NewPages z m = (s : State) → WellFormed z s → (b n : ℕ) → n ≤ max_batch → (ps : List ℕ) → pages_for z (s.tables b) n ≡ some ps → length ps ≤ m
 

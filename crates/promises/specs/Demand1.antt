@@ -2,7 +2,7 @@
 -- and changes nothing, save the one reservation id spent by a transfer preparation refused after its id step."
 --
 -- The two calls end: their functions are proved to, whatever the words and lengths. Here is what they give. `Meets` is the runner's contract, `Creates` creation's, and
--- `Rep ws sh s` says that the words ws represent the well_formed_law state s, whose counts are sh. Assumes nothing.
+-- `Rep ws sh s` says that the words ws represent the well-formed state s, whose counts are sh. Assumes nothing.
 use Rattle.std.specs.Prelude.{◌≡◌, true, List, [], ◌∷◌, ◌↔◌, ℕ, ◌*◌, ◌≤◌, ◌<◌, length}
 use Rattle.std.proofs.Math.Option.{none, some}
 use Rattle.format.specs.Format.{answer_words}

@@ -32,7 +32,7 @@ pub record Served (z : Sizes) (s : State) (i n : ℕ) : Type 0 where
   pub done : (s.book.next ≡ last_id → ⊥) → (step z s (use_plan i)).1 ≡ batch s.book.next values
   pub frames : (step z s (use_plan i)).0.frames ≡ s.frames
 
--- from any well_formed_law state, after any requests: a plan of n slots of table b stands under the id i, its table is active, and the plan is not stale
+-- from any well-formed state, after any requests: a plan of n slots of table b stands under the id i, its table is active, and the plan is not stale
 module _ (z : Sizes) (sane : Sane z) (first : State) (w : WellFormed z first) (rs : List Request) (i b n : ℕ) (r : StorageSnapshot) (fs : List ℕ)
     (row : find i (run z first rs).0.book.rows ≡ some (plan b n r fs)) (live : is_active ((run z first rs).0.tables b).life ≡ true)
     (fresh : is_stale z ((run z first rs).0.tables b) n r ≡ false) where

@@ -115,7 +115,7 @@ module _ (ws list os : List ℕ) (x : Called) (m : Meets ws list os x) where
   pub misuse : (x.result ≡ 18) ↔ ((sh : Shape) (s : State) → Rep ws sh s → ⊥)
   misuse = (λ e sh s r. not_18 sh s r e, m.misuse)
 
-  -- no other result: else no well_formed_law state were represented, and then it is 18
+  -- no other result: else no well-formed state were represented, and then it is 18
   pub results : member x.result (0 ∷ 18 ∷ 19 ∷ 20 ∷ []) ≡ true
   results = bool (member x.result (0 ∷ 18 ∷ 19 ∷ 20 ∷ [])) (λ b. b) (λ b.
       let q : x.result ≡ 18 = m.misuse (λ sh s r. which sh s r (λ n. clash (known (gives_19 sh s r n)) b) (λ rs e h. clash (known (gives_20 sh s r rs e h)) b) (λ rs e h. clash (known (gives_0 sh s r rs e h)) b)) in

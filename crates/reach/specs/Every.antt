@@ -1,4 +1,4 @@
--- HOW FAR THE PROMISES REACH: to every well_formed_law state of document 01, since each has words (`has_words`). Assumes nothing.
+-- HOW FAR THE PROMISES REACH: to every well-formed state of document 01, since each has words (`has_words`). Assumes nothing.
 use Rattle.std.specs.Prelude.{◌≡◌, true, List, ℕ}
 use Rattle.std.proofs.Common.{sym, subst}
 use Rattle.std.proofs.Math.Option.{some}

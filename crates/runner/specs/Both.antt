@@ -5,7 +5,8 @@ use Rattle.layout.specs.Layout.{load}
 use Rattle.wellformed.specs.View.{view_of}
 use Rattle.wellformed.specs.Whole.{well_b, sound, complete}
 use Rattle.contract.specs.Meets.{Called, Meets}
-use Rattle.contract.specs.Call.{run_w, run_meets}
+use Rattle.contract.specs.Call.{run_w}
+use Rattle.contract.proofs.Call.{run_meets}
 use Rattle.serve.specs.Serve.{one_r}
 use Rattle.serve.specs.Steps.{steps}
 

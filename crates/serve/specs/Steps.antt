@@ -30,7 +30,7 @@ use Rattle.claim.specs.Commit.{commit_does}
 use Rattle.claim.specs.Direct.{direct_commit_does, direct_rollback_does}
 use Rattle.teardown.specs.Teardown.{remove_stopping_owner_does, teardown_start_does, teardown_step_does, teardown_finish_does}
 use Rattle.contract.specs.Run.{Steps}
-use Rattle.contract.specs.Short.{step_short}
+use Rattle.contract.proofs.Short.{step_short}
 use Rattle.serve.specs.Serve.{serve_r, one_r}
 use Rattle.serve.specs.Known.{known}
 

@@ -1,9 +1,9 @@
 -- The items of a transfer as its claim keeps them, in the row that opens next. Assumes nothing.
 use Rattle.std.specs.Prelude.{◌≡◌, List, [], ◌∷◌, map, ℕ, suc, ◌+◌, ◌≤◌, ◌<◌, length}
 use Rattle.std.proofs.Math.Path.{refl}
-use Rattle.std.proofs.Common.{◌∙◌, arith}
+use Rattle.std.proofs.Common.{◌∙◌, ap, sym, arith}
 use borrow.Author.Tests.{eq-eqb}
-use Rattle.model.specs.State.{till, Table, Object, Entry, Entry.moved, Entry.copied, State}
+use Rattle.model.specs.State.{till, Handle, Table, Object, Entry, Entry.moved, Entry.copied, State}
 use Rattle.model.specs.Change.{with_objects}
 use Rattle.model.specs.Request.{Operation, Operation.as_move, Operation.as_copy, Item}
 use Rattle.model.specs.Objects.{with_rights}
@@ -89,7 +89,7 @@ module _ (sh : Shape) (s : State) (w : WellFormed till s) (b : ℕ) (l : b < s.t
           })
       go as_copy e (y, v, k, g) =
           let us : List ℕ = copied_w vs sh (spare (load ws sh)) j y q.rights in
-          let d : entry_for t q ≡ copied (with_rights (handle_of y) q.rights) = f.entry ∙ rw (e, g) in
+          let d : entry_for t q ≡ copied (with_rights (handle_of y) q.rights) = f.entry ∙ rw e (ap (λ (h : Handle). copied (with_rights h q.rights)) (sym g)) in
           rw (entry_by_law vs us j q y v (copies_by vs j q y e))
           (record {
             enters = copied_enters vs sh held.reps.shaped.room (spare (load ws sh)) j y q.rights;

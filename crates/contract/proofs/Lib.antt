@@ -1,0 +1,4 @@
+pub mod Front
+pub mod Short
+pub mod Run
+pub mod Call

@@ -1,0 +1,18 @@
+use borrow.Author.Rules.{rules}
+use Rattle.model.specs.Base.{member}
+use mathlib.Core.Path.{◌≡◌, refl}
+use Rattle.parcel.specs.Publishing.{ids_at}
+use Rattle.parcel.specs.PublishCode.{named_end, named_yes, named_turn}
+use Rattle.parcel.proofs.named.Goals as goal
+
+pub loop-more-init : goal.loop-more-init
+loop-more-init c = refl
+
+pub returns-then-eq : goal.returns-then-eq
+returns-then-eq c = named_yes c.args.rq.now _ c.args.id _ _ c.loop-more.invariant c.loop-more-test.true _ c.item_id-other.ensures _ c.eq.ensures c.if-eq.true
+
+pub loop-more-preserved : goal.loop-more-preserved
+loop-more-preserved c = named_turn c.args.rq.now _ c.args.id _ _ c.loop-more.invariant c.loop-more-test.true _ c.item_id-other.ensures _ c.eq.ensures _ c.if-eq.false c.item_end-place.ensures
+
+pub returns : goal.returns
+returns c = named_end c.args.rq.now _ c.args.id _ _ c.loop-more.invariant c.loop-more-test.false
