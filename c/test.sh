@@ -15,7 +15,7 @@ work=$(mktemp -d) || exit 2
 trap 'rm -rf "$work"' EXIT
 
 for crate in create runner; do
-  if rt staticlib "$crate" >"$work/out" 2>&1; then good "the static library of $crate"; else
+  if c/libraries.py "$crate" >"$work/out" 2>&1; then good "the static library of $crate"; else
     tail -n 5 "$work/out"
     bad "the static library of $crate"
   fi

@@ -17,7 +17,7 @@ if command -v c++ >/dev/null 2>&1; then
   echo '#include "gurtxozal_calls.h"' | c++ -std=c++17 -pedantic -Wall -Wextra -Werror -Ic -x c++ -fsyntax-only - || failed=1
 fi
 for crate in runner create; do
-  [ -f "target/staticlib/lib$crate.a" ] || rt staticlib "$crate" >"$work/out" 2>&1 || {
+  [ -f "target/staticlib/lib$crate.a" ] || c/libraries.py "$crate" >"$work/out" 2>&1 || {
     tail -n 5 "$work/out"
     exit 1
   }

@@ -201,7 +201,7 @@ def main():
             sys.exit(3)
     missing = [str(library) for library in libraries.values() if not library.is_file()]
     if missing:
-        print(f"{missing[0]} is not there: rt staticlib makes it")
+        print(f"{missing[0]} is not there: c/libraries.py makes it")
         sys.exit(3)
     text = page.read_text()
     table = counted()

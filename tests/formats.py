@@ -79,8 +79,9 @@ def defined(text, name):
     return int(found.group(1)) if found else None
 
 
-def camel_of(name):
-    return re.sub(r"[ _](\w)", lambda m: m.group(1).upper(), name.lower())
+def snake_of(name):
+    """The name that a definition has for a name of the page or of the code: a number has no line before it."""
+    return re.sub(r"_(\d)", r"\1", name.lower().replace(" ", "_"))
 
 
 def upper(name):
@@ -172,44 +173,44 @@ class Compare:
             self.bits[name] = int(bit)
             field_kinds.append(4 if name == "op" else 3 if name == "route" else KINDS.get(kind.split(",")[0].strip(), -1))
             same(f"the bit of field {name}", constant(source["field"], "FIELD_" + upper(name)), int(bit))
-            same(f"the bit of field {name}, in the definitions", defined(fields, camel_of(name) + "Field"), int(bit))
+            same(f"the bit of field {name}, in the definitions", defined(fields, snake_of(name) + "_field"), int(bit))
             if field_kinds[-1] in largest:
                 same(f"the largest word of field {name}", malformed.strip(), f"above {largest[field_kinds[-1]]:,}")
         same("the fields", len(self.bits), 18)
-        kind_names = dict(zip("anyWord number32 aKoid aRoute anOp anOperation zeroWord".split(), "WORD NUMBER_32 KOID ROUTE OP OPERATION ZERO".split()))
+        kind_names = dict(zip("any_word number32 a_koid a_route an_op an_operation zero_word".split(), "WORD NUMBER_32 KOID ROUTE OP OPERATION ZERO".split()))
         for name, word in kind_names.items():
             same(f"the kind {name}", defined(fields, name), constant(source["field"], "KIND_" + word))
         for name in ("number_32_max", "route_last", "operation_last"):
-            same(f"{name} in the definitions", defined(fields, camel_of(name)), constant(source["size"], name.upper()))
-        found = re.search(r"\nfieldKinds =(.*?)∷ \[\]", spec, flags=re.S)
-        same("fieldKinds", [defined(fields, name.strip()) for name in found.group(1).split("∷")], field_kinds)
+            same(f"{name} in the definitions", defined(fields, snake_of(name)), constant(source["size"], name.upper()))
+        found = re.search(r"\nfield_kinds =(.*?)∷ \[\]", spec, flags=re.S)
+        same("field_kinds", [defined(fields, name.strip()) for name in found.group(1).split("∷")], field_kinds)
         self.musts, self.mays, self.names = [0], [0], [""]
         for op, name, must_names, must, may_names, may in self.find(r"^\| (\d+) \| ([^|]+) \| ([^|]+) \| (\d+) \|([^|]*)\| (\d+) \|$"):
             same(f"the place of op {name}", int(op), len(self.musts))
             same(f"the must map of {name}", int(must), self.mask(must_names))
             same(f"the may map of {name}", int(may), self.mask(may_names))
             same(f"the number of {name}", constant(source["op"], "OP_" + upper(name.strip())), int(op))
-            same(f"the number of {name} in the definitions", defined(ops, camel_of("op " + name.strip())), int(op))
+            same(f"the number of {name} in the definitions", defined(ops, snake_of("op " + name.strip())), int(op))
             self.musts.append(int(must))
             self.mays.append(int(may))
             self.names.append(name.strip())
         last = len(self.musts) - 1
         same("the ops", last, 27)
         same("the ops in the definitions", len(re.findall(r"^abbrev pub ", ops, flags=re.M)), len(self.musts))
-        same("opLast", defined(ops, "opLast"), last)
+        same("op_last", defined(ops, "op_last"), last)
         same("OP_LAST", constant(source["op"], "OP_LAST"), last)
         same("the last op, as the page says", self.find(r"every op above (\d+)"), [str(last)])
         for name, want in (("must", self.musts), ("may", self.mays)):
             same(name.upper(), array(name.upper()), want)
             same(name + "s", definition(name + "s"), want)
-        table = re.search(r"plainRequests =(.*?)∷ \[\]", model, flags=re.S)
-        same("the order of plainRequests", re.findall(r"λ f\. (\w+)", table.group(1)), [camel_of(n) for n in self.names[1:]])
+        table = re.search(r"plain_requests =(.*?)∷ \[\]", model, flags=re.S)
+        same("the order of plain_requests", re.findall(r"λ f\. (\w+)", table.group(1)), [snake_of(n) for n in self.names[1:]])
         for item, must_names, must, may_names, may in self.find(r"^\| (transfer|parcel) item \| ([^|]+) \| (\d+) \|([^|]*)\| (\d+) \|$"):
             same(f"the must map of a {item} item", int(must), self.mask(must_names))
             same(f"the may map of a {item} item", int(may), self.mask(may_names))
             for part, value in (("MUST", int(must)), ("MAY", int(may))):
                 same(f"{item.upper()}_ITEM_{part}", constant(source["maps"], f"{item.upper()}_ITEM_{part}"), value)
-                same(f"{item}Item{part.title()}", definition(f"{item}Item{part.title()}"), value)
+                same(f"{item}_item_{part.lower()}", definition(f"{item}_item_{part.lower()}"), value)
         for number, word in enumerate(REFUSALS):
             same(f"the number {word}", constant(source["refusal"], upper(word)), number)
         for number, word in self.find(r"(?<![\d,])(\d+) (%s)\b" % "|".join(REFUSALS[1:])):
@@ -229,14 +230,14 @@ class Compare:
         }
         code = {name: constants(name, self.faults) for name in TABLES}
         meant = {name: definitions(specs, self.faults) for name, specs in TABLES.items()}
-        meant["value.rt"].setdefault("knownFlags", limits.get("knownFlags"))  # the model's own
+        meant["value.rt"].setdefault("known_flags", limits.get("known_flags"))  # the model's own
         for name, written in tables.items():
             told = {row[1].strip("`"): int(row[0].replace(",", "")) if re.fullmatch(r"[\d,]+", row[0]) else None for row in written}
             same(f"the names of the tables for {name}, each once,", len(told), len(written))
             for word in sorted(told.keys() | {n.lower() for n in code[name]}):
                 same(f"{word.upper()} of crates/layout/src/{name}", code[name].get(word.upper(), "none"), told.get(word, "none"))
-            for word in sorted({camel_of(n) for n in told} | meant[name].keys()):
-                same(f"{word}, the definition for {name},", meant[name].get(word, "none"), {camel_of(n): v for n, v in told.items()}.get(word, "none"))
+            for word in sorted({snake_of(n) for n in told} | meant[name].keys()):
+                same(f"{word}, the definition for {name},", meant[name].get(word, "none"), {snake_of(n): v for n, v in told.items()}.get(word, "none"))
         sizes = collections.defaultdict(int, {name: value or 0 for name, value in code["size.rt"].items()})
         same("the records with a table", len(records), 8)
         for record, size in zip(records, ("ROOT", "HEAD", "ENTRY", "SLOT", "OBJECT", "INDEX", "BLOCK", "BLOCK")):
@@ -257,7 +258,7 @@ class Compare:
         for name in ("tables", "frames", "objects", "rows", "pages"):
             same(f"the permitted {name}", permitted[name], f"{sizes[name.upper() + '_MAX']:,}")
         for name in ("tables", "frames", "objects", "rows", "batch"):
-            same(f"the model's limit of {name}", limits.get("max" + name.title()), sizes[name.upper() + "_MAX"])
+            same(f"the model's limit of {name}", limits.get("max_" + name), sizes[name.upper() + "_MAX"])
         t, f, o, r = (sizes[n + "_MAX"] for n in ("TABLES", "FRAMES", "OBJECTS", "ROWS"))
         largest = sizes["ROOT_SIZE"] + t * (sizes["HEAD_SIZE"] + sizes["PAGES_MAX"] * sizes["ENTRY_SIZE"]) + f * (1 + sizes["FRAME_SIZE"]) + sum(-(-f // n) for n in (16, 256, 4096))
         largest += o * sizes["OBJECT_SIZE"] + r * (sizes["INDEX_SIZE"] + sizes["ROW_SIZE"])

@@ -24,17 +24,17 @@ SMALL = ("words", "layout")  # reads of lent words: left out of the way, but for
 # The way of the proof: file, name that stands there, what it says, and a name that the file must have
 PROOF = [
     ("model/specs/Step.antt", "step", "the definition: the state that a request leaves, and its answer", None),
-    ("close/src/lib.rt", "close", "the code's contract: it leaves the words that `closeR` gives", "closeR"),
-    ("close/specs/Close.antt", "close-does", "words that represent a state come out as words that represent the state after `step`, with its answer", "closeR"),
-    ("serve/specs/Steps.antt", "steps", "so do those of each of the requests, by their op", "close-does"),
-    ("contract/specs/Call.antt", "run-meets", "if each request does, the whole call does what `Meets` says", "Meets"),
-    ("runner/specs/Both.antt", "run-both", "it is applied to the requests, to the state check and to the reading of the list", "run-meets"),
+    ("close/src/lib.rt", "close", "the code's contract: it leaves the words that `close_r` gives", "close_r"),
+    ("close/specs/Close.antt", "close_does", "words that represent a state come out as words that represent the state after `step`, with its answer", "close_r"),
+    ("serve/specs/Steps.antt", "steps", "so do those of each of the requests, by their op", "close_does"),
+    ("contract/proofs/Call.antt", "run_meets", "if each request does, the whole call does what `Meets` says", "Meets"),
+    ("runner/specs/Both.antt", "run_both", "it is applied to the requests, to the state check and to the reading of the list", "run_meets"),
     ("runner/src/lib.rt", "gurtxozal_run", "the call's contract: its clause `meets` is `Meets`, of any words", "Meets"),
-    ("promises/specs/Demand1.antt", "demand-1", "from `Meets`: the call's result, and what a refusal leaves", "Meets"),
-    ("promises/specs/Demand2.antt", "demand-2", "from `Meets`: answers and state are those of the steps", "Meets"),
-    ("invariant/specs/Kept.antt", "kept", "beside the code: a step leaves a well-formed state well formed", "step"),
-    ("noninterference/specs/Theorem.antt", "held-and-plain", "beside the code: the held and the plain run of steps agree", "step"),
-    ("promises/specs/Demand3.antt", "demand-3", "from both: the held and the plain run of calls agree", "held-and-plain"),
+    ("promises/proofs/Demand1.antt", "demand_1", "from `Meets`: the call's result, and what a refusal leaves", "Meets"),
+    ("promises/proofs/Demand2.antt", "demand_2", "from `Meets`: answers and state are those of the steps", "Meets"),
+    ("invariant/proofs/Kept.antt", "kept", "beside the code: a step leaves a well-formed state well formed", "step"),
+    ("noninterference/proofs/Theorem.antt", "held_and_plain", "beside the code: the held and the plain run of steps agree", "step"),
+    ("promises/proofs/Demand3.antt", "demand_3", "from both: the held and the plain run of calls agree", "held_and_plain"),
 ]
 
 
@@ -189,7 +189,7 @@ def page():
             "",
             "## The way of one proof",
             "",
-            "What is proved of that request, from the definition to the demands. The path is from crates/; `closeR` and `Meets` are definitions that the lines share.",
+            "What is proved of that request, from the definition to the demands. The path is from crates/; `close_r` and `Meets` are definitions that the lines share.",
             "",
             "```",
             *steps()[0],

@@ -82,17 +82,17 @@ EXCUSED = [
     ("frames/src/lib.rt", ["k) from 16", "from + 16", "c * 16", "b * 16", "a * 16", "layout::region::REGION_GROUP_16, f / 16", "layout::region::REGION_GROUP_256, f / 256", "layout::region::REGION_GROUP_4096, f / 4096"], GROUPS),
     ("growth/src/lib.rt", ["+ (j as u64) + 2"], "the slot after, as a link: each plus 1"),
     ("layout/src/lib.rt", ["(f + 15) / 16", "(f + 255) / 256", "(f + 4095) / 4096"], GROUPS),
-    ("lookup/src/lib.rt", ["answer_put(out, base, i + 2, x.info.kind)", "answer_put(out, base, i + 3, x.info.rights)", "answer_put(out, base, i + 4, x.info.flags)", "put_entry(out, base, 5 + k * 5, x)", "base 5 (entryList"], ANSWER),
+    ("lookup/src/lib.rt", ["answer_put(out, base, i + 2, x.info.kind)", "answer_put(out, base, i + 3, x.info.rights)", "answer_put(out, base, i + 4, x.info.flags)", "put_entry(out, base, 5 + k * 5, x)", "base 5 (entry_list"], ANSWER),
     ("lookup/src/lib.rt", [".examined ≤ 256"], "the most slots that a scan looks at, format's SCAN_SLOTS (document 01)"),
     ("parcel/src/lib.rt", ["words::word(rq, at + 2)", "return at + 3;"], RECORD),
     ("replay/src/main.rt", ["const PATTERN: u64 = 0x5c5c_c5c5_5c5c_c5c5;", "const FILL: u64 = 0xa5a5_5a5a_a5a5_5a5a;", "[u64; 16384]", "[0; 16384]", "[u64; 512]", "[0; 512]"], REPLAY),
     ("replay/src/main.rt", ["b as u16 * 256", "b as u32 * 65536", "b as u64 * 4294967296", "b: &[u8; 8]", "pair(b[2], b[3])", "pair(b[4], b[5]), pair(b[6], b[7])", "[0u8; 8]", "if n < 8 {"], REPLAY),
-    ("replay/src/main.rt", ["16384 ≡ length r", "512 ≡ length r", "a + 256 * b", "a + 65536 * b", "a + 4294967296 * b"], REPLAY),
+    ("replay/src/main.rt", ["16384 ≡ length result", "512 ≡ length result", "a + 256 * b", "a + 65536 * b", "a + 4294967296 * b"], REPLAY),
     ("replay/src/main.rt", ["kind == 1", "kind == 2", "kind == 3", "kind == 4"], REPLAY),
     ("request/src/lib.rt", ["map % 2 == 1"], HALF),
     ("request/src/lib.rt", ["bit < 64"], BITS),
     ("request/src/lib.rt", ["const NARROW: u64 = 251_456;"], "the map of the fields that do not take every word, by name here"),
-    ("reserve/src/lib.rt", ["answer_put(out, base, (j + 3) as usize, v.0)", "base 3 (valuesAt"], ANSWER),
+    ("reserve/src/lib.rt", ["answer_put(out, base, (j + 3) as usize, v.0)", "base 3 (values_at"], ANSWER),
     ("runner/src/lib.rt", ["called 20"], DOCUMENT_01),
     ("lookup/src/lib.rt", ["tag: 0,"], NO_FRAME),
     ("storage/src/lib.rt", ["tag: 0,"], NO_FRAME),
@@ -508,7 +508,7 @@ WRONG = [
     ("crates/book/src/lib.rt", "let half = n / 2;", "let half = n / 3;", "e", "3"),
     ("crates/head/src/lib.rt", "layout::put_head(s, sh, b, field::HEAD_CURSOR, h.cursor);", "layout::put_head(s, sh, b, field::ROOT_OBJECTS, h.cursor);", "a", "ROOT_OBJECTS"),
     ("crates/storage/src/lib.rt", "// Into the page of a link; through 0 nothing.", "const ZERO: u64 = 0;", "f", "0"),
-    ("crates/teardown/src/lib.rt", "sh b lifeRetired 0", "sh b 2 0", "g", "2"),
+    ("crates/teardown/src/lib.rt", "sh b life_retired 0", "sh b 2 0", "g", "2"),
     ("crates/transfer/src/lib.rt", "words::eq(route, value::ROUTE_BUFFERED)", "words::eq(route, 0)", "b", "0"),
     ("crates/format/src/lib.rt", "op::OP_TRIM => maps::MUST[op::OP_TRIM as usize],", "6 => maps::MUST[op::OP_TRIM as usize],", "c", "6"),
     ("crates/format/src/lib.rt", "op::OP_TRIM => maps::MAY[op::OP_TRIM as usize],", "op::OP_TRIM => maps::MAY[6],", "e", "6"),
@@ -516,8 +516,8 @@ WRONG = [
 ]
 PLAIN = """// 64 of 65
 pub fn f(t: HandleValue, s: &mut [u64]) -> u64
-    requires { ⌜ length (now s) < { 2 ^ 64 } ⌝ }
-    ensures words { λ r. ⌜ r ≡ s .2 .0 ⌝ }
+    requires { length s.now < 2 ^ 64 }
+    ensures words { result ≡ (parts s.new).2.0 }
 {
     let two = "64"; // 63
     s[0..1].len() as u64 + t.0 + u64::MAX

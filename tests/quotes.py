@@ -14,7 +14,8 @@ from pathlib import Path
 
 root = Path(__file__).resolve().parent.parent
 PAGE = root / "docs" / "reading.md"
-SIGNS = ["--", "ℕ", "→", "∷", "[]", "≡", "refl", "omega", "++", "ap", "{ }", "∙", "ensures", "λ", "⌜", "now", ".entry", "Bool", "eqb", "ltb", "pick", "data", "record", "Type 0", "unless", "bit", "map", ".0", ".1", "pub", "abbrev", "unfoldable"]
+MADE = {"__pycache__", "out"}  # folders of what is made, never committed
+SIGNS = ["--", "ℕ", "→", "∷", "[]", "≡", "refl", "omega", "++", "ap", "◌", "{ }", "∙", "ensures", "result", ".now", ".old", ".new", "λ", "Bool", "eqb", "ltb", "pick", "data", "record", "Type 0", "unless", "bit", "map", ".0", ".1", "pub", "abbrev", "unfoldable"]
 
 
 def held(lines, text):
@@ -42,9 +43,9 @@ def places():
                 at = root / place
                 if not at.exists():
                     faults.append(f"docs/working.md: {place} is not there")
-                texts = [path.read_text() for path in ([at] if at.is_file() else at.rglob("*")) if path.is_file() and "__pycache__" not in path.parts]
+                texts = [path.read_text() for path in ([at] if at.is_file() else at.rglob("*")) if path.is_file() and not MADE & set(path.parts)]
                 faults += [f"docs/working.md: `{name}` does not stand in {place}" for name in re.findall(r"`([^`]+)`", names) if not any(re.search(rf"(?<![\w-]){re.escape(name)}(?![\w-])", text) for text in texts)]
-        found = subprocess.run(shlex.split(command.group(1)) + ["--exclude-dir=__pycache__"], cwd=root, capture_output=True, text=True).stdout.split()
+        found = subprocess.run(shlex.split(command.group(1)) + [f"--exclude-dir={name}" for name in sorted(MADE)], cwd=root, capture_output=True, text=True).stdout.split()
         if not found:
             faults.append(f"docs/working.md: {command.group(1)} finds nothing")
         for file in found:

@@ -1,5 +1,5 @@
 #!/usr/bin/env python3
-"""In definitions and proofs over words, as in the code (tests/numerals.py), a field and a region stand by name: crates/*/specs/*.antt, without comments.
+"""In definitions and proofs over words, as in the code (tests/numerals.py), a field and a region stand by name: crates/*/specs/*.antt and the lemmas of crates/*/proofs/*.antt, without comments.
 
 ADDRESSES are what takes a field or a region as it is. Whatever hands a parameter on to one of them in its type takes one too: a lemma, a record's field, a parameter that is itself a
 function, a `let`; so do the calls of those. A numeral there is a fault, with file, line and numeral. A lemma of a module takes the module's parameters first where it is called from outside:
@@ -16,14 +16,14 @@ root = Path(__file__).resolve().parent.parent
 # What takes a field or a region, and at which of its arguments
 ADDRESSES = {
     "root": {1}, "head": {2}, "entry": {2}, "cell": {3}, "object": {2}, "row": {2}, "item": {3}, "reg": {1, 4}, "region": {2},
-    "hd": {1}, "pg": {2}, "sl": {2}, "wordIn": {4}, "slotWord": {4},
+    "hd": {1}, "pg": {2}, "sl": {2}, "word_in": {4}, "slot_word": {4},
 }  # fmt: skip
 # Where the names of ADDRESSES come from
 HOMES = ("layout", "representation", "storage")
-ONE_WORD = re.compile(r"regionOwner|\( ?regionGroup\d+.*|[a-z]")
+ONE_WORD = re.compile(r"region_owner|\( ?region_group\d+.*|[a-z]")
 SEPARATORS = {",", ";", "∙", "→", "λ", "=", "×", "in", "let", "rw", "||", "&&", "++", "then", "←", "where", "refuse", "or", ":", "module", "record", "pub", "abbrev", "unfoldable"}
 OPERATORS = set("≡≤<+-*/%^∷")
-TOKEN = re.compile(r"[(){},;]|[^\s(){},;]+")
+TOKEN = re.compile(r"[(){},;]|\.[^\s(){},;.]+|[^\s(){},;.]+\.(?=[\s(){},;]|$)|[^\s(){},;.]+|\.")  # a projection is a token of its own, with its dot; a binder's dot stays with its name
 
 
 def code_of(text):
@@ -32,27 +32,34 @@ def code_of(text):
 
 
 def applications(tokens):
-    """Each argument that is one token: what it is given to, at which place, the arguments before it, and the token."""
+    """Each argument that is one token: what it is given to, at which place, the arguments before it, and the token. A projection belongs to what it stands right behind: to an argument, or to what
+    is applied, whose name is then the projection's."""
     stack = [(None, [])]
-    for token in tokens:
+    for token, after in zip(tokens, [*tokens[1:], None]):
         word = token.group()
         head, args = stack[-1]
+        projected = after is not None and after.start() == token.end() and re.match(r"\.[^\d.]", after.group())
         if word in "({":
             stack.append((None, []))
         elif word in ")}":
             if len(stack) > 1:
                 head, args = stack.pop()
             stack[-1][1].append(f"({head} {' '.join(args)})")
-        elif word in SEPARATORS or (word.endswith(".") and len(word) > 1):
+        elif word in SEPARATORS or word.endswith("."):
             stack[-1] = (None, [])
         elif word in OPERATORS:
             stack[-1] = (f"{head} {word}", [])
-        elif head is None:
-            stack[-1] = (word, [])
         elif re.fullmatch(r"\.\d+", word):
             pass
         elif word.startswith("."):
-            stack[-1] = (word[1:], [])
+            if head is None or not args:
+                stack[-1] = (word[1:], [])
+            else:
+                args[-1] += word
+        elif head is None:
+            stack[-1] = (word, [])
+        elif projected:
+            args.append(word)
         else:
             yield head, len(args) + 1, list(args), token
             args.append(word)
@@ -88,7 +95,7 @@ def types_of(tokens):
                         break
                     close += 1
                 part = [token.group() for token in inner[place + 1 : close]]
-                if ":" in part and all(re.fullmatch(r"[\w′₀-₉]+", name) for name in part[: part.index(":")]):
+                if ":" in part and all(re.fullmatch(r"[\w'₀-₉]+", name) for name in part[: part.index(":")]):
                     names += part[: part.index(":")] if word == "(" else []
                     place = close + 1
                     if place < len(inner) and inner[place].group() == "→":
@@ -108,7 +115,7 @@ def types_of(tokens):
 def around(text):
     """For each place of a module's head: how many parameters in round brackets it has, its column, and where it begins."""
     out = []
-    for found in re.finditer(r"^( *)(?:pub )?module _([^\n]*?(?:\n(?!\1  ?[a-z-]+ :)[^\n]*)*?)\bwhere$", text, re.M):
+    for found in re.finditer(r"^( *)(?:pub )?module _([^\n]*?(?:\n(?!\1  ?[\w'-]+ :)[^\n]*)*?)\bwhere$", text, re.M):
         many = depth = 0
         for part in re.finditer(r"\(([^():]*:)?|\)", found.group(2)):
             many += len(part.group(1).rstrip(":").split()) if depth == 0 and part.group(1) else 0
@@ -146,7 +153,7 @@ class Look:
                 for name in names.split(","):
                     there, _, here = name.strip().rpartition(".")[2].partition(" as ")
                     uses[here or there] = there
-                    if there in ADDRESSES and any(f"·{crate}" in home for crate in HOMES):
+                    if there in ADDRESSES and any(home.startswith(f"Rattle.{crate}.") for crate in HOMES):
                         self.addresses[file].add(here or there)
         types = [(file, *given) for file, own in tokens.items() for given in types_of(own)]
         modules = {file: around(text) for file, text in self.texts.items()}
@@ -186,37 +193,38 @@ class Look:
         return faults, looked
 
 
-# Wrong lines: file, text, what stands there instead, and the numeral that must be found
+# Wrong lines: crate and module, text, what stands there instead, and the numeral that must be found
 WRONG = [
-    ("crates/storage/specs/Keep.antt", "size = h .heads headPages ∙ z .size;", "size = h .heads 5 ∙ z .size;", "5"),
-    ("crates/storage/specs/Kept.antt", "entry-kept p entryNext (ds p entryNext h)", "entry-kept p 3 (ds p entryNext h)", "3"),
-    ("crates/storage/specs/Kept.antt", "its j itemGranted ∙ p .3)", "its j 5 ∙ p .3)", "5"),
-    ("crates/storage/specs/Late.antt", "rw (entry-seen ws (e + p) entryHigh)", "rw (entry-seen ws (e + p) 1)", "1"),
-    ("crates/growth/specs/Late.antt", "(e + p) entryFrame (up f))", "(e + p) 0 (up f))", "0"),
-    ("crates/growth/specs/Attach.antt", "b p f regionRoot 0 0 rootFreeFrames (λ", "b p f regionRoot 0 0 7 (λ", "7"),
-    ("crates/growth/specs/Attach.antt", "b p f regionOwner g 0 0 (λ", "b p f 3 g 0 0 (λ", "3"),
-    ("crates/create/specs/Memory.antt", "new-size b = new-head b headPages ∙", "new-size b = new-head b 5 ∙", "5"),
-    ("crates/book/specs/Close.antt", "next = p .roots rootNextId;", "next = p .roots 5;", "5"),
-    ("crates/counts/specs/Objects.antt", "(field-at (i + objectStage) objectStage (omega arith) refl)", "(field-at (i + objectStage) 5 (omega arith) refl)", "5"),
-    ("crates/representation/specs/Represents.antt", "m (item r j itemMoved) ≡ k", "m (item r j 1) ≡ k", "1"),
-    ("crates/representation/specs/Represents.antt", "m (row r rowCount) ≡ n", "m (row r 4) ≡ n", "4"),
-    ("crates/representation/specs/Represents.antt", "m (item r 0 itemFreeSlots) ≡ w .freeSlots", "m (item r 0 2) ≡ w .freeSlots", "2"),
-    ("crates/written/specs/Rows.antt", "row-is s m shows i x h e rowId (omega arith)", "row-is s m shows i x h e 0 (omega arith)", "0"),
+    ("storage Keep", "size = h.heads head_pages ∙ z.size;", "size = h.heads 5 ∙ z.size;", "5"),
+    ("storage Kept", "entry_kept p entry_next (ds p entry_next h)", "entry_kept p 3 (ds p entry_next h)", "3"),
+    ("storage Kept", "its j item_granted ∙ p.3)", "its j 5 ∙ p.3)", "5"),
+    ("storage Late", "rw (entry_seen ws (e + p) entry_high)", "rw (entry_seen ws (e + p) 1)", "1"),
+    ("growth Late", "(e + p) entry_frame (up f))", "(e + p) 0 (up f))", "0"),
+    ("growth Attach", "b p f region_root 0 0 root_free_frames (λ", "b p f region_root 0 0 7 (λ", "7"),
+    ("growth Attach", "b p f region_owner g 0 0 (λ", "b p f 3 g 0 0 (λ", "3"),
+    ("create Memory", "new_size b = new_head b head_pages ∙", "new_size b = new_head b 5 ∙", "5"),
+    ("book Close", "next = p.roots root_next_id;", "next = p.roots 5;", "5"),
+    ("counts Objects", "(field_at (i + object_stage) object_stage (omega arith) refl)", "(field_at (i + object_stage) 5 (omega arith) refl)", "5"),
+    ("representation Represents", "m (item r j item_moved) ≡ k", "m (item r j 1) ≡ k", "1"),
+    ("representation Represents", "m (row r row_count) ≡ n", "m (row r 4) ≡ n", "4"),
+    ("representation Represents", "m (item r 0 item_free_slots) ≡ w.free_slots", "m (item r 0 2) ≡ w.free_slots", "2"),
+    ("written Rows", "row_is s m shows i x h e row_id (omega arith)", "row_is s m shows i x h e 0 (omega arith)", "0"),
 ]
 
 
 def main():
-    texts = {str(p.relative_to(root)): p.read_text() for p in sorted(root.glob("crates/*/specs/*.antt"))}
+    texts = {str(p.relative_to(root)): p.read_text() for part in ("specs", "proofs") for p in sorted(root.glob(f"crates/*/{part}/*.antt"))}
     look = Look(texts)
     found, looked = look.run()
     lost, changed = [], dict(texts)
-    for file, old, new, _ in WRONG:
+    wrong = [(next((file for file in texts if re.fullmatch("crates/%s/(?:specs|proofs)/%s.antt" % tuple(module.split()), file)), module), *line) for module, *line in WRONG]
+    for file, old, new, _ in wrong:
         if changed.get(file, "").count(old) != 1:
             lost.append(f"'{old}' stands {changed.get(file, '').count(old)} times in {file}: a wrong line cannot be made")
         changed[file] = changed.get(file, "").replace(old, new)
     told = collections.Counter((file, text) for file, _, text, _ in Look(changed).run()[0])
     told.subtract((file, text) for file, _, text, _ in found)
-    wanted = collections.Counter((file, numeral) for file, _, _, numeral in WRONG)
+    wanted = collections.Counter((file, numeral) for file, _, _, numeral in wrong)
     lost += [f"{file}: of the wrong lines with {text}, {told[file, text]} of {n} are found" for (file, text), n in wanted.items() if told[file, text] != n]
     for file, line, text, head in found:
         print(f"{file}:{line}: {text}: {head} takes a field or a region, by its name")

@@ -6,7 +6,7 @@ from pathlib import Path
 
 root = Path(__file__).resolve().parent.parent
 known, modules = set(), set()
-for path in root.glob("crates/*/specs/**/*.antt"):
+for path in [*root.glob("crates/*/specs/**/*.antt"), *root.glob("crates/*/proofs/*.antt")]:
     modules.add(path.stem)
     text = path.read_text()
     known |= set(re.findall(r"^\s*(?:(?:abbrev|unfoldable|pub) )*(?:record |data )?([^\s:({]+)(?: \{[^}]*\})? :", text, flags=re.M))
@@ -30,7 +30,7 @@ for name in ("TRACE", "DECISIONS", "argument"):
         if (root / token).exists() or (root / "crates" / token).exists():
             seen += 1
             continue
-        if re.fullmatch(r"[A-Za-z0-9]+(\.[A-Za-z0-9-]+)+", token):
+        if re.fullmatch(r"\w+(\.[\w'-]+)+", token):
             parts = token.split(".")
             if parts[0] in modules | known and all(p in known for p in parts[1:]):
                 seen += 1

@@ -205,38 +205,51 @@ def two_runs(oracle):
 
 
 RT = """#!/bin/sh
-case "$1" in
-check) echo "fn words::eq: proved"; echo "rt: words proved (2 s)"; echo "rt: codec proved (unchanged since it was last proved)" ;;
-*) echo "rt: words proved (unchanged since it was last proved)"; [ "$2" != broken ] || { echo "rt: broken NOT PROVED"; exit 1; } ;;
+case "$*, ${PWD##*/}" in
+"all check, create_c")
+  printf '== words\\nfn words::eq: proved\\nlogic=proved functions=1\\n== codec\\n== create\\nrt: create: begins with what a check kept in a copy\\n'
+  printf '== create_c\\nlogic=proved functions=1\\n== summary\\nwords: ok\\n' ;;
+"lib, create_c") mkdir -p out && echo archive >out/libcreate_c.a ;;
+"all check, broken_c")
+  printf '== broken\\nfn broken::f: no proof: expected answers\\nlogic=not-proved\\n== broken_c\\n== summary\\nbroken: failed (1)\\nbroken_c: not run, since broken failed\\n'
+  exit 1 ;;
+*) exit 2 ;;
 esac
 """
-SHOWN = """4 crates are proved and the C calls compiled, once; this takes some minutes
-  words: proved in 2 s; 3 left, 0:00 so far
-  1 were proved before; 2 left, 0:00 so far
-  create: proved and compiled now ..
-  create: done; 1 left, 0:00 so far
-  broken: proved and compiled now ..
-rt: broken NOT PROVED
+SHOWN = """6 crates are proved and the C calls compiled, once; this takes some minutes
+  words: proved; 5 left, 0:00 so far
+  create_c: proved; 2 left, 0:00 so far
+  2 were proved before; 2 left, 0:00 so far
+  create: compiled now ..
+  create: done; 2 left, 0:00 so far
+fn broken::f: no proof: expected answers
+broken: failed (1)
+broken_c: not run, since broken failed
 """
 
 
 def proving():
-    """What is shown while crates are proved, by an `rt` that proves two, makes one library and fails at another."""
+    """What is shown while crates are proved, by an `rt` that proves two, finds two proved, makes one library and fails at another."""
     said = io.StringIO()
     with tempfile.TemporaryDirectory() as work:
         rt, path = Path(work) / "rt", os.environ["PATH"]
         rt.write_text(RT)
         rt.chmod(0o755)
+        for name in ("create_c", "broken_c"):
+            (Path(work) / "crates" / name).mkdir(parents=True)
         os.environ["PATH"] = f"{work}:{path}"
         try:
             with contextlib.redirect_stderr(said):
-                Proofs({"words", "codec"}, ["create", "broken"]).all()
+                Proofs(["create", "broken"], Path(work), ["words", "codec", "create", "create_c", "broken", "broken_c"]).all()
         except Fault as fault:
-            said.write(str(fault).split("\n", 1)[1])
+            said.write(str(fault))
         finally:
             os.environ["PATH"] = path
+        archives = {made.name: made.read_text() for made in (Path(work) / "target" / "staticlib").glob("*")}
     if said.getvalue() != SHOWN:
         faults.append(f"while crates are proved this is shown:\n{said.getvalue()}")
+    if archives != {"libcreate.a": "archive\n"}:
+        faults.append(f"the libraries made are {archives}")
 
 
 def main():

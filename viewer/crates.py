@@ -5,13 +5,13 @@ from pathlib import Path
 root = Path(__file__).resolve().parent.parent
 
 
-def dependencies():
+def dependencies(text=None):
     """The crates of crates.txt, each with those of the repository that it builds on."""
     out = {}
-    for line in (root / "crates.txt").read_text().split("\n"):
-        name, colon, rest = re.sub(r"#.*", "", line).partition(":")
+    for line in ((root / "crates.txt").read_text() if text is None else text).split("\n"):
+        head, colon, rest = re.sub(r"#.*", "", line).partition(":")
         if colon:
-            out[name.strip()] = rest.split()
+            out[head.split()[0]] = rest.split()  # behind the name the line may say what the crate is, as `staticlib`
     return {name: [d for d in rest if d in out] for name, rest in out.items()}
 
 

@@ -133,8 +133,8 @@ fn missing<T>() -> Result<T, String> {
 
 #[cfg(not(port))]
 fn portless<T>() -> Result<T, String> {
-    Err("this command needs the port, and the oracle was built without it: name the folder of its libraries, which `rt staticlib create` and \
-         `rt staticlib runner` write, in ORACLE_PORT, and build again"
+    Err("this command needs the port, and the oracle was built without it: name the folder of its libraries, which `c/libraries.py` \
+         writes, in ORACLE_PORT, and build again"
         .to_string())
 }
 

@@ -123,7 +123,7 @@ module _ (ws ws' : List ℕ) (sh : Shape) (s : State) (h : Held ws sh s) (x : �
         book_held ws ws' sh s (record { rows = swap_id i c s.book.rows; capacity = s.book.capacity; next = s.book.next }) h (fills_books ws ws' sh x p) refl
         (λ d l k mk. ⊎_elim
         (λ (z : slot_word (load ws sh) d k slot_place ≡ x). rw z (id ∙ sym a.id))
-        (λ (z : slot_word (load ws sh) d k slot_place ≡ x → ⊥). row_off (slot_word (load ws sh) d k slot_place) z 0)
+        (λ (z : slot_word (load ws sh) d k slot_place ≡ x → ⊥). row_off (slot_word (load ws sh) d k slot_place) z row_id)
         (same? (slot_word (load ws sh) d k slot_place) x))
         (record {
           next = root_same root_next_id ∙ r.book.next;

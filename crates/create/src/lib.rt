@@ -299,8 +299,7 @@ fn place(s: &mut [u64], p: &[u64], sh: Shape) -> u64
 }
 
 // Creation. Its result is 0, or 18 and no word has changed.
-#[unsafe(no_mangle)]
-pub extern "C" fn gurtxozal_create(state: &mut [u64], parameters: &[u64]) -> u64
+pub fn gurtxozal_create(state: &mut [u64], parameters: &[u64]) -> u64
     ensures words { after result state.new ≡ create_w state.old parameters.now }
     ensures meets { Meets state.old parameters.now result state.new }
 {

@@ -2,7 +2,8 @@
 -- and changes nothing, save the one reservation id spent by a transfer preparation refused after its id step."
 --
 -- The two calls end: their functions are proved to, whatever the words and lengths. Here is what they give. `Meets` is the runner's contract, `Creates` creation's, and
--- `Rep ws sh s` says that the words ws represent the well-formed state s, whose counts are sh. Assumes nothing.
+-- `Rep ws sh s` says that the words ws represent the well-formed state s, whose counts are sh.
+-- The theorems are `demand_1` and `demand_1_creation` of proofs/Demand1.antt. Assumes nothing.
 use Rattle.std.specs.Prelude.{◌≡◌, true, List, [], ◌∷◌, ◌↔◌, ℕ, ◌*◌, ◌≤◌, ◌<◌, length}
 use Rattle.std.proofs.Math.Option.{none, some}
 use Rattle.format.specs.Format.{answer_words}
@@ -12,10 +13,9 @@ use Rattle.model.specs.Request.{Request}
 use Rattle.model.specs.Words.{read_list}
 use Rattle.layout.specs.declared.Shape.{Shape}
 use Rattle.representation.specs.Represents.{Rep}
-use Rattle.create.specs.Meets.{Asked, Meets as Creates}
-use Rattle.contract.specs.Meets.{Called, Meets}
+use Rattle.create.specs.Meets.{Asked}
+use Rattle.contract.specs.Meets.{Called}
 use Rattle.promises.specs.Terms.{Each}
-use Rattle.promises.specs.Refused.{results, misuse, malformed, short, refusals, create_results, create_refused, create_kept}
 
 -- a call on any words ws, list and os gave x
 pub record Ends (ws list os : List ℕ) (x : Called) : Type 0 where
@@ -30,26 +30,9 @@ pub record Ends (ws list os : List ℕ) (x : Called) : Type 0 where
   -- spent (`Keeps` in Terms.antt)
   pub refused : (sh : Shape) (s : State) → Rep ws sh s → (rs : List Request) → read_list list ≡ some rs → answer_words * length rs ≤ length os → Each sh ws s rs x.answers x.state
 
-pub demand_1 : (ws list os : List ℕ) (x : Called) → Meets ws list os x → Ends ws list os x
-demand_1 ws list os x m = record {
-  result = results ws list os x m;
-  misuse = misuse ws list os x m;
-  malformed = malformed ws list os x m;
-  short = short ws list os x m;
-  kept = m.kept;
-  refused = refusals ws list os x m;
-}
-
 -- creation on any words ws and parameters ps gave r and left us
 pub record CreationEnds (ws ps : List ℕ) (r : ℕ) (us : List ℕ) : Type 0 where
   pub result : member r (0 ∷ 18 ∷ []) ≡ true
   -- "Outside these limits, or with too few lent words, it gives 18 and changes no word"
   pub refused : (r ≡ 18) ↔ (Asked ws ps → ⊥)
   pub kept : (r ≡ 0 → ⊥) → us ≡ ws
-
-pub demand_1_creation : (ws ps : List ℕ) (r : ℕ) (us : List ℕ) → Creates ws ps r us → CreationEnds ws ps r us
-demand_1_creation ws ps r us m = record {
-  result = create_results ws ps r us m;
-  refused = create_refused ws ps r us m;
-  kept = create_kept ws ps r us m;
-}

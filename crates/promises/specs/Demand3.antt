@@ -1,27 +1,22 @@
 -- DEMAND 3 of document 00, over words: the held and the plain run. `TwoRuns` is what the demand sets up, `Same` what it claims, each beside its words.
 -- What permitted, wanting and lowered states mean stands in crates/noninterference/specs/Runs.antt; lists and answers with ids lowered in Lower.antt; calls one after the
--- other in Terms.antt. Assumes nothing.
+-- other in Terms.antt. The theorem is `demand_3` of proofs/Demand3.antt. Assumes nothing.
 use Rattle.std.specs.Prelude.{◌≡◌, true, false, List, [], ◌∷◌, ◌++◌, map, ℕ, ◌+◌, ◌*◌, ◌<◌, length, get_or, take, drop}
-use Rattle.std.proofs.Common.{sym, ap, subst, ◌∙◌, arith}
 use Rattle.std.proofs.Math.Option.{Option, some}
 use Rattle.format.specs.Format.{answer_words}
 use Rattle.model.specs.Base.{every}
 use Rattle.model.specs.State.{till, State}
 use Rattle.model.specs.Request.{Route, Item, Request, Request.prepare_transfer, Answer.done}
-use Rattle.model.specs.Step.{step, run}
+use Rattle.model.specs.Step.{step}
 use Rattle.model.specs.WellFormed.{Equal}
 use Rattle.model.specs.Words.{read_list, words_of}
 use Rattle.layout.specs.declared.Shape.{Shape}
 use Rattle.representation.specs.Represents.{Rep}
-use Rattle.invariant.proofs.Pages.{till_sane}
 use Rattle.noninterference.specs.Names.{value_of}
-use Rattle.noninterference.specs.Runs.{is_move, permitted, wanting, accepted, lowered, lower_request, lower_table, lower_state}
-use Rattle.noninterference.proofs.Theorem.{held_and_plain}
-use Rattle.noninterference.proofs.Plans.{PlansStand, held_and_plain_plans}
-use Rattle.promises.specs.Lower.{lower_words, lower_answers, Ending, Ending.rolled_back, Ending.committed, end_h, end_p, last_h, last_p, reads_lowered, reads_both, reads_last_h, reads_last_p}
+use Rattle.noninterference.specs.Runs.{is_move, permitted, wanting, lowered, lower_table, lower_state}
+use Rattle.noninterference.specs.Plans.{PlansStand}
+use Rattle.promises.specs.Lower.{lower_words, lower_answers, Ending, Ending.rolled_back, Ending.committed, end_h, end_p}
 use Rattle.promises.specs.Terms.{Call, Calls, left, list_of, answers_of, Passed}
-use Rattle.promises.specs.Calls.{run_both, together}
-use Rattle.promises.specs.Held.{held_words, plain_words, lowered_answers, closed_words, ends, as_many, plans_end}
 
 pub record TwoRuns : Type 0 where
   -- "Two runs start from any two equal, well formed states": H's words ws represent s, P's words us represent u
@@ -86,40 +81,3 @@ pub record Same (x : TwoRuns) : Type 0 where
   -- document 02, 1: "A shopkeeper's held transfer must not make any plan stale": the plans are the same, ids above t one lower, and what is stale in H is stale in P,
   -- and nothing else
   pub plans : PlansStand till (lowered x.t) state_h state_p
-
-pub demand_3 : (x : TwoRuns) → Same x
-demand_3 x =
-    let transfer : Request = prepare_transfer x.table x.route x.banned_object x.banned_kind x.items in
-    let values : List ℕ = map value_of x.items in
-    let plain : List Request = map (lower_request x.t) x.requests in
-    let last : Request = last_h x.ending x.t in
-    let closings : List Request = last_p x.ending x.table values in
-    let first : State = (step till x.s transfer).0 in
-    let ht = together x.sh x.ws x.s x.hs (transfer ∷ x.requests ++ (last ∷ [])) x.start_h x.calls_h
-    (ap read_list x.list_h ∙ reads_both x.transfer (x.list ++ end_h x.ending x.t) (transfer ∷ []) (x.requests ++ (last ∷ [])) x.transfers
-    (reads_both x.list (end_h x.ending x.t) x.requests (last ∷ []) x.reads (reads_last_h x.ending x.t))) in
-    let pt = together x.sh x.us x.u x.ps (plain ++ closings) x.start_p x.calls_p
-    (ap read_list x.list_p ∙ reads_both (lower_words x.t x.list) (end_p x.ending x.table values) plain closings (reads_lowered x.t x.list x.requests x.reads)
-    (reads_last_p x.ending x.table values)) in
-    let h = held_words x.s x.table x.route x.banned_object x.banned_kind x.items x.requests last (answers_of x.hs) x.t ht.answers x.accepted x.id in
-    let p = plain_words x.t x.u x.requests closings (answers_of x.ps) pt.answers in
-    let g = held_and_plain till till_sane x.s x.u x.start_h.well_formed x.equal x.table x.route x.banned_object x.banned_kind x.items x.moves x.t h.opened
-    x.requests x.permits x.wants in
-    let e = ends x.ending x.t x.table values (run till first x.requests) (run till x.u plain) g in
-    let stale = held_and_plain_plans till till_sane x.s x.u x.start_h.well_formed x.equal x.table x.route x.banned_object x.banned_kind x.items x.moves x.t h.opened
-    x.requests x.permits x.wants in
-    record {
-      passed = (ht.passed, pt.passed);
-      ended = h.last ∙ ap words_of e.done_H;
-      closed = λ q i lt. ap (λ (l : List ℕ). get_or l (answer_words * i) 18) p.last
-          ∙ closed_words (run till (run till x.u plain).0 closings).1 e.done_P i 18 (omega (arith, as_many x.ending x.table x.items (run till x.u plain).0 q));
-      answers = p.list ∙ lowered_answers x.t first x.requests (run till x.u plain).1 g.answers ∙ ap (lower_answers x.t x.requests) (sym h.list);
-      state_h = (step till (run till first x.requests).0 last).0;
-      state_p = (run till (run till x.u plain).0 closings).0;
-      held = subst (Rep (left x.ws x.hs) x.sh) (run_both till first x.requests (last ∷ [])).0 ht.state;
-      plain = subst (Rep (left x.us x.ps) x.sh) (run_both till x.u plain closings).0 pt.state;
-      whole = e.whole;
-      tables = e.tables;
-      next = e.next;
-      plans = plans_end x.ending x.t x.table values (run till first x.requests).0 (run till x.u plain).0 stale;
-    }

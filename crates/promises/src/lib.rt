@@ -1,3 +1,3 @@
-// What a reader has to believe, a page for each demand: all of it stands in specs.
+// What a reader has to believe, a page for each demand: the definitions stand in specs/, the theorems in proofs/.
 
 #![tactic(auto)]

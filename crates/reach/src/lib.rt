@@ -1,3 +1,3 @@
-// The promises speak of every well-formed state, since each has words. All of it stands in specs.
+// The promises speak of every well-formed state, since each has words. The definitions stand in specs/, the theorems in proofs/.
 
 #![tactic(auto)]

@@ -1,7 +1,7 @@
 -- The first slots of the free order in the items of the row to come. Assumes nothing.
 use Rattle.std.specs.Prelude.{◌≡◌, take}
 use Rattle.std.proofs.Math.Path.{refl, ap}
-use Rattle.std.proofs.Common.{◌∙◌, arith}
+use Rattle.std.proofs.Common.{subst, sym, ◌∙◌, arith}
 use Rattle.std.proofs.Math.Bool.{and-false}
 use mathlib.Core.List.{List, [], ◌∷◌}
 use Prim.Native.Nat.{ℕ, zero, suc, ◌+◌, ◌-◌, ◌≤◌, ◌<◌}
@@ -48,7 +48,7 @@ module _ (sh : Shape) (b x : ℕ) where
       let k₁ : l - 1 ≡ k = omega (arith, c.0) in
       let l₁ : slot_word (load ws sh) b (l - 1) slot_next_free ≡ next k = ap (λ (i : ℕ). slot_word (load ws sh) b i slot_next_free) k₁ ∙ e k in
       let kept = slot_kept (load ws sh) (load (save ws sh (item x j item_slot) (l - 1)) sh) (fills_books ws (save ws sh (item x j item_slot) (l - 1)) sh x (fills_item ws sh h x j item_slot (l - 1))).only in
-      rw l₁ (
+      subst (λ (f : ℕ). Items (λ i q. load (listed_w ws₁ sh b x (suc j) f n) sh (item x i item_slot) ≡ q) j (k ∷ take n ks)) (sym l₁) (
         listed_before n (save ws sh (item x j item_slot) (l - 1)) (suc j) (next k) j h₁ (omega arith)
             ∙ load_save ws sh h (item x j item_slot) (l - 1) (in_item sh x j item_slot low (omega arith) (omega arith)) (item x j item_slot)
             ∙ rw (eq-eqb j j refl, eq-eqb x x refl) k₁,

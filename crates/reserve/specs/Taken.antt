@@ -24,7 +24,8 @@ use Rattle.storage.specs.Slots.{see, slot_gen}
 use Rattle.storage.specs.Ops.{seen, take_w}
 use Rattle.storage.specs.Take.{taken}
 use Rattle.storage.specs.Turns.{take_turns}
-use Rattle.storage.specs.Reps.{Held, ready_of, take_held}
+use Rattle.storage.specs.Reps.{Held, ready_of}
+use Rattle.storage.proofs.Taken.{take_held}
 use Rattle.book.specs.Find.{RowAt}
 use Rattle.book.specs.Marks.{names_reservation}
 use Rattle.book.specs.Fades.{row_turned}

@@ -84,8 +84,7 @@ fn run_within(s: &mut [u64], sh: Shape, rq: &[u64], out: &mut [u64]) -> u64
 }
 
 // A list of requests on a state. The result is 18, 19 or 20 and no lent word has changed, or 0 and every request has run.
-#[unsafe(no_mangle)]
-pub extern "C" fn gurtxozal_run(state: &mut [u64], list: &[u64], answers: &mut [u64]) -> u64
+pub fn gurtxozal_run(state: &mut [u64], list: &[u64], answers: &mut [u64]) -> u64
     ensures words { called result state.new answers.new ≡ run_w one_r well_b state.old list.now answers.old }
     ensures meets { Meets state.old list.now answers.old (called result state.new answers.new) }
 {

@@ -1,30 +1,28 @@
 -- The operations on a table in the state: words that represent a state come to represent the model's state after the operation. Assumes nothing.
-use Rattle.std.specs.Prelude.{◌≡◌, refl, true, false, List, ◌∷◌, ℕ, ◌-◌, ◌<◌, length}
+use Rattle.std.specs.Prelude.{◌≡◌, refl, true, List, ℕ, ◌-◌, ◌<◌, length}
 use Rattle.std.proofs.Common.{sym, ap, ◌∙◌, ⊎_elim, arith}
 use Rattle.words.specs.Pick.{clash}
 use Rattle.codec.specs.Codec.{next_generation}
-use Rattle.model.specs.State.{till, Handle, Slot, Slot.vacant, Slot.reserved, Slot.transfer_reserved, Slot.occupied, Table, State, generation, is_busy, is_absent}
-use Rattle.model.specs.Storage.{with_free, place, keep, vacate}
+use Rattle.model.specs.State.{till, Handle, Slot, Slot.vacant, Slot.transfer_reserved, Slot.occupied, Table, State, generation, is_busy}
+use Rattle.model.specs.Storage.{place, keep, vacate}
 use Rattle.model.specs.Change.{with_table}
 use Rattle.model.proofs.Tests.{put_other, put_same}
 use Rattle.invariant.proofs.Pointwise.{Alike, place_alike, place_slots, vacate_alike, vacate_slots}
-use Rattle.invariant.proofs.Pages.{till_sane, vacant_there}
-use Rattle.invariant.proofs.Orders.{Sound, good_of, take_good, keep_good, vacate_good}
+use Rattle.invariant.proofs.Pages.{till_sane}
+use Rattle.invariant.proofs.Orders.{Sound, keep_good, vacate_good}
 use Rattle.layout.specs.declared.Shape.{Shape}
 use Rattle.layout.specs.Layout.{Mem, rank, row, item, load}
 use Rattle.layout.specs.ShapeOf.{roots_kept}
-use Rattle.layout.specs.Fields.{slot_tag, slot_place, slot_position, row_id, row_table, row_length, item_slot, item_operation, item_moved}
-use Rattle.layout.specs.Values.{tag_reserved, tag_transfer_reserved, operation_move}
+use Rattle.layout.specs.Fields.{slot_tag, slot_place, slot_position, row_id, row_table, row_length, item_operation, item_moved}
+use Rattle.layout.specs.Values.{tag_transfer_reserved, operation_move}
 use Rattle.layout.specs.RegionNames.{region_root}
 use Rattle.representation.specs.Represents.{slot_word, is_marked, Reps, Rep}
 use Rattle.representation.specs.Told.{marked_full}
-use Rattle.storage.specs.Order.{same?, occurs_head}
+use Rattle.storage.specs.Order.{same?}
 use Rattle.storage.specs.Sight.{look}
-use Rattle.storage.specs.Slots.{free_vacant}
-use Rattle.storage.specs.Ops.{vacate_w, take_w, move_w, occupy_w}
-use Rattle.storage.specs.Take.{taken, reserved_mark}
+use Rattle.storage.specs.Ops.{vacate_w, move_w, occupy_w}
 use Rattle.storage.specs.Keep.{moving_mark}
-use Rattle.storage.specs.Turns.{Turns, Ready, vacate_turns, take_turns, move_turns, occupy_turns}
+use Rattle.storage.specs.Turns.{Turns, Ready, vacate_turns, move_turns, occupy_turns}
 use Rattle.storage.specs.Kept.{RowsStay, MarkIs, mark_kept}
 use Rattle.storage.specs.Whole.{Placed, placed_of, placed_with, fit_of, off_table, table_rows, with_table_law}
 
@@ -106,23 +104,6 @@ module _ (ws : List ℕ) (sh : Shape) (s : State) (h : Held ws sh s) (b : ℕ) (
       (λ e. let q : (vacate till t k).slots k ≡ vacant (next_generation (generation (t.slots k)))
       = ap (λ (f : ℕ → Slot). f k) (vacate_slots till t k) ∙ put_same t.slots k (vacant (next_generation (generation (t.slots k)))) in
       clash (sym (ap is_marked q) ∙ e) refl)
-
-  -- TAKE: the row in place x names the slot
-  pub take_held : (k : ℕ) (ks : List ℕ) (x j : ℕ) → (s.tables b).free ≡ k ∷ ks → Names (load ws sh) s b k x j item_slot
-      → Held (take_w ws sh b k x j) sh (with_table s b (taken (s.tables b) k ks (load ws sh (row x row_id))))
-  take_held k ks x j first p = let t : Table = s.tables b in
-      let o : Sound till t t.free = h.placed.sound b l in
-      let y : Slot = reserved (generation (t.slots k)) (load ws sh (row x row_id)) in
-      let u : Table = taken t k ks (load ws sh (row x row_id)) in
-      let here : is_absent (t.slots k) ≡ false = vacant_there (t.slots k) (free_vacant t o k (rw first (occurs_head k ks))) in
-      let turn = take_turns ws sh b t (ready_of ws sh s h b l) k ks first x j in
-      let mk = reserved_mark (look (load ws sh) b) k x j in
-      let a = place_alike till (with_free t ks) k y in
-      turned ws (take_w ws sh b k x j) sh s h b l k _ u turn
-      (record { limit = a.limit; mask = a.mask; life = a.life; epoch = a.epoch; size = a.size; detached = a.detached; frame = a.frame })
-      (take_good till till_sane t k ks first o y refl (good_of till till_sane t t.free o k here))
-      (λ i n. ap (λ (f : ℕ → Slot). f i) (place_slots till (with_free t ks) k y) ∙ put_other t.slots k y i n)
-      (λ e. mark_is ws (take_w ws sh b k x j) sh s h b l k _ u turn x j item_slot tag_reserved mk.0 mk.1 mk.2 (omega arith) p)
 
   -- MOVE: the row in place x names the slot
   pub move_held : (k x j : ℕ) → is_busy ((s.tables b).slots k) ≡ true → Names (load ws sh) s b k x j item_moved

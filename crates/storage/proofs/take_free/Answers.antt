@@ -1,5 +1,4 @@
-use Rattle.storage.specs.Late.{take_is, free_first}
-use borrow.Author.Rules.{rules}
+use Rattle.storage.proofs.Last.{take_is, free_first}
 use Rattle.storage.proofs.take_free.Goals as goal
 
 pub returns : goal.returns

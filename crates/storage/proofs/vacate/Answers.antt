@@ -1,5 +1,4 @@
-use Rattle.storage.specs.Late.{vacate_is}
-use borrow.Author.Rules.{rules}
+use Rattle.storage.proofs.Last.{vacate_is}
 use Rattle.storage.proofs.vacate.Goals as goal
 
 pub returns : goal.returns

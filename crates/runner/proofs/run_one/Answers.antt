@@ -1,0 +1,5 @@
+use borrow.Author.Rules.{rules}
+use Rattle.runner.proofs.run_one.Goals as goal
+
+pub returns : goal.returns
+returns c = cc
