@@ -1,4 +1,4 @@
--- THE STATE CHECK, WHOLE: it answers exactly whether the words represent a well_formed_law state. Assumes nothing.
+-- THE STATE CHECK, WHOLE: it answers exactly whether the words represent a well-formed state. Assumes nothing.
 use Rattle.std.specs.Prelude.{◌≡◌, refl, Bool, true, false, ◌&&◌, List, ℕ}
 use Rattle.std.proofs.Math.Path.{sym}
 use Rattle.std.proofs.Common.{ap, subst, ◌∙◌, arith}
@@ -67,7 +67,7 @@ module _ (ws : List ℕ) (sh : Shape) where
   held_here : (s : State) → Represents sh (load ws sh) s → WellFormed till s → planned_in s.book.rows ≡ held_frames (load ws sh)
   held_here s m w = ap planned_in (view sh (load ws sh) s m w) ∙ held_count (load ws sh)
 
-  -- NO IS RIGHT: of words that represent a well_formed_law state the answer is yes
+  -- NO IS RIGHT: of words that represent a well-formed state the answer is yes
   pub complete : (s : State) → Rep ws sh s → well_b ws sh ≡ true
   unfolding well_b parts_b
   complete s r =
