@@ -10,7 +10,8 @@ use Rattle.representation.specs.Unique.{shape_for}
 use Rattle.written.proofs.Whole.{written, has_words}
 use Rattle.written.proofs.Limits.{written_small}
 use Rattle.wellformed.specs.View.{view_of}
-use Rattle.wellformed.specs.Whole.{check_b, check_complete, shown}
+use Rattle.wellformed.specs.Whole.{check_b}
+use Rattle.wellformed.proofs.Whole.{check_complete, shown}
 use Rattle.contract.specs.Meets.{Called, Meets}
 use Rattle.promises.proofs.Demand1.{demand_1}
 use Rattle.reach.specs.Every.{Words, Starts}

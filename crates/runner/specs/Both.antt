@@ -3,7 +3,8 @@ use Rattle.std.specs.Prelude.{◌≡◌, List, ℕ, length}
 use Rattle.words.specs.Words.{Small}
 use Rattle.layout.specs.Layout.{load}
 use Rattle.wellformed.specs.View.{view_of}
-use Rattle.wellformed.specs.Whole.{well_b, sound, complete}
+use Rattle.wellformed.specs.Whole.{well_b}
+use Rattle.wellformed.proofs.Whole.{sound, complete}
 use Rattle.contract.specs.Meets.{Called, Meets}
 use Rattle.contract.specs.Call.{run_w}
 use Rattle.contract.proofs.Call.{run_meets}

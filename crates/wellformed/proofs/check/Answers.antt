@@ -1,5 +1,6 @@
 use Rattle.layout.specs.Layout.{load}
-use Rattle.wellformed.specs.Code.{quiet_b, too_short, no_parts, read_used}
+use Rattle.wellformed.specs.Code.{quiet_b}
+use Rattle.wellformed.proofs.Bodies.{too_short, no_parts, read_used}
 use Rattle.counts.specs.Used.{used_to}
 use mathlib.Core.Path.{refl}
 use native.Mathlib.Omega.{arith}

@@ -1,5 +1,5 @@
 use Rattle.layout.specs.Layout.{load}
-use Rattle.wellformed.specs.Code.{top_in, check_kept, check_answer}
+use Rattle.wellformed.proofs.Bodies.{top_in, check_kept, check_answer}
 use Rattle.counts.specs.Used.{used_few}
 use native.Mathlib.Omega.{arith}
 use Rattle.wellformed.proofs.check_handles.Goals as goal

@@ -1,5 +1,5 @@
 use borrow.Author.Tests.{not-true, not-false}
-use Rattle.wellformed.specs.Code.{read_no, no_book, no_outline, no_orders, quiet_all}
+use Rattle.wellformed.proofs.Bodies.{read_no, no_book, no_outline, no_orders, quiet_all}
 use native.Mathlib.Omega.{arith}
 use Rattle.layout.specs.Layout.{load}
 use Rattle.wellformed.proofs.check_parts.Goals as goal
