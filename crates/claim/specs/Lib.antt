@@ -1,12 +1,4 @@
 pub mod EndsOps
 pub mod EndsCode
-pub mod Ends
 pub mod Ops
 pub mod Code
-pub mod Found
-pub mod Entries
-pub mod Rollback
-pub mod Sent
-pub mod Commit
-pub mod Pairs
-pub mod Direct

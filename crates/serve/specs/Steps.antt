@@ -22,12 +22,12 @@ use Rattle.parcel.specs.Opened.{retire_object_does, new_object_does, duplicate_d
 use Rattle.parcel.specs.Released.{release_parcel_does}
 use Rattle.parcel.specs.Publishing.{ids_at}
 use Rattle.parcel.specs.Published.{publish_does}
-use Rattle.transfer.specs.Prepared.{transfer_at_does}
-use Rattle.transfer.specs.Consumption.{prepare_consumption_does}
-use Rattle.claim.specs.Ends.{abort_does, trim_does}
-use Rattle.claim.specs.Rollback.{rollback_does}
-use Rattle.claim.specs.Commit.{commit_does}
-use Rattle.claim.specs.Direct.{direct_commit_does, direct_rollback_does}
+use Rattle.transfer.proofs.Prepared.{transfer_at_does}
+use Rattle.transfer.proofs.Consumption.{prepare_consumption_does}
+use Rattle.claim.proofs.Ends.{abort_does, trim_does}
+use Rattle.claim.proofs.RolledBack.{rollback_does}
+use Rattle.claim.proofs.Committed.{commit_does}
+use Rattle.claim.proofs.Direct.{direct_commit_does, direct_rollback_does}
 use Rattle.teardown.specs.Teardown.{remove_stopping_owner_does, teardown_start_does, teardown_step_does, teardown_finish_does}
 use Rattle.contract.specs.Run.{Steps}
 use Rattle.contract.proofs.Short.{step_short}

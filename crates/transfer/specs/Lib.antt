@@ -6,9 +6,3 @@ pub mod TransferCode
 pub mod Plain
 pub mod Seen
 pub mod Stored
-pub mod Claim
-pub mod Consumption
-pub mod Faults
-pub mod Raised
-pub mod Entries
-pub mod Prepared

@@ -14,7 +14,7 @@ use Rattle.representation.specs.Represents.{Rep}
 use Rattle.book.specs.Ops.{reservation_link}
 use Rattle.book.specs.Found.{Open, reservation_none, reservation_some}
 use Rattle.claim.specs.Ops.{claim_link, paired}
-use Rattle.claim.specs.Found.{Claimed, claim_none, claim_some}
+use Rattle.claim.proofs.Found.{Claimed, claim_none, claim_some}
 
 -- "unknown .. open row of the kind named .. lengths differ": 18, else the decision goes on with the two rows
 abbrev pub on_pair : State → ℕ → ℕ → (ℕ → List Entry → ℕ → List ℕ → Decision) → Decision

@@ -20,8 +20,8 @@ use Rattle.book.specs.Vacated.{with_table_at as table_at_law}
 use Rattle.answer.specs.Does.{Does, does_on_row}
 use Rattle.book.specs.Keeps.{Keeps, bare_given}
 use Rattle.claim.specs.Ops.{claim_link, undone_w, rolled_w, rollback_r}
-use Rattle.claim.specs.Found.{Claimed, claim_none, claim_some, own, range, freed}
-use Rattle.claim.specs.Entries.{undone, undone_keeps}
+use Rattle.claim.proofs.Found.{Claimed, claim_none, claim_some, own, range, freed}
+use Rattle.claim.proofs.Entries.{undone, undone_keeps}
 
 module _ (ws : List ℕ) (sh : Shape) (s : State) (r : Rep ws sh s) where
   module _ (x i b : ℕ) (es : List Entry) (o : Claimed (load ws sh) s x i b es) where

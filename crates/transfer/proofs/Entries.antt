@@ -24,9 +24,9 @@ use Rattle.lookup.specs.View.{view_of, handle_of}
 use Rattle.book.specs.Decided.{spare_low}
 use Rattle.transfer.specs.Ops.{moved_w}
 use Rattle.transfer.specs.Preparing.{copied_p, copied_w, handle_entry_w, entry_w, entries_w}
-use Rattle.transfer.specs.Claim.{Entered, enter_all, enter_fills, moved_enters, moved_in}
-use Rattle.transfer.specs.Faults.{Found}
-use Rattle.transfer.specs.Raised.{view_found_at}
+use Rattle.transfer.proofs.Claim.{Entered, enter_all, enter_fills, moved_enters, moved_in}
+use Rattle.transfer.proofs.Faults.{Found}
+use Rattle.transfer.proofs.Raised.{view_found_at}
 
 -- a copy
 module _ (ws : List ℕ) (sh : Shape) (room : total sh ≤ length ws) (x j : ℕ) (h : PreparedHandle) (r : ℕ) where

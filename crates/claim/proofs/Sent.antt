@@ -15,7 +15,7 @@ use Rattle.layout.specs.Sizes.{batch_max}
 use Rattle.representation.specs.Represents.{HandleIs, EntryIs, Items}
 use Rattle.book.specs.Ops.{Fills, fills_none, fills_then, fills_item}
 use Rattle.claim.specs.Ops.{each, sent_rights, send_w}
-use Rattle.claim.specs.Entries.{sent_is}
+use Rattle.claim.proofs.Entries.{sent_is}
 
 -- the rights sent are told by the words of the entry
 rights_same : (m n : Mem) (x j : ℕ) → ((f : ℕ) → n (item x j f) ≡ m (item x j f)) → sent_rights n x j ≡ sent_rights m x j

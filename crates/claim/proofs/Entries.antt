@@ -43,9 +43,12 @@ each_more f ws vs j n e = ap (λ (us : List ℕ). each f us (suc j) n) e
 
 -- ---- one entry
 
+occupied_alike : (ws : List ℕ) (sh : Shape) (b k l o p r q f g : ℕ) → k ≡ l → o ≡ p → r ≡ q → f ≡ g → occupy_w ws sh b k o r f ≡ occupy_w ws sh b l p q g
+occupied_alike ws sh b k l o p r q f g e₀ e₁ e₂ e₃ = rw (e₀, e₁, e₂, e₃)
+
 undo_moved : (ws : List ℕ) (sh : Shape) (b x j k : ℕ) (h : Handle) (r : ℕ) → EntryIs (load ws sh) x j (moved k h r) → undo_w ws sh b x j ≡ occupy_w ws sh b k h.object h.rights h.flags
 unfolding undo_w
-undo_moved ws sh b x j k h r p = rw (p.0, p.1, p.2.0, p.2.1, p.2.2)
+undo_moved ws sh b x j k h r p = rw p.0 (occupied_alike ws sh b _ k _ h.object _ h.rights _ h.flags p.1 p.2.0 p.2.1 p.2.2)
 
 undo_copied : (ws : List ℕ) (sh : Shape) (b x j : ℕ) (h : Handle) → EntryIs (load ws sh) x j (copied h) → undo_w ws sh b x j ≡ lower_w ws sh h.object
 unfolding undo_w

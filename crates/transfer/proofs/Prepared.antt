@@ -41,10 +41,10 @@ use Rattle.book.specs.Decided.{decided_by, refused_when, accepted_when, left_is,
 use Rattle.transfer.specs.Ops.{claim_w}
 use Rattle.transfer.specs.Checks.{items_at, transfer_refusal, items_refusal}
 use Rattle.transfer.specs.Preparing.{Tried, raised_items, entries_w, refuse_spent_r, opened_r, items_r, transfer_r, transfer_at}
-use Rattle.transfer.specs.Claim.{claim_held}
-use Rattle.transfer.specs.Faults.{Tells, Found, items_tell, found_all}
-use Rattle.transfer.specs.Raised.{tally, Outcome, raised_outcome}
-use Rattle.transfer.specs.Entries.{entries_listed}
+use Rattle.transfer.proofs.Claim.{claim_held}
+use Rattle.transfer.proofs.Faults.{Tells, Found, items_tell, found_all}
+use Rattle.transfer.proofs.Raised.{tally, Outcome, raised_outcome}
+use Rattle.transfer.proofs.Entries.{entries_listed}
 use Rattle.format.specs.Ops.{op_prepare_transfer}
 
 -- ---- the id
@@ -148,7 +148,8 @@ module _ (ws : List ℕ) (sh : Shape) (s : State) (i : Rep ws sh s) (os : List �
 
   batch_is : table_refusal (load ws sh) sh b ≡ 0 → transfer_refusal (load ws sh) sh b (length qs) ≡ batch_by'
   unfolding transfer_refusal
-  batch_is e = rw (e, left_is ws sh s i, r.book.next)
+  batch_is e = rw (e, left_is ws sh s i)
+      (ap (λ (x : ℕ). pick (eqb (length qs) 0) 17 (pick (ltb batch_max (length qs)) 13 (pick (free_row s) (pick (eqb x last_id) 12 0) 1))) r.book.next)
 
   table_word : eqb (table_refusal (load ws sh) sh b) 0 ≡ false → transfer_refusal (load ws sh) sh b (length qs) ≡ table_refusal (load ws sh) sh b
   unfolding transfer_refusal

@@ -38,7 +38,7 @@ use Rattle.lookup.specs.View.{view_of, handle_of, named}
 use Rattle.lookup.specs.Named.{view_is}
 use Rattle.lookup.specs.Read.{object_known}
 use Rattle.transfer.specs.Preparing.{copy_link, Tried, tried, raised_item, lowered_item, lowered_items, raised_items}
-use Rattle.transfer.specs.Faults.{Tells, Found, raise_tells}
+use Rattle.transfer.proofs.Faults.{Tells, Found, raise_tells}
 
 -- ---- words that differ in objects alone
 

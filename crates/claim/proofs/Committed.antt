@@ -28,9 +28,9 @@ use Rattle.book.specs.Vacated.{with_table_at as table_at_law}
 use Rattle.answer.specs.Does.{Does, does_on_row}
 use Rattle.book.specs.Keeps.{Keeps}
 use Rattle.claim.specs.Ops.{claim_link, left_w, sent_w, committed_w, commit_r}
-use Rattle.claim.specs.Found.{Claimed, claim_none, claim_some, own, range, freed}
-use Rattle.claim.specs.Entries.{left_keeps}
-use Rattle.claim.specs.Sent.{sent_fills, sent_row, sent_items}
+use Rattle.claim.proofs.Found.{Claimed, claim_none, claim_some, own, range, freed}
+use Rattle.claim.proofs.Entries.{left_keeps}
+use Rattle.claim.proofs.Sent.{sent_fills, sent_row, sent_items}
 
 -- the moved slots of a claim of table b fell vacant
 abbrev pub left : State → ℕ → List Entry → State

@@ -32,7 +32,7 @@ use Rattle.lookup.specs.Named.{Opens, Active, active_on, table_open, table_refus
 use Rattle.lookup.specs.Read.{on_opened, opened_known}
 use Rattle.book.specs.Decided.{decided_by, refused_when, accepted_when, left_is, free_place, next_after}
 use Rattle.transfer.specs.Ops.{moved_w, claim_w, consume_refusal, consumed_r, consumption_r}
-use Rattle.transfer.specs.Claim.{moved_enters, moved_in, enter_fills, claim_held}
+use Rattle.transfer.proofs.Claim.{moved_enters, moved_in, enter_fills, claim_held}
 
 abbrev consume_by : Bool → Bool → Bool → Bool → ℕ
 consume_by c k o i = pick c (pick k (pick o (pick i 12 0) 2) 4) 5

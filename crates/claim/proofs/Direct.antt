@@ -38,14 +38,14 @@ use Rattle.book.specs.Close.{close_held, close_other, ids_places}
 use Rattle.book.specs.Vacated.{with_table_at as table_at_law}
 use Rattle.answer.specs.Does.{Both, Does, does_refused, does_accepted}
 use Rattle.book.specs.Found.{Open}
-use Rattle.claim.specs.Ends.{abort_does}
+use Rattle.claim.proofs.Ends.{abort_does}
 use Rattle.book.specs.Keeps.{Keeps, keeps_then, bare_given}
 use Rattle.claim.specs.Ops.{rolled_w, left_w, filled_w, direct_w, direct_commit_r, direct_rollback_r}
-use Rattle.claim.specs.Found.{Claimed, own}
-use Rattle.claim.specs.Entries.{Busy, undone, filled_keeps}
-use Rattle.claim.specs.Rollback.{rolled_held, rolls}
-use Rattle.claim.specs.Commit.{left, left_kept, left_free}
-use Rattle.claim.specs.Pairs.{Pair, on_pair_law, pairs}
+use Rattle.claim.proofs.Found.{Claimed, own}
+use Rattle.claim.proofs.Entries.{Busy, undone, filled_keeps}
+use Rattle.claim.proofs.RolledBack.{rolled_held, rolls}
+use Rattle.claim.proofs.Committed.{left, left_kept, left_free}
+use Rattle.claim.proofs.Pairs.{Pair, on_pair_law, pairs}
 
 module _ (ws : List ℕ) (sh : Shape) (s : State) (r : Rep ws sh s) where
   f : Fits s

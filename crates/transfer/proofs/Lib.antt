@@ -1,0 +1,6 @@
+pub mod Claim
+pub mod Consumption
+pub mod Faults
+pub mod Raised
+pub mod Entries
+pub mod Prepared
