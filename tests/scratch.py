@@ -6,7 +6,7 @@ from pathlib import Path
 
 root = Path(__file__).resolve().parent.parent
 sys.path.insert(0, str(root))
-from viewer.crates import below, dependencies  # noqa: E402
+from viewer.crates import above, below, dependencies  # noqa: E402,F401
 
 
 def copied(scratch, top=None, changed=None):
