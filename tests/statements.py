@@ -265,7 +265,7 @@ def printed():
                 if re.match(r"\s*(?:pub )?record ", declaration.text):
                     binders, fields = parameters(declaration)
                     text += "shown : " + "".join(f"({b} : _) → " for b in binders) + f"promise {' '.join(binders)} → ℕ\n".replace("promise  →", "promise →")
-                    text += f"shown {' '.join([*binders, 'it'])} =\n" + "".join(f"    let {f} = it .{f} in\n" for f in fields) + "    ?shown\n"
+                    text += f"shown {' '.join([*binders, 'it'])} =\n" + "".join(f"    let {f} = it.{f} in\n" for f in fields) + "    ?shown\n"
                 else:
                     text += "shown : ℕ\nshown = let it = promise in ?shown\n"
                 shown.append((f"Shown{len(shown)}", of, where, name))
@@ -278,7 +278,14 @@ def printed():
         found = re.search(r"proofs/%s\.antt:\d+:\d+: goal \?shown in `shown`\n((?:    .*\n|  ⊢.*\n)*)" % m, log)
         if not found:
             sys.exit(f"statements.py: the checker does not print {of} {where}.{name}:\n{log[-1500:]}")
-        out[of, where, name] = [l[4:] for l in found.group(1).split("\n") if l.startswith("    ")]
+        out[of, where, name] = entries = []
+        for line in found.group(1).split("\n"):
+            if line.startswith("  ⊢"):
+                break
+            if re.match(r"     ", line):  # a type that is printed on several lines
+                entries[-1] += " " + line.strip()
+            elif line.strip():
+                entries.append(line.strip())
     return out
 
 
