@@ -1,7 +1,8 @@
 #!/usr/bin/env python3
 """Every command that README.md and docs/ give can be given: each is run, or, where it takes minutes or is run by the gate already, its program, flags and files are looked up.
 
-A command is a span in backticks, or an indented line, that begins with a program of PROGRAMS. FILE, CRATE and NAME stand for an example and the crate `basket`. A command that
+A command is a span in backticks, or an indented line, that begins with a program of PROGRAMS. FILE, CRATE and NAME stand for an example and the crate `basket`, LOG for what `rt must-fail basket`
+prints. What `rt` does in a crate's folder (INSIDE) is run in that of `basket`. A command that
 writes files of the repository (WRITES) is run in a copy, and must leave there what stands here. The benchmark is run with `--short` added, and the tables that it prints must be those of
 docs/performance.md. A command for which there is no rule is a fault. It prints what it ran, with the seconds, and what it only looked at, with the reason. docs/landings, which tells
 what was, is left to its time. The crates must be proved; where the port's libraries (c/test.sh makes them), the oracle (oracle/test.sh builds it) or the Rust's sources are missing, what
@@ -18,9 +19,14 @@ import tempfile
 import time
 from pathlib import Path
 
-root = Path(__file__).resolve().parent.parent
+from scratch import linked, root
+
 PROGRAMS = r"(?:\./[\w.]+|rt [a-z]|(?:tests|docs|c|oracle|\.ci)/[\w/-]+(?:\.py|\.sh)\b|\.ci/run|oracle/target/release/\w+|oracle [a-z]|cargo |grep |[A-Z_]+=\S+ )"
-WRITES = ("--write", "--record", "record recorded", "rt fmt", "tests/wrong.py", "docs/two-runs.py")
+WRITES = ("--write", "--record", "record recorded", "rt fmt", "rt tidy", "tests/wrong.py", "docs/two-runs.py")
+# what `rt` does in a crate's folder, and what `rt all` does
+INSIDE = ("check", "verdict", "lib", "run", "test", "try", "fmt", "tidy", "expand", "plant")
+ALL = ("check", "verdict", "test", "tidy")
+BUILT = ("target", "out", ".git", "__pycache__")
 # what tests/wrong.py leaves in the table that it writes are the seconds of its run
 OWN = {"tests/wrong.py": ["docs/wrong-programs.md"]}
 # commands of the oracle that take longer, and the scripts of the gate that run them; those that need the Rust
@@ -77,9 +83,15 @@ def looked(command, known):
         words.pop(0)
     program, rest = words[0], words[1:]
     if program == "rt":
-        yield from (f"rt has no {word}" for word in rest[:1] if not re.search(rf"\brt {re.escape(word)}\b", known["rt"]))
-        yield from (f"rt has no {word}" for word in rest if word.startswith("-") and not re.search(rf"(?<![\w-]){re.escape(word)}\b", known["rt"]))
-        yield from (f"there is no crate {word}" for word in rest[1:] if not word.startswith("-") and not (root / "crates" / word).is_dir())
+        verbs = {verb for found in re.findall(r"\brt ([a-z][a-z|-]*)", known["rt"]) for verb in found.split("|")}
+        yield from (f"rt has no {word}" for word in rest[:1] if word not in verbs)
+        yield from (f"rt has no {word}" for word in rest if word.startswith("-") and not re.search(rf"(?<![\w-]){re.escape(word)}(?![\w-])", known["rt"]))
+        if rest[:1] == ["all"]:
+            yield from (f"rt all does no {word}" for word in rest[1:2] if word not in ALL)
+        elif rest[0] in INSIDE:
+            yield from (f"rt {rest[0]} is given in the crate's folder, without {word}" for before, word in zip(rest, rest[1:]) if not word.startswith("-") and not before.startswith("-"))
+        elif rest[0] in ("ci", "must-fail"):
+            yield from (f"there is no crate {word}" for word in rest[1:] if not word.startswith("-") and not (root / "crates" / word).is_dir())
     elif program in ("oracle", ORACLE):
         yield from (f"the oracle has no command {word}" for word in rest[:1] if not re.search(rf"^  {re.escape(word)}\b", known["oracle"], flags=re.M))
         yield from (f"the oracle has no {word}" for word in rest if word.startswith("--") and not re.search(rf"(?<![\w-]){re.escape(word)}(?![\w-])", (root / "oracle/src/main.rs").read_text() + known["oracle"]))
@@ -113,11 +125,11 @@ def reason(command):
         return "it is this test"
     if command in ("./test.sh", ".ci/run"):
         return "it is the gate"
-    if command in ("rt ci", "rt check") or program.endswith((".py", ".sh")) and command in (program, f"{program} LOG") and program in gate and program != "./run.py":
+    if command in ("rt ci", "rt all check") or program.endswith((".py", ".sh")) and command in (program, f"{program} LOG") and program in gate and program != "./run.py":
         return "the gate runs it"
-    if re.match(r"rt (?:dev|check|goals|must-fail|staticlib)$", command):
+    if command == "rt must-fail":
         return "it is named without a crate"
-    if re.match(r"rt staticlib (?:create|runner)$", command) and "rt staticlib" in (root / "c" / "test.sh").read_text():
+    if command == "c/libraries.py" and command in (root / "c" / "test.sh").read_text():
         return "it takes minutes, and c/test.sh runs it"
     if program == "tests/wrong.py" and "--gate" not in command:
         return "it takes minutes; with --gate and a small crate it is run"
@@ -138,18 +150,20 @@ def copy(folder):
     """The copy of the repository in a folder, made where there is none yet: all but what is built, which is linked."""
     at = folder / "main"
     if not at.is_dir():
-        shutil.copytree(root, at, symlinks=True, ignore=shutil.ignore_patterns("target", ".git", "__pycache__"))
+        shutil.copytree(root, at, symlinks=True, ignore=shutil.ignore_patterns(*BUILT))
         for place, link in ((root / "target", at / "target"), (root / "oracle" / "target", at / "oracle" / "target"), (root.parent / "shared", folder / "shared")):
             if place.exists():
                 link.symlink_to(place)
+        for built in root.glob("crates/*/out/rlib"):
+            shutil.copytree(built, at / built.relative_to(root), copy_function=linked)
     return at
 
 
 def files(top):
     """Every file of the repository or of a copy, but for what is built."""
     for here, folders, names in os.walk(top):
-        folders[:] = [name for name in folders if name not in ("target", ".git", "__pycache__")]
-        yield from (Path(here, name).relative_to(top) for name in names if name not in ("target", ".git"))
+        folders[:] = [name for name in folders if name not in BUILT]
+        yield from (Path(here, name).relative_to(top) for name in names if name not in BUILT)
 
 
 def unlike(at):
@@ -166,19 +180,23 @@ def unlike(at):
 def run(line, folder):
     """Runs a command: what is wrong with it."""
     program, here = line.split()[0], root
-    writes = any(word in line for word in WRITES) and line != "rt fmt --check"
+    writes = any(word in line for word in WRITES)
     if writes:
         here = copy(folder)
     elif line.startswith("cargo build"):  # docs/oracle.md gives it for the folder oracle
         here = root / "oracle"
+    if re.match(rf"rt (?:{'|'.join(INSIDE)})\b", line):
+        here = here / "crates" / "basket"
     (folder / "words").write_text(WORDS)
+    if line.endswith(" LOG"):
+        (folder / "log").write_text(subprocess.run(["rt", "must-fail", "basket"], cwd=root, capture_output=True, text=True).stdout)
     given = line.replace(ORACLE, str(oracle())) if program == ORACLE else line
     bench = part(line) == "bench"
-    done = subprocess.run(["bash", "-c", re.sub(r"\bWORDS$", str(folder / "words"), given) + (" --short" if bench else "")], cwd=here, capture_output=True, text=True, timeout=120)
+    done = subprocess.run(["bash", "-c", re.sub(r"\bLOG$", str(folder / "log"), re.sub(r"\bWORDS$", str(folder / "words"), given)) + (" --short" if bench else "")], cwd=here, capture_output=True, text=True, timeout=600)
     if done.returncode != 0:
         yield f"ends with status {done.returncode}: {(done.stdout + done.stderr)[-500:]}"
     if writes:
-        yield from (f"leaves another {file}" for file in unlike(here) if file not in OWN.get(program, []))
+        yield from (f"leaves another {file}" for file in unlike(copy(folder)) if file not in OWN.get(program, []))
     if bench:
         heads = re.findall(r"^(\|.*\|)\n\|-", done.stdout, flags=re.M)
         page = (root / "docs" / "performance.md").read_text()
@@ -190,7 +208,9 @@ def run(line, folder):
 WRONG = [  # commands in which something must be missing
     "rt nothing",
     "rt check nothing",
-    "rt dev basket --nothing",
+    "rt check --nothing",
+    "rt all nothing",
+    "rt must-fail nothing",
     "tests/nothing.py",
     "tests/wrong.py --gat",
     "oracle bench --nothing",
@@ -206,8 +226,9 @@ WRONG = [  # commands in which something must be missing
 
 def main():
     faults, ran, only = [], {}, []
-    helped = subprocess.run(["rt", "help"], capture_output=True, text=True)
-    known = {"rt": helped.stdout, "oracle": (root / "oracle" / "src" / "main.rs").read_text()}
+    helped = [subprocess.run(["rt", word], capture_output=True, text=True) for word in ("help", "doc")]
+    page = Path(helped[1].stdout.strip())
+    known = {"rt": helped[0].stdout + helped[0].stderr + (page.read_text() if page.is_file() else ""), "oracle": (root / "oracle" / "src" / "main.rs").read_text()}
     began = time.time()
     faults += [f"nothing is found to be missing in: {command}" for command in WRONG if not list(looked(command, known))]
     with tempfile.TemporaryDirectory() as folder:

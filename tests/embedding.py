@@ -104,7 +104,7 @@ def facts(library, gives):
     sse = [text for text in code if "%xmm" in text]
     forbid = lambda texts, what: require(not texts, f"{name} {what}: {texts[:3]}")
     forbid([text for text in code if re.search(r"%(ymm|zmm|st\b|mm\d|k[0-7]\b)", text) or re.match(r"^f[a-z]", text)], "uses wider registers or x87")
-    forbid([text for text in sse if not re.match(r"^(mov[au]ps|movdq[au]|movq|movd|mov[hl]ps|movhlps|movlhps|unpcklpd|punpcklqdq|pshufd|shufp[sd]|pextrw|xorps|pxor)\b", text)], "computes in SSE registers")
+    forbid([text for text in sse if not re.match(r"^(mov[au]ps|movdq[au]|movsd|movq|movd|mov[hl]ps|movhlps|movlhps|unpcklpd|punpcklqdq|pshufd|shufp[sd]|pextrw|xorps|pxor)\b", text)], "computes in SSE registers")
     forbid([text for text in sse if re.match(r"^(movaps|movdqa)\b", text) and re.search(r"\((?!%rsp|%rip)", text)], "asks more than 8 of the alignment of lent words")
     forbid([text for text in code if re.match(r"^(rep\w*|syscall|sysenter|int|in|out|ins|outs|hlt|std|cld|sti|cli|rdtsc|cpuid|xsave|lock|wrmsr|rdmsr|ud2)\b", text)], "has instructions of another kind")
     forbid([text for text in code if text.startswith(("endbr", "notrack"))], "is made for indirect branch tracking")

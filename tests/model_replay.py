@@ -106,23 +106,18 @@ def expected_state(lines):
     return out
 
 
-HEAD = """use mathlib.Core.Path.{_≡_, refl}
-use mathlib.Core.Bool.{Bool, true, false}
-use mathlib.Core.List.{List, [], _∷_, _++_, map}
-use mathlib.Core.Option.{Option, none, some}
-use Prim.Native.Nat.{ℕ, zero, suc, _+_, _-_, _*_}
-use lib.ListN.{length}
-use lib.Dec.{eqb, ltb}
-use Rattle·authority.specs.Rights.{contains}
-use Rattle·codec.specs.Codec.{encode, payload, decodes, payloadIn, numberIn, slotIn, generationIn, nextGeneration, maskOf}
-use Rattle·format.specs.Format.{musts, mays, fieldKinds, fieldFits, knownOp}
-use Rattle·model.specs.Base.{bit, pick, orElse, isSome, range, sameList}
-use Rattle·model.specs.State.{Handle, Slot, Slot.absent, Slot.vacant, Slot.reserved, Slot.transferReserved, Slot.occupied, Page, Lifecycle, Lifecycle.active, Lifecycle.tearingDown, Lifecycle.retired, Table, Class, Class.leaf, Class.rendezvousOnly, Class.never, Stage, Stage.stillNew, Stage.nowActive, Stage.nowRetired, Object, Entry, Entry.moved, Entry.copied, Body, Body.reservation, Body.claim, Body.parcel, Body.plan, StorageSnapshot, Row, State, till, noPage, noTable, noObject, maxTables, maxFrames, maxObjects, maxRows, maxBatch, maxSlots, maxLimit, knownFlags, lastId}
-use Rattle·model.specs.Storage.{place, vacate, takeFree, pagesFor, attach, detach, slotsOf}
-use Rattle·model.specs.Request.{Answer, Request}
-use Rattle·model.specs.Step.{decide, step, run, newObjectOf, duplicateOf, releaseParcelOf, retireObjectOf, reserveOf, trimOf, abortOf, publishOf, getInfoOf, resolveOf, replaceOf, closeOf, scanHandlesOf, prepareTransferOf, prepareConsumptionOf, rollbackOf, commitOf, directCommitOf, directRollbackOf, removeStoppingOwnerOf, teardownStartOf, teardownStepOf, teardownFinishOf, takeEmptyPageOf, makePlanOf, usePlanOf, dropPlanOf}
-use Rattle·model.specs.Create.{Parameters, TableParameters, ObjectParameters, permitted, created, create}
-use Rattle·model.specs.Words.{readRequest, readList, usedWords, wordsOf, answerShort, call}
+HEAD = """use Rattle.std.specs.Prelude.{◌≡◌, refl, Bool, true, false, List, [], ◌∷◌, ◌++◌, map, ℕ, zero, suc, ◌+◌, ◌-◌, ◌*◌, length, eqb, ltb}
+use Rattle.std.proofs.Math.Option.{Option, none, some}
+use Rattle.authority.specs.Rights.{contains}
+use Rattle.codec.specs.Codec.{encode, payload, decodes, payload_in, number_in, slot_in, generation_in, next_generation, mask_of}
+use Rattle.format.specs.Format.{musts, mays, field_kinds, field_fits, known_op}
+use Rattle.model.specs.Base.{bit, pick, or_else, is_some, range, same_list}
+use Rattle.model.specs.State.{Handle, Slot, Slot.absent, Slot.vacant, Slot.reserved, Slot.transfer_reserved, Slot.occupied, Page, Lifecycle, Lifecycle.active, Lifecycle.tearing_down, Lifecycle.retired, Table, Class, Class.leaf, Class.rendezvous_only, Class.never, Stage, Stage.still_new, Stage.now_active, Stage.now_retired, Object, Entry, Entry.moved, Entry.copied, Body, Body.reservation, Body.claim, Body.parcel, Body.plan, StorageSnapshot, Row, State, till, no_page, no_table, no_object, max_tables, max_frames, max_objects, max_rows, max_batch, max_slots, max_limit, known_flags, last_id}
+use Rattle.model.specs.Storage.{place, vacate, take_free, pages_for, attach, detach, slots_of}
+use Rattle.model.specs.Request.{Answer, Request}
+use Rattle.model.specs.Step.{decide, step, run, new_object_of, duplicate_of, release_parcel_of, retire_object_of, reserve_of, trim_of, abort_of, publish_of, get_info_of, resolve_of, replace_of, close_of, scan_handles_of, prepare_transfer_of, prepare_consumption_of, rollback_of, commit_of, direct_commit_of, direct_rollback_of, remove_stopping_owner_of, teardown_start_of, teardown_step_of, teardown_finish_of, take_empty_page_of, make_plan_of, use_plan_of, drop_plan_of}
+use Rattle.model.specs.Create.{Parameters, TableParameters, ObjectParameters, permitted, created, create}
+use Rattle.model.specs.Words.{read_request, read_list, used_words, words_of, answer_short, call}
 """
 
 SHOW = HEAD + """
@@ -134,99 +129,99 @@ abbrev join : List (List ℕ) → List ℕ
 join [] = []
 join (x ∷ xs) = x ++ join xs
 
-abbrev stageOf : Stage → ℕ
-stageOf stillNew = 0
-stageOf nowActive = 1
-stageOf nowRetired = 2
+abbrev stage_of : Stage → ℕ
+stage_of still_new = 0
+stage_of now_active = 1
+stage_of now_retired = 2
 
-abbrev objectsOf : (ℕ → Object) → ℕ → ℕ → List ℕ
-objectsOf f o zero = []
-objectsOf f o (suc n) = stageOf (f o .stage) ∷ f o .count ∷ objectsOf f (suc o) n
+abbrev objects_of : (ℕ → Object) → ℕ → ℕ → List ℕ
+objects_of f o zero = []
+objects_of f o (suc n) = stage_of (f o).stage ∷ (f o).count ∷ objects_of f (suc o) n
 
-abbrev lifeOf : Lifecycle → List ℕ
-lifeOf active = 0 ∷ 0 ∷ []
-lifeOf (tearingDown c) = 1 ∷ c ∷ []
-lifeOf retired = 2 ∷ 0 ∷ []
+abbrev life_of : Lifecycle → List ℕ
+life_of active = 0 ∷ 0 ∷ []
+life_of (tearing_down c) = 1 ∷ c ∷ []
+life_of retired = 2 ∷ 0 ∷ []
 
-abbrev handleOf : Handle → List ℕ
-handleOf h = h .object ∷ h .rights ∷ h .flags ∷ []
+abbrev handle_of : Handle → List ℕ
+handle_of h = h.object ∷ h.rights ∷ h.flags ∷ []
 
-abbrev slotOf : Slot → List ℕ
-slotOf absent = []
-slotOf (vacant g) = 1 ∷ g ∷ []
-slotOf (reserved g i) = 2 ∷ g ∷ []
-slotOf (transferReserved g i) = 3 ∷ g ∷ []
-slotOf (occupied g h) = 4 ∷ g ∷ handleOf h
+abbrev slot_of : Slot → List ℕ
+slot_of absent = []
+slot_of (vacant g) = 1 ∷ g ∷ []
+slot_of (reserved g i) = 2 ∷ g ∷ []
+slot_of (transfer_reserved g i) = 3 ∷ g ∷ []
+slot_of (occupied g h) = 4 ∷ g ∷ handle_of h
 
-abbrev slotsFrom : (ℕ → Slot) → ℕ → ℕ → List ℕ
-slotsFrom f k zero = []
-slotsFrom f k (suc n) = slotOf (f k) ++ slotsFrom f (suc k) n
+abbrev slots_from : (ℕ → Slot) → ℕ → ℕ → List ℕ
+slots_from f k zero = []
+slots_from f k (suc n) = slot_of (f k) ++ slots_from f (suc k) n
 
-abbrev frameOf : Option ℕ → ℕ
-frameOf none = 0
-frameOf (some f) = suc f
+abbrev frame_of : Option ℕ → ℕ
+frame_of none = 0
+frame_of (some f) = suc f
 
-abbrev pagesOf : Table → ℕ → ℕ → List ℕ
-pagesOf t p zero = []
-pagesOf t p (suc n) = frameOf (t .pages p .frame) ∷ t .pages p .high ∷ slotsFrom (t .slots) (p * 64) (slotsOf till p) ++ pagesOf t (suc p) n
+abbrev pages_of : Table → ℕ → ℕ → List ℕ
+pages_of t p zero = []
+pages_of t p (suc n) = frame_of (t.pages p).frame ∷ (t.pages p).high ∷ slots_from t.slots (p * 64) (slots_of till p) ++ pages_of t (suc p) n
 
-abbrev tableOf : Table → List ℕ
-tableOf t = lifeOf (t .life) ++ (t .epoch ∷ t .size ∷ counted (t .free) ++ counted (t .empty) ++ counted (t .detached) ++ pagesOf t 0 (t .size))
+abbrev table_of : Table → List ℕ
+table_of t = life_of t.life ++ (t.epoch ∷ t.size ∷ counted t.free ++ counted t.empty ++ counted t.detached ++ pages_of t 0 t.size)
 
-abbrev tablesOf : (ℕ → Table) → ℕ → ℕ → List ℕ
-tablesOf f b zero = []
-tablesOf f b (suc n) = tableOf (f b) ++ tablesOf f (suc b) n
+abbrev tables_of : (ℕ → Table) → ℕ → ℕ → List ℕ
+tables_of f b zero = []
+tables_of f b (suc n) = table_of (f b) ++ tables_of f (suc b) n
 
-abbrev entryOf : Entry → List ℕ
-entryOf (moved k h r) = 0 ∷ k ∷ handleOf h ++ (r ∷ [])
-entryOf (copied h) = 1 ∷ handleOf h
+abbrev entry_of : Entry → List ℕ
+entry_of (moved k h r) = 0 ∷ k ∷ handle_of h ++ (r ∷ [])
+entry_of (copied h) = 1 ∷ handle_of h
 
-abbrev bodyOf : Body → List ℕ
-bodyOf (reservation b ks) = 1 ∷ b ∷ counted ks
-bodyOf (claim b es) = 2 ∷ b ∷ length es ∷ join (map entryOf es)
-bodyOf (parcel hs) = 3 ∷ length hs ∷ join (map handleOf hs)
-bodyOf (plan b n w fs) = 4 ∷ b ∷ n ∷ w .epoch ∷ w .freeSlots ∷ counted (w .pages) ++ counted fs
+abbrev body_of : Body → List ℕ
+body_of (reservation b ks) = 1 ∷ b ∷ counted ks
+body_of (claim b es) = 2 ∷ b ∷ length es ∷ join (map entry_of es)
+body_of (parcel hs) = 3 ∷ length hs ∷ join (map handle_of hs)
+body_of (plan b n w fs) = 4 ∷ b ∷ n ∷ w.epoch ∷ w.free_slots ∷ counted w.pages ++ counted fs
 
-abbrev rowOf : Row → List ℕ
-rowOf r = r .id ∷ bodyOf (r .body)
+abbrev row_of : Row → List ℕ
+row_of r = r.id ∷ body_of r.body
 
 abbrev pub shown : State → List ℕ
 shown s =
-    s .book .next ∷ length (s .book .rows) ∷ s .book .capacity ∷ s .frameCount ∷ counted (s .frames)
-    ++ objectsOf (s .objects) 0 (s .objectCount) ++ tablesOf (s .tables) 0 (s .tableCount) ++ join (map rowOf (s .book .rows))
+    s.book.next ∷ length s.book.rows ∷ s.book.capacity ∷ s.frame_count ∷ counted s.frames
+    ++ objects_of s.objects 0 s.object_count ++ tables_of s.tables 0 s.table_count ++ join (map row_of s.book.rows)
 
 -- an answer's words without the zeros at its end, and how many they are
-abbrev keepIf : ℕ → List ℕ → List ℕ
-keepIf zero [] = []
-keepIf zero (x ∷ xs) = 0 ∷ x ∷ xs
-keepIf (suc w) l = suc w ∷ l
+abbrev keep_if : ℕ → List ℕ → List ℕ
+keep_if zero [] = []
+keep_if zero (x ∷ xs) = 0 ∷ x ∷ xs
+keep_if (suc w) l = suc w ∷ l
 
 abbrev trimmed : List ℕ → List ℕ
 trimmed [] = []
-trimmed (w ∷ ws) = keepIf w (trimmed ws)
+trimmed (w ∷ ws) = keep_if w (trimmed ws)
 
 abbrev pub brief : Answer → List ℕ
-brief a = counted (trimmed (usedWords a))
+brief a = counted (trimmed (used_words a))
 
 -- all answers to a list, and the state after it
 abbrev after : State × List Answer → List ℕ
-after o = join (map brief (o .1)) ++ shown (o .0)
+after o = join (map brief o.1) ++ shown o.0
 
 abbrev pub replayed : State → List ℕ → List ℕ
-replayed s ws = after (run till s (orElse (readList ws) []))
+replayed s ws = after (run till s (or_else (read_list ws) []))
 
 -- a store in a function, for states that are written out
 abbrev pub stored : {A : Type 0} → List (ℕ × A) → (ℕ → A) → ℕ → A
 stored [] f j = f j
-stored (e ∷ es) f j = pick (eqb j (e .0)) (e .1) (stored es f j)
+stored (e ∷ es) f j = pick (eqb j e.0) e.1 (stored es f j)
 """
 
 UNFOLD = (
-    "unfolding encode payload decodes payloadIn numberIn slotIn generationIn maskOf nextGeneration contains maxTables maxFrames maxObjects maxRows "
-    "maxBatch maxSlots maxLimit knownFlags lastId\n  place vacate takeFree pagesFor attach detach decide step usedWords wordsOf answerShort readRequest readList call musts mays "
-    "fieldKinds fieldFits knownOp permitted created\n  newObjectOf duplicateOf releaseParcelOf retireObjectOf reserveOf trimOf abortOf publishOf getInfoOf resolveOf replaceOf closeOf "
-    "scanHandlesOf prepareTransferOf prepareConsumptionOf\n  rollbackOf commitOf directCommitOf directRollbackOf removeStoppingOwnerOf teardownStartOf teardownStepOf teardownFinishOf "
-    "takeEmptyPageOf makePlanOf usePlanOf dropPlanOf\n"
+    "unfolding encode payload decodes payload_in number_in slot_in generation_in mask_of next_generation contains max_tables max_frames max_objects max_rows "
+    "max_batch max_slots max_limit known_flags last_id\n  place vacate take_free pages_for attach detach decide step used_words words_of answer_short read_request read_list call musts mays "
+    "field_kinds field_fits known_op permitted created\n  new_object_of duplicate_of release_parcel_of retire_object_of reserve_of trim_of abort_of publish_of get_info_of resolve_of replace_of close_of "
+    "scan_handles_of prepare_transfer_of prepare_consumption_of\n  rollback_of commit_of direct_commit_of direct_rollback_of remove_stopping_owner_of teardown_start_of teardown_step_of teardown_finish_of "
+    "take_empty_page_of make_plan_of use_plan_of drop_plan_of\n"
 )
 
 
@@ -275,7 +270,7 @@ def state_of(w):
             for k in range(q * 64, min(q * 64 + 64, 16777215)):
                 c = cell(k)
                 tag, g = w[c], w[c + 1]
-                what = [f"vacant {g}", f"reserved {g} {row_id.get(w[c + 2], 0)}", f"transferReserved {g} {row_id.get(w[c + 2], 0)}", f"occupied {g} ({held(c + 2)})"][tag]
+                what = [f"vacant {g}", f"reserved {g} {row_id.get(w[c + 2], 0)}", f"transfer_reserved {g} {row_id.get(w[c + 2], 0)}", f"occupied {g} ({held(c + 2)})"][tag]
                 slots.append((k, what))
         def links(first, place):
             out = []
@@ -284,9 +279,9 @@ def state_of(w):
                 first = place(first - 1)
             return out
         orders = (links(free, lambda k: w[cell(k) + 2]), links(empty, lambda q: w[entry(q) + 3]), links(detached, lambda q: w[entry(q) + 3]))
-        lives = ["active", f"tearingDown {cursor}", "retired"][life]
+        lives = ["active", f"tearing_down {cursor}", "retired"][life]
         tables.append(
-            "record { limit = %d; mask = %d; life = %s; epoch = %d; size = %d; pages = stored (%s) (λ q. noPage); slots = stored (%s) (λ k. absent); free = %s; empty = %s; detached = %s }"
+            "record { limit = %d; mask = %d; life = %s; epoch = %d; size = %d; pages = stored (%s) (λ q. no_page); slots = stored (%s) (λ k. absent); free = %s; empty = %s; detached = %s }"
             % (limit, mask, lives, epoch, size, "".join(x + " ∷ " for x in pages) + "[]", "".join(f"({k}, {x}) ∷ " for k, x in slots) + "[]", *[listed(x) for x in orders])
         )
     things = []
@@ -294,7 +289,7 @@ def state_of(w):
         koid, kind, cls, supported, exportable, stage, count, limit = w[objects + 8 * k : objects + 8 * k + 8]
         things.append(
             "record { koid = %d; kind = %d; class = %s; supported = %d; exportable = %s; limit = %d; stage = %s; count = %d }"
-            % (koid, kind, ["leaf", "rendezvousOnly", "never"][cls], supported, ["false", "true"][exportable], limit, ["stillNew", "nowActive", "nowRetired"][stage], count)
+            % (koid, kind, ["leaf", "rendezvous_only", "never"][cls], supported, ["false", "true"][exportable], limit, ["still_new", "now_active", "now_retired"][stage], count)
         )
     book = []
     for place in w[index : index + 2 * used : 2]:
@@ -307,7 +302,7 @@ def state_of(w):
             es = [f"moved {w[i + 1]} ({held(i + 2)}) {w[i + 5]}" if w[i] == 0 else f"copied ({held(i + 2)})" for i in items]
             body = f"claim {table} ({''.join(e + ' ∷ ' for e in es)}[])"
         elif kind == 4:
-            kept = "record { epoch = %d; freeSlots = %d; pages = %s }" % (w[at + 5], w[at + BLOCK + 2], listed([w[i] for i in items]))
+            kept = "record { epoch = %d; free_slots = %d; pages = %s }" % (w[at + 5], w[at + BLOCK + 2], listed([w[i] for i in items]))
             body = f"plan {table} {w[at + 4]} ({kept}) ({listed([w[i + 1] for i in items])})"
         else:
             body = f"parcel ({''.join(held(i + 2) + ' ∷ ' for i in items)}[])"
@@ -315,7 +310,7 @@ def state_of(w):
     spare = [k for k in range(f) if w[owners + k] == 0]
     number = lambda xs: "".join(f"({i}, {x}) ∷ " for i, x in enumerate(xs)) + "[]"
     return (
-        "record { tableCount = %d; tables = stored (%s) (λ b. noTable); objectCount = %d; objects = stored (%s) (λ o. noObject); frameCount = %d; frames = %s; book = record { rows = %s; capacity = %d; next = %d } }"
+        "record { table_count = %d; tables = stored (%s) (λ b. no_table); object_count = %d; objects = stored (%s) (λ o. no_object); frame_count = %d; frames = %s; book = record { rows = %s; capacity = %d; next = %d } }"
         % (t, number(tables), o, number(things), f, listed(spare), "".join(x + " ∷ " for x in book) + "[]", r, nxt)
     )
 
@@ -361,11 +356,11 @@ def main():
             module = f"Case{lists}"
             state = f"created ({parameters(start)})" if kind == "create" else state_of(start)
             made[module] = (
-                f"-- {name}: {case.name}\n{HEAD}use Rattle·computed·specs.specs.Show.{{shown, brief, replayed, stored}}\n\nstart : State\nunfolding created\nstart = {state}\n\n"
+                f"-- {name}: {case.name}\n{HEAD}use Rattle.computed.proofs.Show.{{shown, brief, replayed, stored}}\n\nstart : State\nunfolding created\nstart = {state}\n\n"
                 f"asked : List ℕ\nasked = {listed(asked)}\n\ntold : List ℕ\ntold = {listed(told)}\n\n"
-                f"holds : sameList (replayed start asked) told ≡ true\n{UNFOLD.rstrip()} start asked told\nholds = refl\n"
+                f"holds : same_list (replayed start asked) told ≡ true\n{UNFOLD.rstrip()} start asked told\nholds = refl\n"
                 + (
-                    f"\nwhole : sameList ({''.join(f'call till (some start) ({listed(ask)}) (range 0 {lent}) .result ∷ ' for lent, ask, _ in whole)}[]) ({listed([r for _, _, r in whole])}) ≡ true\n"
+                    f"\nwhole : same_list ({''.join(f'(call till (some start) ({listed(ask)}) (range 0 {lent})).result ∷ ' for lent, ask, _ in whole)}[]) ({listed([r for _, _, r in whole])}) ≡ true\n"
                     f"{UNFOLD.rstrip()} start\nwhole = refl\n"
                     if whole
                     else ""
@@ -375,33 +370,30 @@ def main():
         if not found:
             sys.exit(f"recorded/{name} has no case")
     made["Creations"] = (
-        f"-- creations that are refused\n{HEAD}\nrefused : sameList ({''.join(f'bit (isSome (create till ({p}))) ∷ ' for p in refused)}[]) ({listed([0] * len(refused))}) ≡ true\n"
+        f"-- creations that are refused\n{HEAD}\nrefused : same_list ({''.join(f'bit (is_some (create till ({p}))) ∷ ' for p in refused)}[]) ({listed([0] * len(refused))}) ≡ true\n"
         f"{UNFOLD.rstrip()}\nrefused = refl\n"
     )
     modules.append(("Creations", "cases.txt", "refused creations"))
     with tempfile.TemporaryDirectory() as folder:
-        scratch = copied(Path(folder))
+        scratch = copied(Path(folder), "model")
         with open(scratch / "crates.txt", "a") as f:
             f.write("\ncomputed: model codec authority format\n")
         crate = scratch / "crates" / "computed"
         (crate / "src").mkdir(parents=True)
-        (crate / "specs").mkdir()
+        (crate / "proofs").mkdir()
         (crate / "src" / "lib.rt").write_text("// Recorded lists, computed from the definitions.\n")
-        (crate / "specs" / "Show.antt").write_text(SHOW)
+        (crate / "proofs" / "Show.antt").write_text(SHOW)
         for module, text in made.items():
-            (crate / "specs" / f"{module}.antt").write_text(text)
-        (crate / "specs" / "Lib.antt").write_text("pub mod Show\n" + "".join(f"pub mod {m}\n" for m in made))
-        done = subprocess.run(["rt", "check", "computed"], cwd=scratch, capture_output=True, text=True)
+            (crate / "proofs" / f"{module}.antt").write_text(text)
+        (crate / "proofs" / "Lib.antt").write_text("pub mod Show\n" + "".join(f"pub mod {m}\n" for m in made))
+        done = subprocess.run(["rt", "check"], cwd=crate, capture_output=True, text=True)
         log = done.stdout + done.stderr
-        whole = scratch / "target" / "log" / "computed.out"
-        if whole.exists():
-            log += whole.read_text()
     wrong = sorted(set(re.findall(r"(Case\d+|Creations)\.antt:\d+:\d+: error", log)))
     for module, name, case in modules:
         if module in wrong:
             print(f"differs: {name} {case} ({module})")
     if done.returncode != 0 and not wrong:
-        print("\n".join(l for l in log.split("\n") if "error" in l)[:3000])
+        print("\n".join(l for l in log.split("\n") if "error" in l or l.startswith("rt: "))[:3000])
     print(f"{lists} recorded lists with {requests} requests computed from the definitions, answers and end states; {calls} whole calls refused; {len(refused)} creations refused; {len(wrong)} modules differ")
     print("left out: states.txt (the state check, which the definitions do not compute), last-page.txt and " + ", ".join(f"{n} times {why}" for why, n in left.items()))
     sys.exit(1 if done.returncode != 0 or not lists else 0)

@@ -17,131 +17,145 @@ import tempfile
 from concurrent.futures import ThreadPoolExecutor
 from pathlib import Path
 
-from scratch import copied
+from reasons import first_error
+from scratch import above, below, copied
 
-# What the words must say, too little or wrong. name: (file below crates/, old, new, the crate that must refuse it, the fact that fails)
+# What the words must say, too little or wrong. name: (crate and module, old, new, the crate that must refuse it, the fact that fails)
 WORDS = {
     "an epoch that the words need not have": (
-        "representation/specs/Represents.antt",
-        "pub epoch : m (head b headEpoch) ≡ t .epoch",
-        "pub epoch : m (head b headEpoch) ≡ m (head b headEpoch)",
+        "representation Represents",
+        "pub epoch : m (head b head_epoch) ≡ t.epoch",
+        "pub epoch : m (head b head_epoch) ≡ m (head b head_epoch)",
         "representation",
-        "`rep-unique`: one table's words represent its state with any epoch",
+        "`rep_unique`: one table's words represent its state with any epoch",
     ),
     "a free count one too high": (
-        "representation/specs/Represents.antt",
-        "pub freeCount : m (head b headFreeSlots) ≡ length (t .free)",
-        "pub freeCount : m (head b headFreeSlots) ≡ suc (length (t .free))",
+        "representation Represents",
+        "pub free_count : m (head b head_free_slots) ≡ length t.free",
+        "pub free_count : m (head b head_free_slots) ≡ suc (length t.free)",
         "create",
         "`Meets`: a created table has no free slot and its count is 0",
     ),
     "a plan's kept number of free slots that the words need not have": (
-        "representation/specs/Represents.antt",
-        "pub freeSlots : m (item r 0 itemFreeSlots) ≡ w .freeSlots",
-        "pub freeSlots : m (item r 0 itemFreeSlots) ≡ m (item r 0 itemFreeSlots)",
+        "representation Represents",
+        "pub free_slots : m (item r 0 item_free_slots) ≡ w.free_slots",
+        "pub free_slots : m (item r 0 item_free_slots) ≡ m (item r 0 item_free_slots)",
         "representation",
-        "`rep-unique`: one plan's words represent it with any number of free slots",
+        "`rep_unique`: one plan's words represent it with any number of free slots",
     ),
     "a busy count that the words need not have": (
-        "representation/specs/Represents.antt",
-        "pub busy : (p : ℕ) → p < t .size → isAttached t p ≡ true → m (entry (entryAt m b p) entryBusy) ≡ busyOf till (t .slots) p",
-        "pub busy : (p : ℕ) → p < t .size → isAttached t p ≡ true → m (entry (entryAt m b p) entryBusy) ≡ m (entry (entryAt m b p) entryBusy)",
+        "representation Represents",
+        "pub busy : (p : ℕ) → p < t.size → is_attached t p ≡ true → m (entry (entry_at m b p) entry_busy) ≡ busy_of till t.slots p",
+        "pub busy : (p : ℕ) → p < t.size → is_attached t p ≡ true → m (entry (entry_at m b p) entry_busy) ≡ m (entry (entry_at m b p) entry_busy)",
         "structure",
         "completeness of the check: words with any busy count represent a state, and the check refuses them",
     ),
 }
 
-# A statement that says less, its proof with it. name: (the changes: file below crates/, old, new; the crate that must refuse it, the fact that fails)
+# A statement that says less, its proof with it. name: (the changes: crate and module, old, new; the crate that must refuse it, the fact that fails)
 STATEMENTS = {
     "a two-run theorem of lists of one request": (
         [
-            ("noninterference/specs/Theorem.antt", "use Prim.Native.Nat.{ℕ}\n", "use Prim.Native.Nat.{ℕ, _<_}\nuse lib.ListN.{length}\n"),
-            ("noninterference/specs/Theorem.antt", "→ (rs : List Request) → every (permitted t b values) rs ≡ true", "→ (rs : List Request) → length rs < 2 → every (permitted t b values) rs ≡ true"),
-            ("noninterference/specs/Theorem.antt", "moves t opened-t rs p n =", "moves t opened-t rs few p n ="),
+            ("noninterference Theorem", "use Rattle.noninterference.specs.Theorem.{Agree}\n", "use Rattle.noninterference.specs.Theorem.{Agree}\nuse Rattle.std.specs.Prelude.{◌<◌, length}\n"),
+            ("noninterference Theorem", "→ (rs : List Request) → every (permitted t b values) rs ≡ true", "→ (rs : List Request) → length rs < 2 → every (permitted t b values) rs ≡ true"),
+            ("noninterference Theorem", "moves t opened_t rs p n =", "moves t opened_t rs few p n ="),
         ],
         "promises",
         "demand 3 is of any list",
     ),
     "a two-run theorem that says nothing of the end state after a rollback": (
         [
-            ("noninterference/specs/Theorem.antt", "pub afterRollback : p .0 ≡ lowerState t (step z (h .0) (rollback t) .0)", "pub afterRollback : p .0 ≡ p .0"),
-            ("noninterference/specs/Theorem.antt", "afterRollback = rollback-is z kept t b (y .es) values (h .0) (y .claimed);", "afterRollback = refl;"),
+            ("noninterference Theorem", "pub after_rollback : p.0 ≡ lower_state t (step z h.0 (rollback t)).0", "pub after_rollback : p.0 ≡ p.0"),
+            ("noninterference Theorem", "after_rollback = rollback_is z kept t b y.es values h.0 y.claimed;", "after_rollback = refl;"),
         ],
         "promises",
         "demand 3: after a rollback both ends represent one state, ids lowered",
     ),
     "a contract that says nothing of the result": (
         [
-            ("contract/specs/Meets.antt", "x .result ≡ call till (some s) list os .result", "x .result ≡ x .result"),
-            ("contract/specs/Call.antt", "result = λ sh s r. let x = opened ws list os sh s r in rw x (inside ws list os sh s r .result);", "result = λ sh s r. refl;"),
+            ("contract Meets", "x.result ≡ (call till (some s) list os).result", "x.result ≡ x.result"),
+            ("contract Call", "result = λ sh s r. let x = opened ws list os sh s r in rw x (inside ws list os sh s r).result;", "result = λ sh s r. refl;"),
         ],
         "promises",
         "demand 1: the result is 0, 18, 19 or 20",
     ),
     "calls that must be lent a word more than their answers": (
         [
-            ("promises/specs/Terms.antt", "use Prim.Native.Nat.{ℕ, _*_, _≤_}\n", "use Prim.Native.Nat.{ℕ, _*_, _≤_, _<_}\n"),
-            ("promises/specs/Terms.antt", "pub enough : answerWords * length (requestsIn (c .list)) ≤ length (c .lent)", "pub enough : answerWords * length (requestsIn (c .list)) < length (c .lent)"),
-            ("promises/specs/Calls.antt", "use lib.Seq.{take-at}\n", "use native.Mathlib.Omega.{arith}\nuse lib.Seq.{take-at}\n"),
-            ("promises/specs/Calls.antt", "m r (f .reads) (f .enough) in", "m r (f .reads) (omega (arith, f .enough)) in"),
+            ("promises Terms", "use Rattle.contract.specs.Meets.{Called, Meets}\n", "use Rattle.contract.specs.Meets.{Called, Meets}\nuse Rattle.std.specs.Prelude.{◌<◌}\n"),
+            ("promises Terms", "pub enough : answer_words * length (requests_in c.list) ≤ length c.lent", "pub enough : answer_words * length (requests_in c.list) < length c.lent"),
+            ("promises Calls", "use Rattle.contract.specs.Meets.{Called, Meets}\n", "use Rattle.contract.specs.Meets.{Called, Meets}\nuse Rattle.std.proofs.Common.{arith}\n"),
+            ("promises Calls", "m r f.reads f.enough in", "m r f.reads (omega (arith, f.enough)) in"),
         ],
         "promises",
-        "`a-call`: a list that reads and 72 words a request are a call",
+        "`a_call`: a list that reads and 72 words a request are a call",
     ),
 }
 
-# Documents 01 and 02 wrongly read, to be refused by the theorems up to that of the two runs. name: (file below crates/, old, new)
+# Documents 01 and 02 wrongly read, to be refused by the theorems up to that of the two runs. name: (crate and module, old, new)
 TOP = "noninterference"
 SLIPS = {
     "a rollback that only frees the row": (
-        "model/specs/Step.antt",
-        "      settingTable b to restoreAll es (s .tables b)\n",
-        "      settingTable b to s .tables b\n",
+        "model Step",
+        "      setting_table b to restore_all es (s.tables b)\n",
+        "      setting_table b to s.tables b\n",
     ),
     "a rollback that takes handles by their place among the moves": (
-        "model/specs/Step.antt",
-        "      settingTable b to restoreAll es (s .tables b)\n",
-        "      settingTable b to fillAll (movedOf es) (map (elim [ moved k h r ↦ h | copied h ↦ h ]) es) (s .tables b)\n",
+        "model Step",
+        "      setting_table b to restore_all es (s.tables b)\n",
+        "      setting_table b to fill_all (moved_of es) (map (elim [ moved k h r ↦ h | copied h ↦ h ]) es) (s.tables b)\n",
     ),
     "a commit that vacates the first slot only": (
-        "model/specs/Step.antt",
-        "      settingTable b to vacateAll z (movedOf es) (s .tables b)\n",
-        "      settingTable b to vacateAll z (take 1 (movedOf es)) (s .tables b)\n",
+        "model Step",
+        "      setting_table b to vacate_all z (moved_of es) (s.tables b)\n",
+        "      setting_table b to vacate_all z (take 1 (moved_of es)) (s.tables b)\n",
     ),
     "a commit that pushes slots in reverse": (
-        "model/specs/Book.antt",
-        "movedOf (moved k h r ∷ es) = k ∷ movedOf es",
-        "movedOf (moved k h r ∷ es) = movedOf es ++ (k ∷ [])",
+        "model Book",
+        "moved_of (moved k h r ∷ es) = k ∷ moved_of es",
+        "moved_of (moved k h r ∷ es) = moved_of es ++ (k ∷ [])",
     ),
     "a preparation that raises the epoch": (
-        "model/specs/Step.antt",
-        "settingTable b to keepAll z (λ g. transferReserved g i) (movedOf es) t\n",
-        "settingTable b to (let u : Table = keepAll z (λ g. transferReserved g i) (movedOf es) t in record { limit = u .limit; mask = u .mask; life = u .life; epoch = u .epoch + 1; size = u .size; pages = u .pages; slots = u .slots; free = u .free; empty = u .empty; detached = u .detached })\n",
+        "model Step",
+        "setting_table b to keep_all z (λ g. transfer_reserved g i) (moved_of es) t\n",
+        "setting_table b to (let u : Table = keep_all z (λ g. transfer_reserved g i) (moved_of es) t in record { limit = u.limit; mask = u.mask; life = u.life; epoch = u.epoch + 1; size = u.size; pages = u.pages; slots = u.slots; free = u.free; empty = u.empty; detached = u.detached })\n",
     ),
     "a preparation that unlinks the page": (
-        "model/specs/Step.antt",
-        "settingTable b to keepAll z (λ g. transferReserved g i) (movedOf es) t\n",
-        "settingTable b to (let u : Table = keepAll z (λ g. transferReserved g i) (movedOf es) t in record { limit = u .limit; mask = u .mask; life = u .life; epoch = u .epoch; size = u .size; pages = u .pages; slots = u .slots; free = u .free; empty = take 0 (u .empty); detached = u .detached })\n",
+        "model Step",
+        "setting_table b to keep_all z (λ g. transfer_reserved g i) (moved_of es) t\n",
+        "setting_table b to (let u : Table = keep_all z (λ g. transfer_reserved g i) (moved_of es) t in record { limit = u.limit; mask = u.mask; life = u.life; epoch = u.epoch; size = u.size; pages = u.pages; slots = u.slots; free = u.free; empty = take 0 u.empty; detached = u.detached })\n",
     ),
     "a stale plan that is used": (
-        "model/specs/Storage.antt",
-        "  isStale t n w = not (stillIs (snapshotFor t n) w)\n",
-        "  isStale t n w = false\n",
+        "model Storage",
+        "  is_stale t n w = not (still_is (snapshot_for t n) w)\n",
+        "  is_stale t n w = false\n",
     ),
     "a held transfer that makes plans stale": (
-        "model/specs/Storage.antt",
-        "  isStale t n w = not (stillIs (snapshotFor t n) w)\n",
-        "  isStale t n w = not (stillIs (snapshotFor t n) w && isOccupied (t .slots 63))\n",
+        "model Storage",
+        "  is_stale t n w = not (still_is (snapshot_for t n) w)\n",
+        "  is_stale t n w = not (still_is (snapshot_for t n) w && is_occupied (t.slots 63))\n",
     ),
     "a plan that is dropped and keeps its frames": (
-        "model/specs/Step.antt",
-        "      settingFrames insertAll fs (s .frames)\n",
-        "      settingFrames s .frames\n",
+        "model Step",
+        "      setting_frames insert_all fs s.frames\n",
+        "      setting_frames s.frames\n",
     ),
 }
 
 
-TABLES = ("Cases", "Effects", "PlanCases", "WordCases", "Examples", "Exclusions")
+# the modules of computed cases, on which no theorem rests
+TABLES = {"model": ("Cases", "Effects", "PlanCases", "WordCases"), "noninterference": ("Examples", "Exclusions")}
+UNFIT = re.compile(r"not in scope|cannot be parsed|cannot be read|can be named from here|expected .* found|has no field|has no `|is no name|cannot continue")
+
+
+def slipped(scratch, module, old, new):
+    """Makes a change where its text stands, among a module's definitions or its statements; what keeps it from being made, or nothing."""
+    crate, name = module.split()
+    paths = [path for path in (scratch / "crates" / crate / part / f"{name}.antt" for part in ("specs", "proofs")) if path.is_file()]
+    found = [path for path in paths for _ in range(path.read_text().count(old))]
+    if len(found) != 1:
+        return f"the text to change stands {len(found)} times in {module}"
+    found[0].write_text(found[0].read_text().replace(old, new))
+    return ""
 
 
 def attempt(name, bare):
@@ -151,35 +165,42 @@ def attempt(name, bare):
     else:
         *change, top, _ = WORDS.get(name) or (*SLIPS[name], TOP, "")
         changes = [change]
+    changed = changes[0][0].split()[0]
     with tempfile.TemporaryDirectory() as folder:
-        scratch = copied(Path(folder), top, changes[0][0].split("/")[0])
-        for file, old, new in changes:
-            path = scratch / "crates" / file
-            text = path.read_text()
-            if text.count(old) != 1:
-                return f"the text to change stands {text.count(old)} times in {file}", False
-            path.write_text(text.replace(old, new))
+        scratch = copied(Path(folder), top, changed)
+        for change in changes:
+            if why := slipped(scratch, *change):
+                return why, False
         if bare:
-            # the tables of computed cases go, in `model` and above: what is left are theorems
-            for lib in scratch.glob("crates/*/specs/Lib.antt"):
-                kept = [l for l in lib.read_text().split("\n") if not re.fullmatch(r"pub mod (%s)" % "|".join(TABLES), l)]
-                lib.write_text("\n".join(kept))
-            for gone in TABLES:
-                for f in scratch.glob(f"crates/*/specs/{gone}.antt"):
-                    f.unlink()
-        done = subprocess.run(["rt", "check", top], cwd=scratch, capture_output=True, text=True)
+            # the tables of computed cases go: what is left are theorems
+            for crate, modules in TABLES.items():
+                for part in ("specs", "proofs"):
+                    lib = scratch / "crates" / crate / part / "Lib.antt"
+                    lines = lib.read_text().split("\n") if lib.is_file() else []
+                    for module in modules:
+                        (scratch / "crates" / crate / part / f"{module}.antt").unlink(missing_ok=True)
+                    if lines:
+                        lib.write_text("\n".join(l for l in lines if re.sub(r"^(?:pub )?mod ", "", l) not in modules))
+        # from the changed crate up, one at a time: the first that is not proved is the one that refuses
+        for crate in above(changed):
+            if crate not in below(top):
+                continue
+            done = subprocess.run(["rt", "check" if crate == top else "lib"], cwd=scratch / "crates" / crate, capture_output=True, text=True)
+            if done.returncode != 0:
+                break
         log = done.stdout + done.stderr
     if done.returncode == 0:
         return "accepted", False
-    first = re.search(r"crates/(\w+)/((?:specs|proofs)/\S+)\.antt:(\d+):\d+: error: `([^`]+)`: (.*)", log)
-    if not first:
+    line, error = first_error(log)
+    first = re.match(r"(?:note: )?(?:\./)?((?:specs|proofs|src)/\S+):(\d+):\d+: (?:error: `([^`]+)`: )?(.*)", error)
+    if not first or not re.search(r"^logic=not-proved", log, flags=re.M):
         return "failed without an error in a proof: " + log[-400:], False
-    crate, module, line, decl, why = first.groups()
-    if re.search(r"not in scope|cannot be parsed|can be named from here|expected .* found|has no field", why):
+    file, number, declared, why = first.groups()
+    if UNFIT.search(why):
         return f"the slip does not fit: {why[:160]}", False
     if name not in SLIPS and crate != top:
-        return f"refused by {crate}, below {top}: {module}.antt:{line}, `{decl}`: {why[:160]}", False
-    return f"refused by {crate}, {module}.antt:{line}, `{decl}`", True
+        return f"refused by {crate}, below {top}: {file}:{number}, `{declared}`: {why[:160]}", False
+    return f"refused by {crate}, {file}:{number}, {f'`{declared}`' if declared else why[:120]}", True
 
 
 def main():

@@ -20,58 +20,56 @@ import textwrap
 from functools import lru_cache
 from pathlib import Path
 
-from scratch import copied, dependencies, root
+from scratch import below, copied, dependencies, modules, root
 
 # the promises: crate, module, names (theorems and records)
 PROMISES = [
-    ("noninterference", "Theorem", ["Agree", "held-and-plain"]),
-    ("noninterference", "Plans", ["PlansStand", "preparing", "consuming", "rolling-back", "PlansAgree", "held-and-plain-plans"]),
+    ("noninterference", "Theorem", ["Agree", "held_and_plain"]),
+    ("noninterference", "Plans", ["PlansStand", "preparing", "consuming", "rolling_back", "PlansAgree", "held_and_plain_plans"]),
     ("create", "Meets", ["Asked", "Meets"]),
     ("contract", "Meets", ["Meets"]),
-    ("promises", "Demand1", ["Ends", "demand-1", "CreationEnds", "demand-1-creation"]),
-    ("promises", "Demand2", ["Steps", "demand-2", "demand-2-lists", "demand-2-calls", "Cut", "demand-2-cut", "Makes", "demand-2-creation"]),
-    ("promises", "Demand3", ["TwoRuns", "Same", "demand-3"]),
-    ("promises", "Plans", ["Served", "plan-serves", "as-reserved", "drop-accepted"]),
-    ("promises", "Lower", ["reads-lowered", "op-word", "answer-lowered"]),
-    ("promises", "Transfers", ["SameOrders", "ClosingsLeave", "transfer-keeps-orders", "consumption-keeps-orders", "rollback-keeps-orders", "commit-done", "commit-vacates", "commit-is-closing", "transfer-is-closing", "consumption-is-closing", "direct-rollback-is", "direct-commit-is"]),
-    ("promises", "Batches", ["MostPages", "new-pages", "reserve-takes", "pages-of-64", "pages-of-32", "pages-of-16"]),
-    ("model", "Cases", ["papers-hold", "corners-hold"]),
-    ("model", "Effects", ["effects-hold"]),
-    ("model", "PlanCases", ["plans-hold"]),
-    ("model", "WordCases", ["readings-hold"]),
-    ("wellformed", "Whole", ["check-sound", "check-complete"]),
-    ("representation", "Unique", ["rep-unique"]),
-    ("written", "Whole", ["has-words"]),
-    ("written", "Limits", ["written-small"]),
-    ("reach", "Every", ["Words", "every-state", "accepted", "shown-again", "not-misuse", "Starts", "any-two"]),
-    ("invariant", "Kept", ["run-kept", "reached"]),
+    ("promises", "Demand1", ["Ends", "demand_1", "CreationEnds", "demand_1_creation"]),
+    ("promises", "Demand2", ["Steps", "demand_2", "demand_2_lists", "demand_2_calls", "Cut", "demand_2_cut", "Makes", "demand_2_creation"]),
+    ("promises", "Demand3", ["TwoRuns", "Same", "demand_3"]),
+    ("promises", "Plans", ["Served", "plan_serves", "as_reserved", "drop_accepted"]),
+    ("promises", "Lower", ["reads_lowered", "op_word", "answer_lowered"]),
+    ("promises", "Transfers", ["SameOrders", "ClosingsLeave", "transfer_keeps_orders", "consumption_keeps_orders", "rollback_keeps_orders", "commit_done", "commit_vacates", "commit_is_closing", "transfer_is_closing", "consumption_is_closing", "direct_rollback_is", "direct_commit_is"]),
+    ("promises", "Batches", ["MostPages", "new_pages", "reserve_takes", "pages_of_64", "pages_of_32", "pages_of_16"]),
+    ("model", "Cases", ["papers_hold", "corners_hold"]),
+    ("model", "Effects", ["effects_hold"]),
+    ("model", "PlanCases", ["plans_hold"]),
+    ("model", "WordCases", ["readings_hold"]),
+    ("wellformed", "Whole", ["check_sound", "check_complete"]),
+    ("representation", "Unique", ["rep_unique"]),
+    ("written", "Whole", ["has_words"]),
+    ("written", "Limits", ["written_small"]),
+    ("reach", "Every", ["Words", "every_state", "accepted", "shown_again", "not_misuse", "Starts", "any_two"]),
+    ("invariant", "Kept", ["run_kept"]),
+    ("invariant", "Reached", ["reached"]),
 ]
 # the outside calls: crate and function. Their clauses are recorded as they stand, and the names of `meets` are followed
-CALLS = [("create", "gurtxozal_create"), ("runner", "gurtxozal_run")]
+CALLS = [("create_c", "gurtxozal_create"), ("runner_c", "gurtxozal_run")]
 LEAVES = ("model", "codec", "authority", "format")
 # definitions that need not be read, since promises say all of them: recorded by a sum, too, and not followed
 SAID = {
-    ("wellformed", "Whole", "checkB"): "check-sound and check-complete say when it is true",
-    ("wellformed", "View", "tablesView"): "by rep-unique the words represent one state",
-    ("wellformed", "View", "objectsView"): "by rep-unique the words represent one state",
-    ("structure", "Frames", "freeFrames"): "by rep-unique the words represent one state",
-    ("ledger", "View", "rowsView"): "by rep-unique the words represent one state",
-    ("written", "Whole", "written"): "has-words says which state they represent, and by rep-unique it is the only one",
+    ("wellformed", "Whole", "check_b"): "check_sound and check_complete say when it is true",
+    ("wellformed", "View", "tables_view"): "by rep_unique the words represent one state",
+    ("wellformed", "View", "objects_view"): "by rep_unique the words represent one state",
+    ("structure", "Frames", "free_frames"): "by rep_unique the words represent one state",
+    ("ledger", "View", "rows_view"): "by rep_unique the words represent one state",
+    ("written", "Whole", "written"): "has_words says which state they represent, and by rep_unique it is the only one",
 }
 FOLDER = root / "docs" / "statements"
 
 # names that the printed statements show short, and that are not listed below a definition where they are these
-IMPORTS = """use mathlib.Core.Path.{_≡_}
-use mathlib.Core.Bool.{Bool, true, false, not, _&&_, _||_}
-use mathlib.Core.List.{List, [], _∷_, _++_, map}
-use mathlib.Core.Option.{Option, none, some}
-use Prim.Native.Nat.{ℕ, zero, suc, _+_, _-_, _*_, _/_, _%_, _^_, _≤_, _<_}
-use lib.ListN.{length, getD, take, drop}
-use lib.Dec.{eqb, ltb, leb}
+IMPORTS = """use Rattle.std.specs.Prelude.{◌≡◌, Bool, true, false, not, ◌&&◌, ◌||◌, List, [], ◌∷◌, ◌++◌, map, ℕ, zero, suc, ◌+◌, ◌-◌, ◌*◌, ◌/◌, ◌%◌, ◌^◌, ◌≤◌, ◌<◌, length, get_or, take, drop, eqb, ltb, leb}
+use Rattle.std.proofs.Math.Option.{Option, none, some}
 """
 NAME = r"[^\s(){};,.‹›`]+"
 # a declaration of this repository as the checker names it: crate, modules, name
-KERNEL = re.compile(r"‹out of reach Rattle·(\w+)·specs\.specs\.((?:[\w-]+\.)+)(%s)›|Rattle·(\w+)(?:·specs)?\.specs\.((?:[\w-]+\.)+)(%s)" % (NAME, NAME))
+# (a module's name begins with a capital, so what follows the name after a dot is a field)
+MODULES = r"((?:(?:declared|contracts|[A-Z][\w'-]*)\.)+)"
+KERNEL = re.compile(r"‹out of reach Rattle\.(\w+)\.(?:specs|proofs)\.%s(%s)›|Rattle\.(\w+)\.(?:specs|proofs)\.%s(%s)" % (MODULES, NAME, MODULES, NAME))
 
 
 def named(found):
@@ -87,8 +85,8 @@ USUAL = {item.strip(): f"{path}.{item.strip()}" for path, items in re.findall(r"
 class Declaration:
     """A declaration: where it stands, its text without comments, under the headers of the sections that it stands in."""
 
-    def __init__(self, crate, module, name, text, sections, constructors=()):
-        self.key, self.text, self.sections, self.constructors = (crate, module, name), text, sections, constructors
+    def __init__(self, crate, module, name, text, sections, constructors=(), part="specs"):
+        self.key, self.text, self.sections, self.constructors, self.part = (crate, module, name), text, sections, constructors, part
 
     def whole(self):
         return "\n".join(list(self.sections) + [self.text])
@@ -108,11 +106,25 @@ def another(line, depth, name):
 
 @lru_cache(maxsize=None)
 def module(crate, name):
-    """The declarations of a module by name (a constructor names its data type), what its `use` lines bring of this repository: name to (crate, module, name), and what
+    """The declarations of a module by name (a constructor names its data type), in specs/ and in proofs/, what its `use` lines bring of this repository: name to (crate, module, name), and what
     they bring of other libraries: name to where it is from."""
-    path = root / "crates" / crate / "specs" / (name.replace(".", "/") + ".antt")
-    if not path.exists():
-        return {}, {}, {}
+    out, brought, foreign = {}, {}, {}
+    for path in modules(crate, name.replace(".", "/")):
+        part = path.relative_to(root / "crates" / crate).parts[0]
+        mine, *more = module_file(crate, name, path, part)
+        for key, declaration in mine.items():
+            if key in out and name != "Lib":
+                sys.exit(f"statements.py: {crate} {name}.{key} stands in specs/ and in proofs/")
+            out[key] = declaration
+        for all, few in zip((brought, foreign), more):
+            for key, value in few.items():
+                if all.setdefault(key, value) != value:
+                    sys.exit(f"statements.py: in {crate}, {name} of specs/ and of proofs/ mean other things by {key}")
+    return out, brought, foreign
+
+
+def module_file(crate, name, path, part):
+    """The same of one file of a module, of specs/ or of proofs/."""
     lines = [re.sub(r"\s--(\s.*|$)", "", l).rstrip() for l in path.read_text().split("\n") if not re.match(r"\s*--(\s|$)", l)]
     brought, foreign = imports("\n".join(lines), "(?:pub )?use ")
     out, sections, at = {}, [], 0
@@ -138,7 +150,7 @@ def module(crate, name):
             end += 1
         text = "\n".join(lines[at:end])
         made = re.findall(r"^\s+(?:pub )?((?:%s )+):" % NAME, text.split("\n", 1)[1] if found.group(3) == "data " and "\n" in text else "", flags=re.M)
-        declaration = Declaration(crate, name, found.group(4), text, [s for _, s in sections], [c for group in made for c in group.split()])
+        declaration = Declaration(crate, name, found.group(4), text, [s for _, s in sections], [c for group in made for c in group.split()], part)
         out.setdefault(found.group(4), declaration)
         at = end
     for declaration in list(out.values()):
@@ -151,7 +163,8 @@ def imports(text, word):
     """What `use` lines bring: of this repository, and of other libraries."""
     brought, foreign = {}, {}
     for path, items in re.findall(r"^%s([^\s{;]+?)\.\{([^}]*)\}" % word, text, flags=re.M):
-        own = re.fullmatch(r"Rattle·(\w+)(?:·specs)?\.specs\.([\w.-]+)", path)
+        own = re.fullmatch(r"Rattle\.(\w+)\.(?:specs|proofs)\.([\w.'-]+)", path)
+        own = own if own and own.group(1) in dependencies() else None
         for item in items.split(","):
             old, _, new = item.strip().partition(" as ")
             parts = old.split(".")
@@ -169,7 +182,7 @@ def used(text, names):
     text = re.sub(r"^(\s+(?:pub )?)%s( : )" % NAME, r"\1\2", text, flags=re.M)
     tokens = set(re.split(r"[\s(){};,]+", text))
     tokens |= {t.rstrip(".") for t in tokens} | {t.split(".")[0] for t in tokens}
-    return {n for n in names if (tokens & set(n.split("_")) - {""} if n.strip("_") != n or "_" in n else n in tokens)}
+    return {n for n in names if (tokens & set(n.split("◌")) - {""} if "◌" in n else n in tokens)}
 
 
 def declared(crate, name):
@@ -233,40 +246,46 @@ def parameters(declaration):
 
 def printed():
     """For each promise the lines that the checker prints of it."""
-    deps = dependencies()
-    crates = sorted({d for crate, _, _ in PROMISES for d in (crate, *deps[crate])})
+    crates = sorted({d for crate, _, _ in PROMISES for d in below(crate)})
     with tempfile.TemporaryDirectory() as folder:
         scratch = copied(Path(folder))
         crate = scratch / "crates" / "shown"
         (crate / "src").mkdir(parents=True)
-        (crate / "specs").mkdir()
+        (crate / "proofs").mkdir()
         with open(scratch / "crates.txt", "a") as f:
             f.write(f"\nshown: {' '.join(crates)}\n")
         (crate / "src" / "lib.rt").write_text("// The promises, shown.\n")
-        modules = []
+        shown = []
         for n, (of, where, names) in enumerate(PROMISES):
             for name in names:
                 declaration = module(of, where)[0].get(name)
                 if declaration is None:
                     sys.exit(f"statements.py: {of} has no {where}.{name}")
-                text = f"{IMPORTS}use Rattle·{of}.specs.{where}.{{{name} as promise}}\n\n"
+                text = f"{IMPORTS}use Rattle.{of}.{declaration.part}.{where}.{{{name} as promise}}\n\n"
                 if re.match(r"\s*(?:pub )?record ", declaration.text):
                     binders, fields = parameters(declaration)
                     text += "shown : " + "".join(f"({b} : _) → " for b in binders) + f"promise {' '.join(binders)} → ℕ\n".replace("promise  →", "promise →")
-                    text += f"shown {' '.join([*binders, 'it'])} =\n" + "".join(f"    let {f} = it .{f} in\n" for f in fields) + "    ?shown\n"
+                    text += f"shown {' '.join([*binders, 'it'])} =\n" + "".join(f"    let {f} = it.{f} in\n" for f in fields) + "    ?shown\n"
                 else:
                     text += "shown : ℕ\nshown = let it = promise in ?shown\n"
-                modules.append((f"Shown{len(modules)}", of, where, name))
-                (crate / "specs" / f"{modules[-1][0]}.antt").write_text(text)
-        (crate / "specs" / "Lib.antt").write_text("".join(f"pub mod {m}\n" for m, *_ in modules))
-        done = subprocess.run(["rt", "dev", "shown", "--allow-holes"], cwd=scratch, capture_output=True, text=True)
+                shown.append((f"Shown{len(shown)}", of, where, name))
+                (crate / "proofs" / f"{shown[-1][0]}.antt").write_text(text)
+        (crate / "proofs" / "Lib.antt").write_text("".join(f"pub mod {m}\n" for m, *_ in shown))
+        done = subprocess.run(["rt", "check", "--allow-holes"], cwd=crate, capture_output=True, text=True)
         log = done.stdout + done.stderr
     out = {}
-    for m, of, where, name in modules:
-        found = re.search(r"specs/%s\.antt:\d+:\d+: goal \?shown in `shown`\n((?:    .*\n|  ⊢.*\n)*)" % m, log)
+    for m, of, where, name in shown:
+        found = re.search(r"proofs/%s\.antt:\d+:\d+: goal \?shown in `shown`\n((?:    .*\n|  ⊢.*\n)*)" % m, log)
         if not found:
             sys.exit(f"statements.py: the checker does not print {of} {where}.{name}:\n{log[-1500:]}")
-        out[of, where, name] = [l[4:] for l in found.group(1).split("\n") if l.startswith("    ")]
+        out[of, where, name] = entries = []
+        for line in found.group(1).split("\n"):
+            if line.startswith("  ⊢"):
+                break
+            if re.match(r"     ", line):  # a type that is printed on several lines
+                entries[-1] += " " + line.strip()
+            elif line.strip():
+                entries.append(line.strip())
     return out
 
 

@@ -2,8 +2,8 @@
 """Wrong versions of the crates, tried by hand: each edit of tests/wrong/CRATE is made in a copy of the crates, and the prover must refuse it.
 
 They are must-fail edits that would cost the gate too much time (docs/budget.md): there each would cost a check of its whole crate. Here a crate is checked once as it stands, which must pass, and
-then with each edit over what that check has kept, so that only what the edit touches is checked again. A refusal counts if its first error has a class (tests/reasons.py). The crates must be
-proved before (`rt check`). The logs go to target/wrong/CRATE/LABEL.log. The rows of the crates whose edits were all tried are written to docs/wrong-programs.md; the gate
+then with each edit over what that check has kept, so that only what the edit touches is checked again. A refusal counts if its first error has a class (tests/reasons.py). The crates below
+must be proved before (`rt all check`). The logs go to target/wrong/CRATE/LABEL.log. The rows of the crates whose edits were all tried are written to docs/wrong-programs.md; the gate
 compares its numbers with tests/wrong.
 
   wrong.py                 every crate
@@ -23,7 +23,7 @@ from concurrent.futures import ThreadPoolExecutor
 from pathlib import Path
 
 from reasons import MEANING, TRIED, UNFIT, applied, change, classify, gate_edits, hand_edits
-from scratch import copied, dependencies, root
+from scratch import below, copied, dependencies, root
 
 HEAD = """# Wrong programs
 
@@ -46,7 +46,7 @@ def attempt(crate, edits):
         at = scratch / "crates" / crate
 
         def checked(label):
-            done = subprocess.run(["rt", "dev", crate], cwd=scratch, capture_output=True, text=True)
+            done = subprocess.run(["rt", "check"], cwd=at, capture_output=True, text=True)
             (logs / f"{label}.log").write_text(done.stdout + done.stderr)
             return done.returncode, done.stdout + done.stderr
 
@@ -115,9 +115,9 @@ def main():
         crate = name.split("/")[0]
         if not words or name in words or crate in words:
             chosen.setdefault(crate, {})[name] = path
-    unproved = [crate for crate in chosen if not (root / "target" / "stamp" / crate).is_file()]
+    unproved = {name for crate in chosen for name in below(crate) - {crate} if not (root / "crates" / name / "out" / "rlib" / "stamp").is_file()}
     if unproved:
-        sys.exit(f"these crates are not proved, run `rt check` before: {' '.join(unproved)}")
+        sys.exit(f"these crates are not proved, run `rt all check` before: {' '.join(sorted(unproved))}")
     passed = failed = 0
     results = {}
     with ThreadPoolExecutor(int(os.environ.get("RT_JOBS", "2"))) as pool:

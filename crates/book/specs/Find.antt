@@ -23,7 +23,7 @@ use Rattle.book.specs.Lists.{ids_rise, find_nth, nth_find, nth_below}
 use Rattle.book.specs.Places.{Indexed, row_of}
 use Rattle.book.specs.Ops.{id_at, link_from, used_of, likely_rank, likely_link, row_link, kind_link}
 
--- the book of a well_formed_law state: its rows have places, and their ids rise
+-- the book of a well-formed state: its rows have places, and their ids rise
 pub record Fits (s : State) : Type 0 where
   pub room : length s.book.rows ≤ s.book.capacity
   pub rise : IdsRise 1 s.book.rows s.book.next

@@ -35,14 +35,14 @@ counts_in_law ws sh h = rw (le-leb (total sh) (length ws) h)
 -- ---- in the model's
 
 module _ (sh : Shape) (m : Mem) (s : State) (r : Represents sh m s) (n : Bounds sh m) where
-  -- the clause `counted` of a well_formed_law state
+  -- the clause `counted` of a well-formed state
   pub counted_sound : counts_b m sh ≡ true → (o : ℕ) → o < s.object_count → (s.objects o).count ≡ handle_count s o
   counted_sound e o l = sym (r.objects o l).count ∙ counts_sound m sh e o (omega (arith, r.object_count)) ∙ handles_are sh m s r n o
 
   pub counted_complete : ((o : ℕ) → o < s.object_count → (s.objects o).count ≡ handle_count s o) → counts_b m sh ≡ true
   counted_complete h = counts_complete m sh (λ o l. let i : o < s.object_count = omega (arith, r.object_count) in (r.objects o i).count ∙ h o i ∙ sym (handles_are sh m s r n o))
 
--- ---- the bounds hold in a well_formed_law state
+-- ---- the bounds hold in a well-formed state
 
 module _ (m : Mem) (s : State) where
   body_bound : (x : ℕ) (y : Body) → BodyIs m x y → BodyRange till s y → FewHandles m x

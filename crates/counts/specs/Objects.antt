@@ -161,7 +161,7 @@ module _ (m : Mem) (o : ℕ) (f : ObjectFits m o) where
   pub from_staged : StageCount (object_from m o).stage (object_from m o).count
   from_staged = stage_count (m (object o object_stage)) (m (object o object_active)) f.staged
 
--- ---- and back: the words of a well_formed_law state's object fit
+-- ---- and back: the words of a well-formed state's object fit
 
 stage_fits : (g : Stage) (n : ℕ) → StageCount g n → stage_b (stage_word g) n ≡ true
 stage_fits still_new n h = eq-eqb n 0 h
@@ -180,7 +180,7 @@ fits_of m o x i r g w = record {
   staged = rw (i.stage, i.count) (stage_fits x.stage x.count g);
 }
 
--- every object of a well_formed_law state does
+-- every object of a well-formed state does
 pub objects_fit : (sh : Shape) (m : Mem) (s : State) → Represents sh m s → WellFormed till s → objects_b m sh ≡ true
 objects_fit sh m s r w = objects_complete m sh (λ o l. let i : o < s.object_count = omega (arith, r.object_count) in
     fits_of m o (s.objects o) (r.objects o i) (w.ranges.objects o i) (w.counts.staged o i) (w.counts.within o i))

@@ -1,3 +1,3 @@
-// Every request keeps a state well formed: the theorem is `kept` in specs/Kept.antt. No code stands here.
+// Every request keeps a state well formed: the theorem is `kept` in proofs/Kept.antt. No code stands here.
 
 #![tactic(auto)]

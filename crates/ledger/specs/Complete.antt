@@ -1,4 +1,4 @@
--- The check's answer `no` is right: the memory of a well_formed_law state has the facts of the ledger. Assumes nothing.
+-- The check's answer `no` is right: the memory of a well-formed state has the facts of the ledger. Assumes nothing.
 use Rattle.std.specs.Prelude.{◌≡◌, Bool, false, ◌&&◌, ◌||◌, eqb, ltb}
 use Rattle.std.proofs.Math.Path.{refl, ap, subst}
 use Rattle.std.proofs.Common.{sym, ◌∙◌, arith, eq-eqb, eqb-true}
@@ -391,7 +391,7 @@ module _ (sh : Shape) (m : Mem) (s : State) (p : Represents sh m s) (w : WellFor
         plans = f.plans;
       }
 
-  -- THE CHECK ACCEPTS every well_formed_law state
+  -- THE CHECK ACCEPTS every well-formed state
   pub ledger_complete : Ledger sh m
   ledger_complete = record {
     used = few;

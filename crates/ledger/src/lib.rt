@@ -328,7 +328,7 @@ pub fn mark_ok(s: &[u64], sh: Shape, b: u64, k: u64, t: u64, x: u64, j: u64) -> 
     hit(s, sh, t, x, j, k)
 }
 
-// How many frames plans hold, plus 1; 0 if the book of a state, its marks aside, is not as a well_formed_law state's must be.
+// How many frames plans hold, plus 1; 0 if the book of a state, its marks aside, is not as a well-formed state's must be.
 pub fn check_book(s: &[u64], sh: Shape) -> u64
     ensures { result ≡ counted (book_b (loadAt s.now sh) sh) (held_frames (loadAt s.now sh)) }
 {

@@ -1,4 +1,4 @@
--- Creation gives a well_formed_law state.
+-- Creation gives a well-formed state.
 use Rattle.std.specs.Prelude.{◌≡◌, refl, true, ℕ, zero, suc, ◌-◌, ◌^◌, ◌≤◌, length, ltb}
 use Rattle.std.proofs.Math.Option.{Option, none, some}
 use Rattle.std.proofs.Common.{arith, ltb-true, le-ltb}

@@ -238,7 +238,7 @@ on_requests z s answers none = record { result = 19; state = some s; answers = a
 on_requests z s answers (some rs) = pick (answer_short answers rs) (record { result = 20; state = some s; answers = answers }) (ran z s rs answers)
 
 -- "Order: state check 18, list 19, answer length 20; these are the whole call's result and no lent word changes, while a call that passes
--- them gives 0". The state's words stand for `none` if no well_formed_law state is represented by them
+-- them gives 0". The state's words stand for `none` if no well-formed state is represented by them
 unfoldable pub call : Sizes → Option State → List ℕ → List ℕ → Outcome
 call z none list answers = record { result = 18; state = none; answers = answers }
 call z (some s) list answers = on_requests z s answers (read_list list)

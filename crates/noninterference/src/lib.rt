@@ -1,3 +1,3 @@
-// The held and the plain run: all of it stands in specs.
+// The held and the plain run: the definitions stand in specs/, the theorems in proofs/.
 
 #![tactic(auto)]

@@ -120,7 +120,7 @@ module _ (m : Mem) (b : ℕ) (t : Table) (v : Viewed m b t) where
       (λ j h. let q : (p * page_size + j) / page_size ≡ p = omega arith in
       ap bit (slot_busy p f j l e h (there (p * page_size + j) ∙ rw (q, a, lt-ltb (p * page_size + j) max_slots (omega arith)))))
 
-  -- THE ORDERS that the check gives are a well_formed_law table's ..
+  -- THE ORDERS that the check gives are a well-formed table's ..
   pub orders_hold : (x y z : List ℕ) → OrdersAre m b x y z
       → ((k : ℕ) → occurs k x ≡ bit (is_vacant (t.slots k)))
       × ((p : ℕ) → occurs p y ≡ bit (is_attached t p && eqb (busy_of till t.slots p) 0))
@@ -131,7 +131,7 @@ module _ (m : Mem) (b : ℕ) (t : Table) (v : Viewed m b t) where
     λ p. o.detached.exact p ∙ ap bit (detached_is p),
   )
 
--- .. and a well_formed_law table's orders are what the check asks for
+-- .. and a well-formed table's orders are what the check asks for
 pub orders_given : (m : Mem) (b : ℕ) (t : Table) → TableIs m b t → Viewed m b t → Orders till t → t.size ≤ pages_max → OrdersAre m b t.free t.empty t.detached
 orders_given m b t i v o h = record {
   size = omega (arith, i.size);
@@ -154,7 +154,7 @@ module _ (sh : Shape) (m : Mem) (s : State) (r : Represents sh m s) (w : WellFor
     slots = i.slots;
   }
 
-  -- of a represented, well_formed_law state the check is true
+  -- of a represented, well-formed state the check is true
   pub orders_represented : orders_b m sh ≡ true
   orders_represented =
       orders_complete m sh

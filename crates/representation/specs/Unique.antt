@@ -1,4 +1,4 @@
--- The representation is a function: a memory represents at most one well_formed_law state. Assumes nothing.
+-- The representation is a function: a memory represents at most one well-formed state. Assumes nothing.
 use Rattle.std.specs.Prelude.{◌≡◌, refl, Bool, true, false, List, [], ◌∷◌, ℕ, suc, ◌≤◌, ◌<◌, length, ltb}
 use Rattle.std.proofs.Common.{sym, ap, ◌∙◌, arith, ltb-true, ltb-false}
 use Rattle.std.proofs.Math.Path.{fun_ext}

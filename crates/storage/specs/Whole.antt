@@ -28,7 +28,7 @@ pub record Placed (z : Sizes) (s : State) : Type 0 where
   pub sound : (b : ℕ) → b < s.table_count → Sound z (s.tables b) (s.tables b).free
   pub frames : (b p f : ℕ) → b < s.table_count → p < (s.tables b).size → ((s.tables b).pages p).frame ≡ some f → f < s.frame_count
 
--- that of a well_formed_law state is
+-- that of a well-formed state is
 pub placed_of : {z : Sizes} (s : State) → WellFormed z s → Placed z s
 placed_of {z} s w = record {
   sound = sound_of z s (storage_of z s w);

@@ -1,4 +1,4 @@
--- What a well_formed_law state asks of its heads, page entries, slots and frames, as facts about a memory. Assumes nothing.
+-- What a well-formed state asks of its heads, page entries, slots and frames, as facts about a memory. Assumes nothing.
 use Rattle.std.specs.Prelude.{◌≡◌, Bool, not, ◌&&◌, ℕ, suc, ◌+◌, ◌*◌, ◌^◌, ◌≤◌, ◌<◌, eqb, ltb}
 use Rattle.model.specs.Base.{bit, sum}
 use Rattle.model.specs.State.{till}

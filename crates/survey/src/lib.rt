@@ -177,7 +177,7 @@ fn walk_table(s: &mut [u64], sh: Shape, used: u64, b: u64) -> bool
     ok
 }
 
-// Whether the slots of every page are as a well_formed_law state's must be. Leaves every handle of a slot counted, of a page with a fault those before it.
+// Whether the slots of every page are as a well-formed state's must be. Leaves every handle of a slot counted, of a page with a fault those before it.
 pub fn walk_slots(s: &mut [u64], sh: Shape, used: u64) -> bool
     requires used_le_objects { used ≤ sh.objects }
     requires sh_in_bounds { total sh ≤ length s.old }

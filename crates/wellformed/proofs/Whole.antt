@@ -28,9 +28,9 @@ use Rattle.ledger.specs.Complete.{view, complete as ledger_complete}
 use Rattle.counts.specs.Objects.{objects_b, objects_sound, objects_fit}
 use Rattle.counts.specs.Code.{counts_in}
 use Rattle.counts.specs.Decide.{counts_in_law, counted_complete, bounds_of}
+use Rattle.wellformed.specs.Whole.{parts_b, well_b, check_b}
 use Rattle.wellformed.specs.View.{view_of}
 use Rattle.wellformed.specs.Shown.{Passed, represents, well_formed_law}
-use Rattle.wellformed.specs.Whole.{parts_b, well_b, check_b}
 
 module _ (ws : List ℕ) (sh : Shape) where
   passed : Shaped ws sh → well_b ws sh ≡ true → Passed sh (load ws sh)
@@ -60,7 +60,7 @@ module _ (ws : List ℕ) (sh : Shape) where
   held_here : (s : State) → Represents sh (load ws sh) s → WellFormed till s → planned_in s.book.rows ≡ held_frames (load ws sh)
   held_here s m w = ap planned_in (view sh (load ws sh) s m w) ∙ held_count (load ws sh)
 
-  -- NO IS RIGHT: of words that represent a well_formed_law state the answer is yes
+  -- NO IS RIGHT: of words that represent a well-formed state the answer is yes
   pub complete : (s : State) → Rep ws sh s → well_b ws sh ≡ true
   unfolding well_b parts_b
   complete s r =
@@ -86,6 +86,8 @@ module _ (ws : List ℕ) (sh : Shape) where
 -- .. so that words without one represent none
 pub shapeless : (ws : List ℕ) → shape_of ws ≡ Bad → (sh : Shape) (s : State) → Rep ws sh s → ⊥
 shapeless ws e sh s r = let z : Bad ≡ found sh = sym e ∙ shape_given ws sh s r in let y : ◌≡◌ {A = ℕ} 0 1 = cc in absurd (omega arith)
+
+-- ---- with the shape that the header gives
 
 -- THE CHECK IS EXACT: yes is right ..
 pub check_sound : (ws : List ℕ) → Small ws → check_b ws ≡ true → (sh : Shape) × (shape_of ws ≡ found sh) × Rep ws sh (view_of sh (load ws sh))

@@ -1,4 +1,4 @@
--- The parts of the check that write nothing, as `check_parts` tries them (proofs/Bodies.antt: what the functions' bodies go by). Assumes nothing.
+-- What the parts of the check that write nothing test, in the order of the code. Assumes nothing.
 use Rattle.std.specs.Prelude.{Bool, ◌&&◌}
 use Rattle.layout.specs.declared.Shape.{Shape}
 use Rattle.layout.specs.Layout.{Mem}

@@ -1,4 +1,4 @@
--- THE STATE CHECK, WHOLE (proofs/Whole.antt: it answers exactly whether the words represent a well-formed state). Assumes nothing.
+-- THE STATE CHECK, WHOLE, as a test of the words. Assumes nothing.
 use Rattle.std.specs.Prelude.{Bool, false, ◌&&◌, List, ℕ}
 use Rattle.layout.specs.declared.Shape.{Shape}
 use Rattle.layout.specs.Layout.{Mem, load}

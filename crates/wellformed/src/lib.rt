@@ -1,4 +1,4 @@
-// The state check, whole: whether lent words represent a well_formed_law state.
+// The state check, whole: whether lent words represent a well-formed state.
 #![tactic(auto)]
 
 ghost use Rattle.std.specs.Prelude.{◌≡◌, true, ◌≤◌, length};
@@ -50,7 +50,7 @@ fn check_handles(s: &mut [u64], sh: Shape, used: u64) -> bool
     counts::both(slots, counted)
 }
 
-// Whether the words of a shape represent a well_formed_law state.
+// Whether the words of a shape represent a well-formed state.
 pub fn check(s: &mut [u64], sh: Shape) -> bool
     ensures kept { s.new ≡ s.old }
     ensures answer { result ≡ well_b s.old sh }

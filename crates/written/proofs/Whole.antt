@@ -109,7 +109,7 @@ module _ (s : State) (w : WellFormed till s) where
   unfolding written
   written_length = spread_length (shape_for s) (word_at s)
 
-  -- THE THEOREM: a well_formed_law state is represented by its words
+  -- THE THEOREM: a well-formed state is represented by its words
   pub has_words : Rep (written s) (shape_for s) s
   has_words = record {
     reps = record {

@@ -1,3 +1,3 @@
-// Every well_formed_law state has words: the definition `written` that gives them and the theorem `has_words`. All of it stands in specs.
+// Every well-formed state has words: the definition `written` that gives them and the theorem `has_words`. The definition stands in specs/, the theorem in proofs/.
 
 #![tactic(auto)]
