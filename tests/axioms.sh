@@ -14,19 +14,19 @@ fi
 crates=$(sed -e 's/#.*//' -e '/:/!d' -e 's/[ :].*//' crates.txt)
 [ -n "$crates" ] || exit 2
 for crate in $crates; do
-  if ! grep -qE "^rt: $crate (proved|is kept: an earlier run on this machine proved )" "$1"; then
+  if ! grep -aqE "^rt: $crate (proved|is kept: an earlier run on this machine proved )" "$1"; then
     echo "the log does not say that $crate is proved"
     exit 1
   fi
 done
-if grep -nE '^logic=' "$1" | grep -vE '^[0-9]+:logic=proved '; then
+if grep -anE '^logic=' "$1" | grep -vE '^[0-9]+:logic=proved '; then
   exit 1
 fi
-if grep -nE '^logic=.* foreign=' "$1"; then
+if grep -anE '^logic=.* foreign=' "$1"; then
   exit 1
 fi
 # the verdict lines of the log that count axioms: the program's, once; and no other crate is named with some
-if [ "$(grep -cE '^logic=.* axioms=[1-9]' "$1")" -gt 1 ]; then
+if [ "$(grep -acE '^logic=.* axioms=[1-9]' "$1")" -gt 1 ]; then
   echo "more than one crate rests on axioms"
   exit 1
 fi
