@@ -96,11 +96,11 @@ fi
 rt ci >"$logs/rt" 2>&1
 status=$?
 mkdir -p target && cp "$logs/rt" target/rt-ci.log
-grep -E '^rt: |error|NOT PROVED|passed, ' "$logs/rt" | cut -c1-240
+grep -aE '^rt: |error|NOT PROVED|passed, ' "$logs/rt" | cut -c1-240
 count "rt ci" "$logs/rt"
 check "rt ci ends with status 0" test "$status" -eq 0
-check "rt ci says 'rt: ok'" grep '^rt: ok' "$logs/rt"
-check "rt ci says of no must-fail edit that it is bad" test -z "$(grep -E '^rt: ok.*, [0-9]+ bad|^rt: (must-fail )?[^ ]+: (BAD EDIT|NOT TRIED)' "$logs/rt")"
+check "rt ci says 'rt: ok'" grep -a '^rt: ok' "$logs/rt"
+check "rt ci says of no must-fail edit that it is bad" test -z "$(grep -aE '^rt: ok.*, [0-9]+ bad|^rt: (must-fail )?[^ ]+: (BAD EDIT|NOT TRIED)' "$logs/rt")"
 echo "proofs and edits: $((SECONDS - start)) s"
 # `rt ci` keeps its proofs for itself; those that the rest of this test builds on are kept in each crate's out/, taken over from earlier checks where these proved the same.
 rt all check >"$logs/all" 2>&1

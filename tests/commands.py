@@ -4,8 +4,8 @@
 A command is a span in backticks, or an indented line, that begins with a program of PROGRAMS. FILE, CRATE and NAME stand for an example and the crate `basket`, LOG for what `rt must-fail basket`
 prints. What `rt` does in a crate's folder (INSIDE) is run in that of `basket`. A command that
 writes files of the repository (WRITES) is run in a copy, and must leave there what stands here. The benchmark is run with `--short` added, and the tables that it prints must be those of
-docs/performance.md. A command for which there is no rule is a fault. It prints what it ran, with the seconds, and what it only looked at, with the reason. docs/landings, which tells
-what was, is left to its time. The crates must be proved; where the port's libraries (c/test.sh makes them), the oracle (oracle/test.sh builds it) or the Rust's sources are missing, what
+docs/performance.md. A command for which there is no rule is a fault. It prints what it ran, with the seconds, and what it only looked at, with the reason. docs/landings and docs/PORT.md, which tell
+what was, are left to their time. The crates must be proved; where the port's libraries (c/test.sh makes them), the oracle (oracle/test.sh builds it) or the Rust's sources are missing, what
 needs them is only looked at.
 """
 import filecmp
@@ -59,6 +59,8 @@ def commands():
     """Each command with the documents that give it."""
     out = {}
     for path in [root / "README.md", *sorted((root / "docs").glob("*.md"))]:
+        if path.name == "PORT.md":
+            continue
         text = re.sub(r"^```.*?^```$", "", path.read_text(), flags=re.M | re.S)
         given = re.findall(r"`([^`\n]+)`", text) + re.findall(r"(?<=\n\n)    (\S.*)$", text, flags=re.M)
         for command in given:

@@ -223,7 +223,7 @@ def main():
     edits = {**by_hand, **gate}
     faults += [f"{name}: it has no line in tests/must-fail.txt" for name in edits if name not in lines]
     faults += [f"{name}: a line of tests/must-fail.txt, and no edit" for name in lines if name not in edits]
-    counts, changes, unseen, told = Counter(), {}, 0, refusals(log.read_text())
+    counts, changes, unseen, told = Counter(), {}, 0, refusals(log.read_text(errors="replace"))
     for name, path in edits.items():
         crate, label = name.split("/")
         parts = change(path)

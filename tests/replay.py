@@ -2,7 +2,7 @@
 """The recorded lists on the port: what the program `replay` reads, and what it wrote (crates/replay/src/main.rt has the form of both).
 
   replay.py --write    writes crates/replay/stdin from recorded/cases.txt, recorded/mixed.txt and recorded/plans.txt
-  replay.py --run      runs the proved program, target/bin/replay, on it and writes crates/replay/stdout
+  replay.py --run      runs the proved program on it (`rt run`) and writes crates/replay/stdout
   replay.py            crates/replay/stdin is what would be written, and crates/replay/stdout, to which the check of the crates holds the program's output, says
                        what the recorded lists say: each result, each answer, and each end state, whose words are read by `words_to_text`
 
@@ -146,7 +146,7 @@ def main():
         return
     if sys.argv[1:] == ["--run"]:
         with open(CRATE / "stdin", "rb") as read:
-            (CRATE / "stdout").write_bytes(subprocess.run([root / "target" / "bin" / "replay"], stdin=read, capture_output=True, check=True).stdout)
+            (CRATE / "stdout").write_bytes(subprocess.run(["rt", "run"], cwd=CRATE, stdin=read, stdout=subprocess.PIPE, check=True).stdout)
         return
     if sys.argv[1:]:
         sys.exit("usage: replay.py [--write | --run]")
