@@ -40,11 +40,11 @@ pub fn abort(s: &mut [u64], sh: Shape, id: ReservationId, out: &mut [u64], base:
         rows: sh.rows,
     };
     let link = book::reservation_of(s, own, id);
-    if words::eq(link, 0) {
+    if link == 0 {
         answer::refuse(out, base, format::refusal::MISUSE);
         return;
     }
-    abort_row(s, own, words::dec(link));
+    abort_row(s, own, link.saturating_sub(1));
     answer::say(out, base);
 }
 
@@ -63,16 +63,16 @@ pub fn trim(s: &mut [u64], sh: Shape, id: ReservationId, n: u64, out: &mut [u64]
     ensures { both s.new out.new ≡ trim_r s.old out.old sh base id.0 n }
 {
     let link = book::reservation_of(s, sh, id);
-    if words::eq(link, 0) {
+    if link == 0 {
         answer::refuse(out, base, format::refusal::MISUSE);
         return;
     }
-    let x = words::dec(link);
-    if words::eq(n, 0) {
+    let x = link.saturating_sub(1);
+    if n == 0 {
         answer::refuse(out, base, format::refusal::MISUSE);
         return;
     }
-    if words::lt(layout::row_word(s, sh, x, field::ROW_LENGTH), n) {
+    if layout::row_word(s, sh, x, field::ROW_LENGTH) < n {
         answer::refuse(out, base, format::refusal::MISUSE);
         return;
     }
@@ -85,10 +85,7 @@ pub fn claim_of(s: &[u64], sh: Shape, id: ReservationId) -> u64
     ensures { result ≡ claim_link (loadAt s.now sh) sh id.0 }
 {
     let link = book::row_of(s, sh, id.0);
-    if words::eq(
-        layout::row_word(s, sh, words::dec(link), field::ROW_KIND),
-        value::KIND_CLAIM,
-    ) {
+    if layout::row_word(s, sh, link.saturating_sub(1), field::ROW_KIND) == value::KIND_CLAIM {
         return link;
     }
     0
@@ -100,10 +97,7 @@ fn undo_entry(s: &mut [u64], sh: Shape, b: u64, x: u64, j: u64)
     ensures words { s.new ≡ undo_w s.old sh b x j }
 {
     let o = layout::item_word(s, sh, x, j, field::ITEM_OBJECT);
-    if words::eq(
-        layout::item_word(s, sh, x, j, field::ITEM_OPERATION),
-        value::OPERATION_MOVE,
-    ) {
+    if layout::item_word(s, sh, x, j, field::ITEM_OPERATION) == value::OPERATION_MOVE {
         let k = layout::item_word(s, sh, x, j, field::ITEM_MOVED);
         let r = layout::item_word(s, sh, x, j, field::ITEM_RIGHTS);
         let f = layout::item_word(s, sh, x, j, field::ITEM_FLAGS);
@@ -117,10 +111,8 @@ fn undo_entry(s: &mut [u64], sh: Shape, b: u64, x: u64, j: u64)
 fn undo_entries(s: &mut [u64], sh: Shape, b: u64, x: u64, n: u64)
     ensures words { s.new ≡ undone_w s.old sh b x n }
 {
-    let mut j: u64 = 0;
-    while j < n {
+    for j in 0..n {
         undo_entry(s, sh, b, x, j);
-        j += 1;
     }
 }
 
@@ -139,11 +131,11 @@ pub fn rollback(s: &mut [u64], sh: Shape, id: ReservationId, out: &mut [u64], ba
     ensures { both s.new out.new ≡ rollback_r s.old out.old sh base id.0 }
 {
     let link = claim_of(s, sh, id);
-    if words::eq(link, 0) {
+    if link == 0 {
         answer::refuse(out, base, format::refusal::MISUSE);
         return;
     }
-    rollback_row(s, sh, words::dec(link));
+    rollback_row(s, sh, link.saturating_sub(1));
     answer::say(out, base);
 }
 
@@ -151,10 +143,7 @@ pub fn rollback(s: &mut [u64], sh: Shape, id: ReservationId, out: &mut [u64], ba
 fn sent_rights(s: &[u64], sh: Shape, x: u64, j: u64) -> u64
     ensures { result ≡ sent_rights (loadAt s.now sh) x j }
 {
-    if words::eq(
-        layout::item_word(s, sh, x, j, field::ITEM_OPERATION),
-        value::OPERATION_MOVE,
-    ) {
+    if layout::item_word(s, sh, x, j, field::ITEM_OPERATION) == value::OPERATION_MOVE {
         return layout::item_word(s, sh, x, j, field::ITEM_GRANTED);
     }
     layout::item_word(s, sh, x, j, field::ITEM_RIGHTS)
@@ -164,10 +153,7 @@ fn sent_rights(s: &[u64], sh: Shape, x: u64, j: u64) -> u64
 fn leave_entry(s: &mut [u64], sh: Shape, b: u64, x: u64, j: u64)
     ensures words { s.new ≡ leave_w s.old sh b x j }
 {
-    if words::eq(
-        layout::item_word(s, sh, x, j, field::ITEM_OPERATION),
-        value::OPERATION_MOVE,
-    ) {
+    if layout::item_word(s, sh, x, j, field::ITEM_OPERATION) == value::OPERATION_MOVE {
         let k = layout::item_word(s, sh, x, j, field::ITEM_MOVED);
         storage::vacate(s, sh, b, k);
     }
@@ -177,10 +163,8 @@ fn leave_entry(s: &mut [u64], sh: Shape, b: u64, x: u64, j: u64)
 fn leave_entries(s: &mut [u64], sh: Shape, b: u64, x: u64, n: u64)
     ensures words { s.new ≡ left_w s.old sh b x n }
 {
-    let mut j: u64 = 0;
-    while j < n {
+    for j in 0..n {
         leave_entry(s, sh, b, x, j);
-        j += 1;
     }
 }
 
@@ -188,10 +172,7 @@ fn leave_entries(s: &mut [u64], sh: Shape, b: u64, x: u64, n: u64)
 fn send_entry(s: &mut [u64], sh: Shape, x: u64, j: u64)
     ensures words { s.new ≡ send_w s.old sh x j }
 {
-    if words::eq(
-        layout::item_word(s, sh, x, j, field::ITEM_OPERATION),
-        value::OPERATION_MOVE,
-    ) {
+    if layout::item_word(s, sh, x, j, field::ITEM_OPERATION) == value::OPERATION_MOVE {
         let r = layout::item_word(s, sh, x, j, field::ITEM_GRANTED);
         layout::put_item(s, sh, x, j, field::ITEM_RIGHTS, r);
     }
@@ -201,10 +182,8 @@ fn send_entry(s: &mut [u64], sh: Shape, x: u64, j: u64)
 fn send_entries(s: &mut [u64], sh: Shape, x: u64, n: u64)
     ensures words { s.new ≡ sent_w s.old sh x n }
 {
-    let mut j: u64 = 0;
-    while j < n {
+    for j in 0..n {
         send_entry(s, sh, x, j);
-        j += 1;
     }
 }
 
@@ -224,11 +203,11 @@ pub fn commit(s: &mut [u64], sh: Shape, id: ReservationId, out: &mut [u64], base
     ensures { both s.new out.new ≡ commit_r s.old out.old sh base id.0 }
 {
     let link = claim_of(s, sh, id);
-    if words::eq(link, 0) {
+    if link == 0 {
         answer::refuse(out, base, format::refusal::MISUSE);
         return;
     }
-    commit_row(s, sh, words::dec(link));
+    commit_row(s, sh, link.saturating_sub(1));
     answer::say(out, base);
 }
 
@@ -236,29 +215,27 @@ pub fn commit(s: &mut [u64], sh: Shape, id: ReservationId, out: &mut [u64], base
 fn paired(s: &[u64], sh: Shape, l: u64, k: u64) -> bool
     ensures { result ≡ paired (loadAt s.now sh) l k }
 {
-    if words::eq(l, 0) {
+    if l == 0 {
         return false;
     }
-    if words::eq(k, 0) {
+    if k == 0 {
         return false;
     }
-    let n = layout::row_word(s, sh, words::dec(l), field::ROW_LENGTH);
-    let m = layout::row_word(s, sh, words::dec(k), field::ROW_LENGTH);
-    words::eq(n, m)
+    let n = layout::row_word(s, sh, l.saturating_sub(1), field::ROW_LENGTH);
+    let m = layout::row_word(s, sh, k.saturating_sub(1), field::ROW_LENGTH);
+    n == m
 }
 
 // The first n entries of the claim in place `from` fill the slots of the reservation in place `to`, of table c.
 fn fill_slots(s: &mut [u64], sh: Shape, c: u64, to: u64, from: u64, n: u64)
     ensures words { s.new ≡ filled_w s.old sh c to from n }
 {
-    let mut j: u64 = 0;
-    while j < n {
+    for j in 0..n {
         let k = layout::item_word(s, sh, to, j, field::ITEM_SLOT);
         let o = layout::item_word(s, sh, from, j, field::ITEM_OBJECT);
         let r = sent_rights(s, sh, from, j);
         let f = layout::item_word(s, sh, from, j, field::ITEM_FLAGS);
         storage::occupy(s, sh, c, k, o, r, f);
-        j += 1;
     }
 }
 
@@ -289,7 +266,7 @@ pub fn direct_commit(
     let l = claim_of(s, sh, id);
     let k = book::reservation_of(s, sh, destination);
     if paired(s, sh, l, k) {
-        direct_rows(s, sh, words::dec(l), words::dec(k));
+        direct_rows(s, sh, l.saturating_sub(1), k.saturating_sub(1));
         answer::say(out, base);
         return;
     }
@@ -310,7 +287,7 @@ pub fn direct_rollback(
     let l = claim_of(s, sh, id);
     let k = book::reservation_of(s, sh, destination);
     if paired(s, sh, l, k) {
-        rollback_row(s, sh, words::dec(l));
+        rollback_row(s, sh, l.saturating_sub(1));
         abort(s, sh, destination, out, base);
         return;
     }

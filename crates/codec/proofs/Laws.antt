@@ -1,6 +1,6 @@
 -- Laws of the codec.
 -- Assumes nothing.
-use Rattle.std.specs.Prelude.{◌≡◌, refl, Bool, true, false, not, ◌&&◌, ℕ, ◌+◌, ◌-◌, ◌*◌, ◌/◌, ◌%◌, ◌^◌, ◌<◌, ◌≤◌, eqb, ltb}
+use Rattle.std.specs.Prelude.{◌≡◌, refl, Bool, true, false, not, ◌&&◌, ℕ, ◌+◌, ◌-◌, ◌*◌, ◌/◌, ◌%◌, ◌^◌, ◌<◌, ◌≤◌, eqb, ltb, None}
 use Rattle.std.proofs.Common.{sym, ap₂, ◌∙◌}
 use Rattle.std.proofs.Math.Path.{ap}
 use native.Mathlib.Omega.{arith}
@@ -9,7 +9,6 @@ use Rattle.std.proofs.lemmas.Nat.{xor_lt, and_mask}
 use Rattle.std.proofs.lemmas.Nat.Bits.{and_high}
 use borrow.Author.Tests.{eqb-true, eqb-false, eq-eqb, ne_eqb, lt-ltb, le-ltb, ltb-true, ltb-false}
 use Rattle.words.specs.Pick.{yes_is, no_is}
-use Rattle.codec.specs.declared.Decoded.TheVariants.{At, Invalid}
 use Rattle.codec.proofs.Xor.{xor_cancel}
 use Rattle.codec.specs.Codec.{
   slot_limit,
@@ -24,6 +23,7 @@ use Rattle.codec.specs.Codec.{
   generation_in,
   decodes,
   decode_of,
+  found,
   decoded_number,
   next_generation,
 }
@@ -179,14 +179,14 @@ decodes_encoded mask slot generation h1 hg =
     (ne_eqb (generation_in mask v) 0 (λ (z : generation_in mask v ≡ 0). omega (arith, generation_encoded mask slot generation hg)))
 
 pub decode_encoded : (mask slot generation : ℕ) → slot ≤ slot_limit → 1 ≤ generation → generation ≤ generation_limit
-    → decode_of mask (encode mask slot generation) ≡ At slot generation
+    → decode_of mask (encode mask slot generation) ≡ found slot generation
 unfolding decode_of
 decode_encoded mask slot generation hs h1 hg =
     let v = encode mask slot generation in
     sym
-    (yes_is (decodes mask v) (At slot generation) (At (slot_in mask v) (generation_in mask v)) Invalid
+    (yes_is (decodes mask v) (found slot generation) (found (slot_in mask v) (generation_in mask v)) None
     (decodes_encoded mask slot generation h1 hg)
-    (ap₂ At (sym (slot_encoded mask slot generation hs)) (sym (generation_encoded mask slot generation hg))))
+    (ap₂ found (sym (slot_encoded mask slot generation hs)) (sym (generation_encoded mask slot generation hg))))
 
 -- different pairs give different values
 pub encode_injective : (mask slot generation slot' generation' : ℕ) → slot ≤ slot_limit → generation ≤ generation_limit → slot' ≤ slot_limit
@@ -200,12 +200,12 @@ encode_injective mask slot generation slot' generation' hs hg hs' hg' e = (
 pub refused_is_invalid : (mask value : ℕ) → decodes mask value ≡ false → decoded_number (decode_of mask value) ≡ 2
 unfolding decode_of
 refused_is_invalid mask value h =
-    ap decoded_number (sym (no_is (decodes mask value) Invalid (At (slot_in mask value) (generation_in mask value)) Invalid h refl))
+    ap decoded_number (sym (no_is (decodes mask value) None (found (slot_in mask value) (generation_in mask value)) None h refl))
 
-pub accepted_is_at : (mask value : ℕ) → decodes mask value ≡ true → decode_of mask value ≡ At (slot_in mask value) (generation_in mask value)
+pub accepted_is_at : (mask value : ℕ) → decodes mask value ≡ true → decode_of mask value ≡ found (slot_in mask value) (generation_in mask value)
 unfolding decode_of
 accepted_is_at mask value h =
-    sym (yes_is (decodes mask value) (At (slot_in mask value) (generation_in mask value)) (At (slot_in mask value) (generation_in mask value)) Invalid h refl)
+    sym (yes_is (decodes mask value) (found (slot_in mask value) (generation_in mask value)) (found (slot_in mask value) (generation_in mask value)) None h refl)
 
 -- what holds of a value that decodes
 three_hold : (p q r : Bool) → (p && (not q && not r)) ≡ true → (p ≡ true) × (q ≡ false) × (r ≡ false)

@@ -1,11 +1,10 @@
 -- The codec of handle values, from document 01, "What the text lacks, and what we fix" and "Modules, leaves first".
 -- A value is the prefix and, below it, a payload of 56 bits under a mask; the payload is a generation of 32 bits and a slot number of 24.
 -- Assumes nothing.
-use Rattle.std.specs.Prelude.{ℕ, ◌+◌, ◌-◌, ◌*◌, ◌/◌, ◌%◌, ◌^◌, Bool, not, ◌&&◌, eqb, ltb}
+use Rattle.std.specs.Prelude.{ℕ, ◌+◌, ◌-◌, ◌*◌, ◌/◌, ◌%◌, ◌^◌, Bool, not, ◌&&◌, eqb, ltb, Option, Some, None}
 use Rattle.std.specs.Int.Bits.{bit_xor}
 use Rattle.words.specs.Pick.{pick}
 use Rattle.codec.specs.declared.Decoded.{Decoded}
-use Rattle.codec.specs.declared.Decoded.TheVariants.{At, Invalid}
 
 -- "Slot index is at most 16,777,214."
 abbrev pub slot_limit : ℕ
@@ -52,14 +51,18 @@ generation_in mask value = payload_in mask value / 2 ^ 24
 unfoldable pub decodes : ℕ → ℕ → Bool
 decodes mask value = eqb (value - value % 2 ^ 56) prefix && (not (eqb (number_in mask value) 0) && not (eqb (generation_in mask value) 0))
 
+-- a slot and a generation that a value names
+abbrev pub found : ℕ → ℕ → Option Decoded
+found slot generation = Some (record { slot = slot; generation = generation })
+
 -- what a value decodes to
-unfoldable pub decode_of : ℕ → ℕ → Decoded
-decode_of mask value = pick (decodes mask value) (At (slot_in mask value) (generation_in mask value)) Invalid
+unfoldable pub decode_of : ℕ → ℕ → Option Decoded
+decode_of mask value = pick (decodes mask value) (found (slot_in mask value) (generation_in mask value)) None
 
 -- the number of document 01 for each answer: 0 done, 2 InvalidHandle
-abbrev pub decoded_number : Decoded → ℕ
-decoded_number (At slot generation) = 0
-decoded_number Invalid = 2
+abbrev pub decoded_number : Option Decoded → ℕ
+decoded_number (Some d) = 0
+decoded_number None = 2
 
 -- "`next_generation` of 4,294,967,295 is 1", and so of every number above it; below it, one more
 unfoldable pub next_generation : ℕ → ℕ

@@ -18,11 +18,11 @@ pub struct ReservationId(pub u64);
 #[derive(Clone, Copy)]
 pub struct Koid(pub u64);
 
-// What a handle value decodes to: Invalid is refused as InvalidHandle, 2.
+// What a handle value decodes to.
 #[derive(Clone, Copy)]
-pub enum Decoded {
-    At { slot: u64, generation: u64 },
-    Invalid,
+pub struct Decoded {
+    pub slot: u64,
+    pub generation: u64,
 }
 
 // One table's codec: its mask of 56 bits.
@@ -62,26 +62,27 @@ impl HandleCodec {
         HandleValue(HandleCodec::PREFIX + (payload ^ (self.mask & HandleCodec::PAYLOAD_MASK)))
     }
 
-    pub fn decode(self, value: HandleValue) -> Decoded
+    // A value that does not decode is refused as InvalidHandle, 2.
+    pub fn decode(self, value: HandleValue) -> Option<Decoded>
         ensures { result ≡ decode_of self.mask value.0 }
     {
         let raw = value.0;
         if raw & HandleCodec::PREFIX_MASK != HandleCodec::PREFIX {
-            return Decoded::Invalid;
+            return None;
         }
         let payload = (raw & HandleCodec::PAYLOAD_MASK) ^ (self.mask & HandleCodec::PAYLOAD_MASK);
         let number = payload % HandleCodec::GENERATION_UNIT;
         let generation = payload / HandleCodec::GENERATION_UNIT;
         if number == 0 {
-            return Decoded::Invalid;
+            return None;
         }
         if generation == 0 {
-            return Decoded::Invalid;
+            return None;
         }
-        Decoded::At {
+        Some(Decoded {
             slot: number - 1,
-            generation: generation,
-        }
+            generation,
+        })
     }
 }
 

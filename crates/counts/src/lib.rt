@@ -123,12 +123,10 @@ pub fn check_objects(s: &[u64], sh: Shape) -> ObjectsRead
 {
     let first = layout::region_of(sh, layout::region::REGION_OBJECT).low;
     let n = used_objects(s, sh, first);
-    let mut o: u64 = 0;
-    while o < n {
+    for o in 0..n {
         if !object_ok(s, sh, first, o) {
             return ObjectsRead::Bad;
         }
-        o += 1;
     }
     ObjectsRead::Used(n)
 }
@@ -189,10 +187,8 @@ fn note_items(s: &mut [u64], sh: Shape, x: u64, n: u64, top: u64) -> u64
     ensures reached { result ≡ top_of sh.objects top (gather n (λ j. loadAt s.old sh (item x j item_object) ∷ [])) }
 {
     let mut t = top;
-    let mut j: u64 = 0;
-    while j < n {
+    for j in 0..n {
         t = note_item(s, sh, x, j, t);
-        j += 1;
     }
     t
 }
@@ -210,7 +206,7 @@ fn note_row(s: &mut [u64], sh: Shape, x: u64, top: u64) -> u64
         return top;
     }
     let count = layout::row_word(s, sh, x, field::ROW_LENGTH);
-    let n = words::smaller(count, size::BATCH_MAX);
+    let n = count.min(size::BATCH_MAX);
     note_items(s, sh, x, n, top)
 }
 
@@ -229,12 +225,10 @@ pub fn note_rows(s: &mut [u64], sh: Shape, top: u64) -> u64
     ensures reached { result ≡ top_of sh.objects top (in_book (loadAt s.old sh) sh) }
 {
     let used = layout::root_word(s, sh, field::ROOT_USED_ROWS);
-    let n = words::smaller(used, sh.rows as u64);
+    let n = used.min(sh.rows as u64);
     let mut t = top;
-    let mut i: u64 = 0;
-    while i < n {
+    for i in 0..n {
         t = note_rank(s, sh, i, t);
-        i += 1;
     }
     t
 }
@@ -260,7 +254,7 @@ fn settle_one(s: &mut [u64], sh: Shape, first: u64, o: u64) -> bool
     }
     let low = c % UNIT;
     s[at] = low;
-    words::eq(low, c / UNIT)
+    low == c / UNIT
 }
 
 // Leaves the lower half of the count of each of the first n objects. Whether every upper half was equal.
@@ -271,11 +265,9 @@ pub fn settle(s: &mut [u64], sh: Shape, n: u64) -> bool
 {
     let first = layout::region_of(sh, layout::region::REGION_OBJECT).low;
     let mut equal = true;
-    let mut o: u64 = 0;
-    while o < n {
+    for o in 0..n {
         let one = settle_one(s, sh, first, o);
         equal = both(equal, one);
-        o += 1;
     }
     equal
 }

@@ -29,12 +29,10 @@ fn table_ok(p: &[u64], b: u8) -> bool
 fn tables_ok(p: &[u64], n: u8) -> bool
     ensures { result ≡ every (table_permitted till) (tables_in p.now n) }
 {
-    let mut k: u8 = 0;
-    while k < n {
+    for k in 0..n {
         if !table_ok(p, k) {
             return false;
         }
-        k += 1;
     }
     true
 }
@@ -71,12 +69,10 @@ fn objects_ok(p: &[u64], t: u8, n: u16) -> bool
     ensures { result ≡ every object_permitted (objects_in p.now t n) }
 {
     let base = 4 + (t as u32) * 2;
-    let mut k: u16 = 0;
-    while k < n {
+    for k in 0..n {
         if !object_ok(p, base + (k as u32) * 6) {
             return false;
         }
-        k += 1;
     }
     true
 }
@@ -86,11 +82,9 @@ fn pages_of(p: &[u64], n: u8) -> u64
     ensures { result ≡ page_sum p.now n }
 {
     let mut sum: u64 = 0;
-    let mut k: u8 = 0;
-    while k < n {
+    for k in 0..n {
         let pages = words::word(p, 4 + (k as usize) * 2);
-        sum += words::smaller(pages, size::PAGES_MAX);
-        k += 1;
+        sum += pages.min(size::PAGES_MAX);
     }
     sum
 }
@@ -150,10 +144,8 @@ fn plan(p: &[u64]) -> ShapeRead
 fn clear(s: &mut [u64], n: u64)
     ensures { s.new ≡ cleared_w s.old n }
 {
-    let mut k: u64 = 0;
-    while k < n {
+    for k in 0..n {
         words::put(s, k as usize, 0);
-        k += 1;
     }
 }
 
@@ -189,10 +181,8 @@ fn make_heads(s: &mut [u64], sh: Shape, p: &[u64])
     ensures { s.new ≡ heads_w s.old sh p.now sh.tables }
 {
     let n = sh.tables;
-    let mut k: u8 = 0;
-    while k < n {
+    for k in 0..n {
         make_head(s, sh, p, k);
-        k += 1;
     }
 }
 
@@ -213,10 +203,8 @@ fn make_objects(s: &mut [u64], sh: Shape, p: &[u64])
     ensures { s.new ≡ objects_w s.old sh p.now sh.objects }
 {
     let n = sh.objects;
-    let mut k: u16 = 0;
-    while k < n {
+    for k in 0..n {
         make_object(s, sh, p, k);
-        k += 1;
     }
 }
 
@@ -226,12 +214,10 @@ fn make_groups(s: &mut [u64], sh: Shape, region: u64, size: u16, n: u16)
 {
     let frames = sh.frames as u64;
     let each = size as u64;
-    let mut k: u16 = 0;
-    while k < n {
+    for k in 0..n {
         let g = k as u64;
-        let rest = words::left(frames, g * each);
-        layout::save(s, sh, region, g, 0, 0, words::smaller(each, rest));
-        k += 1;
+        let rest = frames.saturating_sub(g * each);
+        layout::save(s, sh, region, g, 0, 0, each.min(rest));
     }
 }
 
@@ -267,11 +253,9 @@ fn make_places(s: &mut [u64], sh: Shape)
     ensures { s.new ≡ places_w s.old sh sh.rows }
 {
     let n = sh.rows as u64;
-    let mut k: u64 = 0;
-    while k < n {
+    for k in 0..n {
         layout::put_index(s, sh, k, k);
         layout::put_rank(s, sh, k, k);
-        k += 1;
     }
 }
 
@@ -291,7 +275,7 @@ fn place(s: &mut [u64], p: &[u64], sh: Shape) -> u64
     ensures { after result s.new ≡ placed_w s.old p.now sh }
 {
     let n = s.len() as u64;
-    if words::le(layout::total_of(sh), n) {
+    if layout::total_of(sh) <= n {
         build(s, p, sh);
         return format::refusal::DONE;
     }

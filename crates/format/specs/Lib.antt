@@ -1,3 +1,4 @@
 pub mod Fields
 pub mod Ops
 pub mod Format
+pub mod Refusals

@@ -15,37 +15,7 @@ pub mod size;
 pub fn must(op: u64) -> u64
     ensures { result ≡ get_or musts op 0 }
 {
-    match op {
-        op::OP_NONE => maps::MUST[op::OP_NONE as usize],
-        op::OP_NEW_OBJECT => maps::MUST[op::OP_NEW_OBJECT as usize],
-        op::OP_DUPLICATE => maps::MUST[op::OP_DUPLICATE as usize],
-        op::OP_RELEASE_PARCEL => maps::MUST[op::OP_RELEASE_PARCEL as usize],
-        op::OP_RETIRE_OBJECT => maps::MUST[op::OP_RETIRE_OBJECT as usize],
-        op::OP_RESERVE => maps::MUST[op::OP_RESERVE as usize],
-        op::OP_TRIM => maps::MUST[op::OP_TRIM as usize],
-        op::OP_ABORT => maps::MUST[op::OP_ABORT as usize],
-        op::OP_PUBLISH => maps::MUST[op::OP_PUBLISH as usize],
-        op::OP_GET_INFO => maps::MUST[op::OP_GET_INFO as usize],
-        op::OP_RESOLVE => maps::MUST[op::OP_RESOLVE as usize],
-        op::OP_REPLACE => maps::MUST[op::OP_REPLACE as usize],
-        op::OP_CLOSE => maps::MUST[op::OP_CLOSE as usize],
-        op::OP_SCAN_HANDLES => maps::MUST[op::OP_SCAN_HANDLES as usize],
-        op::OP_PREPARE_TRANSFER => maps::MUST[op::OP_PREPARE_TRANSFER as usize],
-        op::OP_PREPARE_CONSUMPTION => maps::MUST[op::OP_PREPARE_CONSUMPTION as usize],
-        op::OP_ROLLBACK => maps::MUST[op::OP_ROLLBACK as usize],
-        op::OP_COMMIT => maps::MUST[op::OP_COMMIT as usize],
-        op::OP_DIRECT_COMMIT => maps::MUST[op::OP_DIRECT_COMMIT as usize],
-        op::OP_DIRECT_ROLLBACK => maps::MUST[op::OP_DIRECT_ROLLBACK as usize],
-        op::OP_REMOVE_STOPPING_OWNER => maps::MUST[op::OP_REMOVE_STOPPING_OWNER as usize],
-        op::OP_TEARDOWN_START => maps::MUST[op::OP_TEARDOWN_START as usize],
-        op::OP_TEARDOWN_STEP => maps::MUST[op::OP_TEARDOWN_STEP as usize],
-        op::OP_TEARDOWN_FINISH => maps::MUST[op::OP_TEARDOWN_FINISH as usize],
-        op::OP_TAKE_EMPTY_PAGE => maps::MUST[op::OP_TAKE_EMPTY_PAGE as usize],
-        op::OP_MAKE_PLAN => maps::MUST[op::OP_MAKE_PLAN as usize],
-        op::OP_USE_PLAN => maps::MUST[op::OP_USE_PLAN as usize],
-        op::OP_DROP_PLAN => maps::MUST[op::OP_DROP_PLAN as usize],
-        _ => 0,
-    }
+    maps::MUST.get(op as usize).copied().unwrap_or(0)
 }
 
 // The fields that an op may carry besides, as a bit map; 0 for an unknown op. Only a transfer's preparation has any.
@@ -53,37 +23,7 @@ pub fn must(op: u64) -> u64
 pub fn may(op: u64) -> u64
     ensures { result ≡ get_or mays op 0 }
 {
-    match op {
-        op::OP_NONE => maps::MAY[op::OP_NONE as usize],
-        op::OP_NEW_OBJECT => maps::MAY[op::OP_NEW_OBJECT as usize],
-        op::OP_DUPLICATE => maps::MAY[op::OP_DUPLICATE as usize],
-        op::OP_RELEASE_PARCEL => maps::MAY[op::OP_RELEASE_PARCEL as usize],
-        op::OP_RETIRE_OBJECT => maps::MAY[op::OP_RETIRE_OBJECT as usize],
-        op::OP_RESERVE => maps::MAY[op::OP_RESERVE as usize],
-        op::OP_TRIM => maps::MAY[op::OP_TRIM as usize],
-        op::OP_ABORT => maps::MAY[op::OP_ABORT as usize],
-        op::OP_PUBLISH => maps::MAY[op::OP_PUBLISH as usize],
-        op::OP_GET_INFO => maps::MAY[op::OP_GET_INFO as usize],
-        op::OP_RESOLVE => maps::MAY[op::OP_RESOLVE as usize],
-        op::OP_REPLACE => maps::MAY[op::OP_REPLACE as usize],
-        op::OP_CLOSE => maps::MAY[op::OP_CLOSE as usize],
-        op::OP_SCAN_HANDLES => maps::MAY[op::OP_SCAN_HANDLES as usize],
-        op::OP_PREPARE_TRANSFER => maps::MAY[op::OP_PREPARE_TRANSFER as usize],
-        op::OP_PREPARE_CONSUMPTION => maps::MAY[op::OP_PREPARE_CONSUMPTION as usize],
-        op::OP_ROLLBACK => maps::MAY[op::OP_ROLLBACK as usize],
-        op::OP_COMMIT => maps::MAY[op::OP_COMMIT as usize],
-        op::OP_DIRECT_COMMIT => maps::MAY[op::OP_DIRECT_COMMIT as usize],
-        op::OP_DIRECT_ROLLBACK => maps::MAY[op::OP_DIRECT_ROLLBACK as usize],
-        op::OP_REMOVE_STOPPING_OWNER => maps::MAY[op::OP_REMOVE_STOPPING_OWNER as usize],
-        op::OP_TEARDOWN_START => maps::MAY[op::OP_TEARDOWN_START as usize],
-        op::OP_TEARDOWN_STEP => maps::MAY[op::OP_TEARDOWN_STEP as usize],
-        op::OP_TEARDOWN_FINISH => maps::MAY[op::OP_TEARDOWN_FINISH as usize],
-        op::OP_TAKE_EMPTY_PAGE => maps::MAY[op::OP_TAKE_EMPTY_PAGE as usize],
-        op::OP_MAKE_PLAN => maps::MAY[op::OP_MAKE_PLAN as usize],
-        op::OP_USE_PLAN => maps::MAY[op::OP_USE_PLAN as usize],
-        op::OP_DROP_PLAN => maps::MAY[op::OP_DROP_PLAN as usize],
-        _ => 0,
-    }
+    maps::MAY.get(op as usize).copied().unwrap_or(0)
 }
 
 // Whether a field of a kind takes a word.

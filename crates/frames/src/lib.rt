@@ -12,10 +12,10 @@ fn has_free(s: &[u64], sh: Shape, k: u64, x: u64) -> bool
     ensures { result ≡ has_free (loadAt s.now sh) k x }
 {
     let w = layout::load(s, sh, k, x, 0, 0);
-    if words::eq(k, layout::region::REGION_OWNER) {
-        return words::eq(w, 0);
+    if k == layout::region::REGION_OWNER {
+        return w == 0;
     }
-    words::ne(w, 0)
+    w != 0
 }
 
 // The first of 16 numbers of region k that has a free frame; the number past them if none does.
@@ -60,10 +60,12 @@ fn put_pool(s: &mut [u64], sh: Shape, f: u64, o: u64, a: u64, b: u64, c: u64, n:
 pub fn take_frame(s: &mut [u64], sh: Shape, f: u64, o: u64)
     ensures words { s.new ≡ take_frame_w s.old sh f o }
 {
-    let a = words::dec(layout::load(s, sh, layout::region::REGION_GROUP_16, f / 16, 0, 0));
-    let b = words::dec(layout::load(s, sh, layout::region::REGION_GROUP_256, f / 256, 0, 0));
-    let c = words::dec(layout::load(s, sh, layout::region::REGION_GROUP_4096, f / 4096, 0, 0));
-    let n = words::dec(layout::root_word(s, sh, field::ROOT_FREE_FRAMES));
+    let a = layout::load(s, sh, layout::region::REGION_GROUP_16, f / 16, 0, 0).saturating_sub(1);
+    let b = layout::load(s, sh, layout::region::REGION_GROUP_256, f / 256, 0, 0).saturating_sub(1);
+    let c = layout::load(s, sh, layout::region::REGION_GROUP_4096, f / 4096, 0, 0).saturating_sub(
+        1,
+    );
+    let n = layout::root_word(s, sh, field::ROOT_FREE_FRAMES).saturating_sub(1);
     put_pool(s, sh, f, o, a, b, c, n);
 }
 
@@ -71,9 +73,11 @@ pub fn take_frame(s: &mut [u64], sh: Shape, f: u64, o: u64)
 pub fn give_frame(s: &mut [u64], sh: Shape, f: u64)
     ensures words { s.new ≡ give_frame_w s.old sh f }
 {
-    let a = words::inc(layout::load(s, sh, layout::region::REGION_GROUP_16, f / 16, 0, 0));
-    let b = words::inc(layout::load(s, sh, layout::region::REGION_GROUP_256, f / 256, 0, 0));
-    let c = words::inc(layout::load(s, sh, layout::region::REGION_GROUP_4096, f / 4096, 0, 0));
-    let n = words::inc(layout::root_word(s, sh, field::ROOT_FREE_FRAMES));
+    let a = layout::load(s, sh, layout::region::REGION_GROUP_16, f / 16, 0, 0).saturating_add(1);
+    let b = layout::load(s, sh, layout::region::REGION_GROUP_256, f / 256, 0, 0).saturating_add(1);
+    let c = layout::load(s, sh, layout::region::REGION_GROUP_4096, f / 4096, 0, 0).saturating_add(
+        1,
+    );
+    let n = layout::root_word(s, sh, field::ROOT_FREE_FRAMES).saturating_add(1);
     put_pool(s, sh, f, 0, a, b, c, n);
 }

@@ -1,11 +1,11 @@
-// A table's head: its words as one struct, the steps on it by value, thin functions that it is lent to, and its loads and stores over the state's words.
+// A table's head: its words as one struct, the steps on it by value, thin methods that it is lent to, and its loads and stores over the state's words.
 #![tactic(auto)]
 
 ghost use Rattle.std.specs.Prelude.{◌≡◌};
 ghost use Rattle.model.specs.State.{till};
 ghost use Rattle.model.specs.Storage.{slots_of};
 ghost use Rattle.layout.specs.Layout.{load as loadAt, writes};
-ghost use Rattle.head.specs.Head.{head_at, with_free, with_life, freed_by, taken_by, empty_by, attached_by, drawn_by, detached_by, aged_by, tearing_by, retired_by, pages_with, next_epoch, free_p, orders_p, pages_p, detached_p, epoch_p, life_p};
+ghost use Rattle.head.specs.Head.{head_at, freed_by, taken_by, empty_by, attached_by, drawn_by, detached_by, aged_by, tearing_by, retired_by, pages_with, next_epoch, free_p, orders_p, pages_p, detached_p, epoch_p, life_p};
 
 use layout::{Shape, field, size, value};
 
@@ -21,75 +21,6 @@ pub struct TableHead {
     pub first_empty: u64,
     pub first_detached: u64,
     pub entry: u64,
-}
-
-// ---- by value
-
-// The head with another first free slot and count of free slots.
-fn with_free(h: TableHead, first: u64, free: u64) -> TableHead
-    ensures { result ≡ with_free h first free }
-{
-    TableHead {
-        life: h.life,
-        cursor: h.cursor,
-        epoch: h.epoch,
-        pages: h.pages,
-        first_free: first,
-        free: free,
-        first_empty: h.first_empty,
-        first_detached: h.first_detached,
-        entry: h.entry,
-    }
-}
-
-// With another lifecycle and teardown cursor.
-fn with_life(h: TableHead, life: u64, cursor: u64) -> TableHead
-    ensures { result ≡ with_life h life cursor }
-{
-    TableHead {
-        life: life,
-        cursor: cursor,
-        epoch: h.epoch,
-        pages: h.pages,
-        first_free: h.first_free,
-        free: h.free,
-        first_empty: h.first_empty,
-        first_detached: h.first_detached,
-        entry: h.entry,
-    }
-}
-
-// A slot came to the head of the free order.
-pub fn freed(h: TableHead, first: u64) -> TableHead
-    ensures { result ≡ freed_by h first }
-{
-    let n = h.free;
-    with_free(h, first, words::inc(n))
-}
-
-// A slot left the free order; the first then is given.
-pub fn taken(h: TableHead, first: u64) -> TableHead
-    ensures { result ≡ taken_by h first }
-{
-    let n = h.free;
-    with_free(h, first, words::dec(n))
-}
-
-// The first of the empty pages' order is given.
-pub fn emptied(h: TableHead, first: u64) -> TableHead
-    ensures { result ≡ empty_by h first }
-{
-    TableHead {
-        life: h.life,
-        cursor: h.cursor,
-        epoch: h.epoch,
-        pages: h.pages,
-        first_free: h.first_free,
-        free: h.free,
-        first_empty: first,
-        first_detached: h.first_detached,
-        entry: h.entry,
-    }
 }
 
 // Slots of a page, in a byte.
@@ -114,261 +45,188 @@ pub fn slots_of(p: u64) -> u8
 fn pages_with(n: u64, p: u64) -> u64
     ensures { result ≡ pages_with n p }
 {
-    if p == n {
-        return words::inc(p);
-    }
-    n
-}
-
-// Page p was attached: its slots came to the head of the free order, the last of them first.
-pub fn attached(h: TableHead, p: u64) -> TableHead
-    ensures { result ≡ attached_by h p }
-{
-    let n = slots_of(p) as u64;
-    let first = words::smaller(p, size::NUMBER_32_MAX) * size::PAGE_SIZE + n;
-    let free = words::smaller(h.free, size::SLOTS_MAX) + n;
-    let pages = pages_with(h.pages, p);
-    TableHead {
-        life: h.life,
-        cursor: h.cursor,
-        epoch: h.epoch,
-        pages: pages,
-        first_free: first,
-        free: free,
-        first_empty: h.first_empty,
-        first_detached: h.first_detached,
-        entry: h.entry,
-    }
-}
-
-// The first of the detached pages' order is given.
-pub fn drawn(h: TableHead, first: u64) -> TableHead
-    ensures { result ≡ drawn_by h first }
-{
-    TableHead {
-        life: h.life,
-        cursor: h.cursor,
-        epoch: h.epoch,
-        pages: h.pages,
-        first_free: h.first_free,
-        free: h.free,
-        first_empty: h.first_empty,
-        first_detached: first,
-        entry: h.entry,
-    }
+    if p == n { p.saturating_add(1) } else { n }
 }
 
 // "The epoch wraps from 2^64 - 1 to 0".
 pub fn next_epoch(e: u64) -> u64
     ensures { result ≡ next_epoch e }
 {
-    if e < 0xffff_ffff_ffff_ffff { e + 1 } else { 0 }
+    e.wrapping_add(1)
 }
 
-// A page came to the head of the detached pages' order; the epoch advances.
-pub fn detached(h: TableHead, first: u64) -> TableHead
-    ensures { result ≡ detached_by h first }
-{
-    let e = next_epoch(h.epoch);
-    TableHead {
-        life: h.life,
-        cursor: h.cursor,
-        epoch: e,
-        pages: h.pages,
-        first_free: h.first_free,
-        free: h.free,
-        first_empty: h.first_empty,
-        first_detached: first,
-        entry: h.entry,
+// The steps by value.
+impl TableHead {
+    // A slot came to the head of the free order.
+    pub fn freed(self, first: u64) -> TableHead
+        ensures { result ≡ freed_by self first }
+    {
+        TableHead {
+            first_free: first,
+            free: self.free.saturating_add(1),
+            ..self
+        }
+    }
+
+    // A slot left the free order; the first then is given.
+    pub fn taken(self, first: u64) -> TableHead
+        ensures { result ≡ taken_by self first }
+    {
+        TableHead {
+            first_free: first,
+            free: self.free.saturating_sub(1),
+            ..self
+        }
+    }
+
+    // The first of the empty pages' order is given.
+    pub fn emptied(self, first: u64) -> TableHead
+        ensures { result ≡ empty_by self first }
+    {
+        TableHead {
+            first_empty: first,
+            ..self
+        }
+    }
+
+    // Page p was attached: its slots came to the head of the free order, the last of them first.
+    pub fn attached(self, p: u64) -> TableHead
+        ensures { result ≡ attached_by self p }
+    {
+        let n = slots_of(p) as u64;
+        TableHead {
+            first_free: p.min(size::NUMBER_32_MAX) * size::PAGE_SIZE + n,
+            free: self.free.min(size::SLOTS_MAX) + n,
+            pages: pages_with(self.pages, p),
+            ..self
+        }
+    }
+
+    // The first of the detached pages' order is given.
+    pub fn drawn(self, first: u64) -> TableHead
+        ensures { result ≡ drawn_by self first }
+    {
+        TableHead {
+            first_detached: first,
+            ..self
+        }
+    }
+
+    // A page came to the head of the detached pages' order; the epoch advances.
+    pub fn detached(self, first: u64) -> TableHead
+        ensures { result ≡ detached_by self first }
+    {
+        TableHead {
+            first_detached: first,
+            epoch: next_epoch(self.epoch),
+            ..self
+        }
+    }
+
+    // The epoch is given.
+    pub fn aged(self, epoch: u64) -> TableHead
+        ensures { result ≡ aged_by self epoch }
+    {
+        TableHead { epoch, ..self }
+    }
+
+    // Teardown stands at a cursor.
+    pub fn tearing(self, cursor: u64) -> TableHead
+        ensures { result ≡ tearing_by self cursor }
+    {
+        TableHead {
+            life: value::LIFE_TEARING_DOWN,
+            cursor,
+            ..self
+        }
+    }
+
+    // Teardown is finished.
+    pub fn retired(self, cursor: u64) -> TableHead
+        ensures { result ≡ retired_by self cursor }
+    {
+        TableHead {
+            life: value::LIFE_RETIRED,
+            cursor,
+            ..self
+        }
     }
 }
 
-// The epoch is given.
-pub fn aged(h: TableHead, epoch: u64) -> TableHead
-    ensures { result ≡ aged_by h epoch }
-{
-    TableHead {
-        life: h.life,
-        cursor: h.cursor,
-        epoch: epoch,
-        pages: h.pages,
-        first_free: h.first_free,
-        free: h.free,
-        first_empty: h.first_empty,
-        first_detached: h.first_detached,
-        entry: h.entry,
+// The same steps on a head that is lent.
+impl TableHead {
+    pub fn free(&mut self, first: u64)
+        ensures { self.new ≡ freed_by self.old first }
+    {
+        *self = self.freed(first);
     }
-}
 
-// Teardown stands at a cursor.
-pub fn tearing(h: TableHead, cursor: u64) -> TableHead
-    ensures { result ≡ tearing_by h cursor }
-{
-    with_life(h, value::LIFE_TEARING_DOWN, cursor)
-}
+    pub fn take(&mut self, first: u64)
+        ensures { self.new ≡ taken_by self.old first }
+    {
+        *self = self.taken(first);
+    }
 
-// Teardown is finished.
-pub fn retired(h: TableHead, cursor: u64) -> TableHead
-    ensures { result ≡ retired_by h cursor }
-{
-    with_life(h, value::LIFE_RETIRED, cursor)
-}
+    pub fn empty(&mut self, first: u64)
+        ensures { self.new ≡ empty_by self.old first }
+    {
+        *self = self.emptied(first);
+    }
 
-// ---- lent
+    pub fn attach(&mut self, p: u64)
+        ensures { self.new ≡ attached_by self.old p }
+    {
+        *self = self.attached(p);
+    }
 
-pub fn free(h: &mut TableHead, first: u64)
-    ensures { h.new ≡ freed_by h.old first }
-{
-    *h = freed(*h, first);
-}
+    pub fn draw(&mut self, first: u64)
+        ensures { self.new ≡ drawn_by self.old first }
+    {
+        *self = self.drawn(first);
+    }
 
-pub fn take(h: &mut TableHead, first: u64)
-    ensures { h.new ≡ taken_by h.old first }
-{
-    *h = taken(*h, first);
-}
+    pub fn detach(&mut self, first: u64)
+        ensures { self.new ≡ detached_by self.old first }
+    {
+        *self = self.detached(first);
+    }
 
-pub fn empty(h: &mut TableHead, first: u64)
-    ensures { h.new ≡ empty_by h.old first }
-{
-    *h = emptied(*h, first);
-}
+    pub fn age(&mut self, epoch: u64)
+        ensures { self.new ≡ aged_by self.old epoch }
+    {
+        *self = self.aged(epoch);
+    }
 
-pub fn detach(h: &mut TableHead, first: u64)
-    ensures { h.new ≡ detached_by h.old first }
-{
-    *h = detached(*h, first);
-}
+    pub fn tear(&mut self, cursor: u64)
+        ensures { self.new ≡ tearing_by self.old cursor }
+    {
+        *self = self.tearing(cursor);
+    }
 
-pub fn attach(h: &mut TableHead, p: u64)
-    ensures { h.new ≡ attached_by h.old p }
-{
-    *h = attached(*h, p);
-}
-
-pub fn draw(h: &mut TableHead, first: u64)
-    ensures { h.new ≡ drawn_by h.old first }
-{
-    *h = drawn(*h, first);
-}
-
-pub fn age(h: &mut TableHead, epoch: u64)
-    ensures { h.new ≡ aged_by h.old epoch }
-{
-    *h = aged(*h, epoch);
-}
-
-pub fn tear(h: &mut TableHead, cursor: u64)
-    ensures { h.new ≡ tearing_by h.old cursor }
-{
-    *h = tearing(*h, cursor);
-}
-
-pub fn retire(h: &mut TableHead, cursor: u64)
-    ensures { h.new ≡ retired_by h.old cursor }
-{
-    *h = retired(*h, cursor);
-}
-
-// A head that the caller has, lent to each of them.
-
-pub fn free_local(h: TableHead, first: u64) -> TableHead
-    ensures { result ≡ freed_by h first }
-{
-    let mut t = h;
-    free(&mut t, first);
-    t
-}
-
-pub fn take_local(h: TableHead, first: u64) -> TableHead
-    ensures { result ≡ taken_by h first }
-{
-    let mut t = h;
-    take(&mut t, first);
-    t
-}
-
-pub fn empty_local(h: TableHead, first: u64) -> TableHead
-    ensures { result ≡ empty_by h first }
-{
-    let mut t = h;
-    empty(&mut t, first);
-    t
-}
-
-pub fn detach_local(h: TableHead, first: u64) -> TableHead
-    ensures { result ≡ detached_by h first }
-{
-    let mut t = h;
-    detach(&mut t, first);
-    t
-}
-
-pub fn attach_local(h: TableHead, p: u64) -> TableHead
-    ensures { result ≡ attached_by h p }
-{
-    let mut t = h;
-    attach(&mut t, p);
-    t
-}
-
-pub fn draw_local(h: TableHead, first: u64) -> TableHead
-    ensures { result ≡ drawn_by h first }
-{
-    let mut t = h;
-    draw(&mut t, first);
-    t
-}
-
-pub fn age_local(h: TableHead, epoch: u64) -> TableHead
-    ensures { result ≡ aged_by h epoch }
-{
-    let mut t = h;
-    age(&mut t, epoch);
-    t
-}
-
-pub fn tear_local(h: TableHead, cursor: u64) -> TableHead
-    ensures { result ≡ tearing_by h cursor }
-{
-    let mut t = h;
-    tear(&mut t, cursor);
-    t
-}
-
-pub fn retire_local(h: TableHead, cursor: u64) -> TableHead
-    ensures { result ≡ retired_by h cursor }
-{
-    let mut t = h;
-    retire(&mut t, cursor);
-    t
+    pub fn retire(&mut self, cursor: u64)
+        ensures { self.new ≡ retired_by self.old cursor }
+    {
+        *self = self.retired(cursor);
+    }
 }
 
 // ---- over words
 
 // The head of table b.
+#[tactic(auto, unfolding(crate::specs::Head::head_at))]
 pub fn load(s: &[u64], sh: Shape, b: u64) -> TableHead
     ensures { result ≡ head_at (loadAt s.now sh) b }
 {
-    let life = layout::head_word(s, sh, b, field::HEAD_LIFECYCLE);
-    let cursor = layout::head_word(s, sh, b, field::HEAD_CURSOR);
-    let epoch = layout::head_word(s, sh, b, field::HEAD_EPOCH);
-    let pages = layout::head_word(s, sh, b, field::HEAD_PAGES);
-    let first_free = layout::head_word(s, sh, b, field::HEAD_FIRST_FREE);
-    let free = layout::head_word(s, sh, b, field::HEAD_FREE_SLOTS);
-    let first_empty = layout::head_word(s, sh, b, field::HEAD_FIRST_EMPTY);
-    let first_detached = layout::head_word(s, sh, b, field::HEAD_FIRST_DETACHED);
-    let entry = layout::head_word(s, sh, b, field::HEAD_FIRST_ENTRY);
     TableHead {
-        life: life,
-        cursor: cursor,
-        epoch: epoch,
-        pages: pages,
-        first_free: first_free,
-        free: free,
-        first_empty: first_empty,
-        first_detached: first_detached,
-        entry: entry,
+        life: layout::head_word(s, sh, b, field::HEAD_LIFECYCLE),
+        cursor: layout::head_word(s, sh, b, field::HEAD_CURSOR),
+        epoch: layout::head_word(s, sh, b, field::HEAD_EPOCH),
+        pages: layout::head_word(s, sh, b, field::HEAD_PAGES),
+        first_free: layout::head_word(s, sh, b, field::HEAD_FIRST_FREE),
+        free: layout::head_word(s, sh, b, field::HEAD_FREE_SLOTS),
+        first_empty: layout::head_word(s, sh, b, field::HEAD_FIRST_EMPTY),
+        first_detached: layout::head_word(s, sh, b, field::HEAD_FIRST_DETACHED),
+        entry: layout::head_word(s, sh, b, field::HEAD_FIRST_ENTRY),
     }
 }
 

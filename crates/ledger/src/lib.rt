@@ -31,12 +31,10 @@ fn places_ok(s: &[u64], sh: Shape) -> bool
     ensures { result ≡ all sh.rows (place_b (loadAt s.now sh) sh) }
 {
     let n = sh.rows as u64;
-    let mut i: u64 = 0;
-    while i < n {
+    for i in 0..n {
         if !place_ok(s, sh, i) {
             return false;
         }
-        i += 1;
     }
     true
 }
@@ -94,7 +92,7 @@ fn claim_ok(s: &[u64], sh: Shape, b: u64, x: u64, j: u64) -> bool
         let k = layout::item_word(s, sh, x, j, field::ITEM_MOVED);
         return names(s, sh, b, k, value::TAG_TRANSFER_RESERVED, x, j);
     }
-    words::eq(op, value::OPERATION_COPY)
+    op == value::OPERATION_COPY
 }
 
 // Item j of a row that is a w and no plan: 1 a reservation, 2 a claim, else a parcel.
@@ -114,12 +112,10 @@ fn item_ok(s: &[u64], sh: Shape, w: u64, b: u64, x: u64, j: u64) -> bool
 fn items_ok(s: &[u64], sh: Shape, w: u64, b: u64, x: u64, n: u64) -> bool
     ensures { result ≡ all n (item_b (loadAt s.now sh) sh w b x) }
 {
-    let mut j: u64 = 0;
-    while j < n {
+    for j in 0..n {
         if !item_ok(s, sh, w, b, x, j) {
             return false;
         }
-        j += 1;
     }
     true
 }
@@ -178,7 +174,7 @@ fn held_ok(s: &[u64], sh: Shape, x: u64, j: u64, want: u64, low: u64) -> bool
     if owner < size::PLAN_OWNER {
         return false;
     }
-    words::eq(owner - size::PLAN_OWNER, x)
+    owner - size::PLAN_OWNER == x
 }
 
 // The n pages and frames of the plan in place x: the pages are just enough for the slots that are wanted beside the free ones, and the frames rise.
@@ -187,20 +183,18 @@ fn pages_ok(s: &[u64], sh: Shape, x: u64, n: u64) -> bool
 {
     let count = layout::row_word(s, sh, x, field::ROW_COUNT);
     let free = layout::item_word(s, sh, x, 0, field::ITEM_FREE_SLOTS);
-    let mut want = words::left(count, free);
+    let mut want = count.saturating_sub(free);
     let mut low: u64 = 0;
-    let mut j: u64 = 0;
-    while j < n {
+    for j in 0..n {
         if !held_ok(s, sh, x, j, want, low) {
             return false;
         }
         let p = layout::item_word(s, sh, x, j, field::ITEM_PAGE);
         let f = layout::item_word(s, sh, x, j, field::ITEM_FRAME);
-        want = words::left(want, head::slots_of(p) as u64);
+        want = want.saturating_sub(head::slots_of(p) as u64);
         low = f + 1;
-        j += 1;
     }
-    words::eq(want, 0)
+    want == 0
 }
 
 // The plan in place x, with n pages and frames. Its table need not be active, and its kept epoch may be any word.
@@ -271,15 +265,13 @@ fn rows_ok(s: &[u64], sh: Shape, n: u16) -> u64
 {
     let mut held: u64 = 0;
     let mut last: u64 = 0;
-    let mut i: u16 = 0;
-    while i < n {
+    for i in 0..n {
         let x = layout::index_word(s, sh, i as u64);
         if !row_ok(s, sh, x, last) {
             return 0;
         }
         held += held_in(s, sh, x);
         last = layout::row_word(s, sh, x, field::ROW_ID);
-        i += 1;
     }
     held + 1
 }
@@ -291,13 +283,13 @@ fn hit(s: &[u64], sh: Shape, t: u64, x: u64, j: u64, k: u64) -> bool
     // The same word as ITEM_SLOT, of a reservation.
     let a = layout::item_word(s, sh, x, j, field::ITEM_OPERATION);
     if t == value::TAG_RESERVED {
-        return words::eq(k, a);
+        return k == a;
     }
     if a != value::OPERATION_MOVE {
         return false;
     }
     let c = layout::item_word(s, sh, x, j, field::ITEM_MOVED);
-    words::eq(k, c)
+    k == c
 }
 
 // Whether slot k of table b, which has the tag t, is item j of the row in place x.

@@ -28,10 +28,8 @@ fn count_vacants(s: &[u64], sh: Shape, n: u32, e: u64) -> u64
     ensures { result ≡ vacants (loadAt s.now sh) n e }
 {
     let mut c: u64 = 0;
-    let mut p: u32 = 0;
-    while p < n {
+    for p in 0..n {
         c += vacants_on(s, sh, e, p);
-        p += 1;
     }
     c
 }
@@ -66,12 +64,10 @@ fn count_empties(s: &[u64], sh: Shape, n: u32, e: u64) -> u64
     ensures { result ≡ tally (empty_at (loadAt s.now sh) n e) n }
 {
     let mut c: u64 = 0;
-    let mut p: u32 = 0;
-    while p < n {
+    for p in 0..n {
         if page_empty(s, sh, n, e, p as u64) {
             c += 1;
         }
-        p += 1;
     }
     c
 }
@@ -80,12 +76,10 @@ fn count_detacheds(s: &[u64], sh: Shape, n: u32, e: u64) -> u64
     ensures { result ≡ tally (detached_at (loadAt s.now sh) n e) n }
 {
     let mut c: u64 = 0;
-    let mut p: u32 = 0;
-    while p < n {
+    for p in 0..n {
         if page_detached(s, sh, n, e, p as u64) {
             c += 1;
         }
-        p += 1;
     }
     c
 }
@@ -128,7 +122,7 @@ fn walk_free(s: &[u64], sh: Shape, b: u64, first: u64, count: u64) -> bool
             return false;
         }
         before = at;
-        at = storage::slot_word(s, sh, b, words::dec(at), field::SLOT_NEXT_FREE);
+        at = storage::slot_word(s, sh, b, at.saturating_sub(1), field::SLOT_NEXT_FREE);
         left -= 1;
     }
     at == 0
@@ -159,7 +153,7 @@ fn walk_empty(s: &[u64], sh: Shape, n: u32, e: u64, first: u64, count: u64) -> b
             return false;
         }
         before = at;
-        at = storage::page_word(s, sh, e, words::dec(at), field::ENTRY_NEXT);
+        at = storage::page_word(s, sh, e, at.saturating_sub(1), field::ENTRY_NEXT);
         left -= 1;
     }
     at == 0
@@ -184,7 +178,7 @@ fn walk_detached(s: &[u64], sh: Shape, n: u32, e: u64, first: u64, count: u64) -
         if !detached_link(s, sh, n, e, at) {
             return false;
         }
-        at = storage::page_word(s, sh, e, words::dec(at), field::ENTRY_NEXT);
+        at = storage::page_word(s, sh, e, at.saturating_sub(1), field::ENTRY_NEXT);
         left -= 1;
     }
     at == 0
@@ -244,12 +238,10 @@ pub fn check_orders(s: &[u64], sh: Shape) -> bool
     ensures { result ≡ orders_b (loadAt s.now sh) sh }
 {
     let n = sh.tables;
-    let mut b: u8 = 0;
-    while b < n {
+    for b in 0..n {
         if !check_table(s, sh, b as u64) {
             return false;
         }
-        b += 1;
     }
     true
 }

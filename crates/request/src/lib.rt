@@ -449,10 +449,8 @@ fn clear_whole(out: &mut [u64], base: usize)
     requires { base + answer_words ≤ length out.old }
     ensures { out.new ≡ cleared out.old base answer_words }
 {
-    let mut k: usize = 0;
-    while k < format::size::ANSWER_PLACES {
+    for k in 0..format::size::ANSWER_PLACES {
         out[base + k] = 0;
-        k += 1;
     }
 }
 
@@ -460,10 +458,8 @@ fn clear_whole(out: &mut [u64], base: usize)
 fn clear_part(out: &mut [u64], base: usize)
     ensures { out.new ≡ cleared out.old base answer_words }
 {
-    let mut k: usize = 0;
-    while k < format::size::ANSWER_PLACES {
+    for k in 0..format::size::ANSWER_PLACES {
         answer_put(out, base, k, 0);
-        k += 1;
     }
 }
 

@@ -130,7 +130,7 @@ pub fn put_slot_word(s: &mut [u64], sh: Shape, b: u64, k: u64, f: u64, v: u64)
 fn publish_vacant_slot(s: &mut [u64], sh: Shape, fr: u64, k: u64, g: u64, xf: u64, x: u64)
     ensures { s.new ≡ vacant_w s.old sh fr k g xf x }
 {
-    let y = words::inc(k);
+    let y = k.saturating_add(1);
     put_slot_link(s, sh, xf, x, field::SLOT_PREVIOUS_FREE, y);
     put_frame(
         s,
@@ -150,7 +150,7 @@ fn mark_page(s: &mut [u64], sh: Shape, e: u64, p: u64, g: u64, n: u64)
     ensures { s.new ≡ marked_w s.old sh e p g n }
 {
     let high = page_word(s, sh, e, p, field::ENTRY_HIGH);
-    let g2 = words::larger(high, g);
+    let g2 = high.max(g);
     put_page(s, sh, e, p, field::ENTRY_HIGH, g2);
     put_page(s, sh, e, p, field::ENTRY_BUSY, n);
 }
@@ -159,7 +159,7 @@ fn mark_page(s: &mut [u64], sh: Shape, e: u64, p: u64, g: u64, n: u64)
 pub fn link_page(s: &mut [u64], sh: Shape, e: u64, p: u64, x: u64)
     ensures { s.new ≡ linked_w s.old sh e p x }
 {
-    let y = words::inc(p);
+    let y = p.saturating_add(1);
     put_page_link(s, sh, e, x, field::ENTRY_PREVIOUS, y);
     put_page(s, sh, e, p, field::ENTRY_NEXT, x);
     put_page(s, sh, e, p, field::ENTRY_PREVIOUS, 0);
@@ -172,11 +172,11 @@ fn lower_busy(s: &mut [u64], sh: Shape, h: TableHead, p: u64, g: u64) -> TableHe
 {
     let e = h.entry;
     let w = page_word(s, sh, e, p, field::ENTRY_BUSY);
-    let n = words::dec(w);
+    let n = w.saturating_sub(1);
     mark_page(s, sh, e, p, g, n);
-    if words::eq(n, 0) {
+    if n == 0 {
         link_page(s, sh, e, p, h.first_empty);
-        return head::empty_local(h, words::inc(p));
+        return head::empty_local(h, p.saturating_add(1));
     }
     h
 }
@@ -197,7 +197,7 @@ pub fn vacate(s: &mut [u64], sh: Shape, b: u64, k: u64)
         field::SLOT_GENERATION,
     ));
     publish_vacant_slot(s, sh, fr, k, g, xf, x);
-    let t = head::free_local(h, words::inc(k));
+    let t = head::free_local(h, k.saturating_add(1));
     let u = lower_busy(s, sh, t, k / size::PAGE_SIZE, g);
     head::store_orders(s, sh, b, u);
 }
@@ -228,9 +228,9 @@ fn raise_busy(s: &mut [u64], sh: Shape, h: TableHead, p: u64, g: u64) -> TableHe
 {
     let e = h.entry;
     let n = page_word(s, sh, e, p, field::ENTRY_BUSY);
-    let c = words::inc(n);
+    let c = n.saturating_add(1);
     mark_page(s, sh, e, p, g, c);
-    if words::eq(n, 0) {
+    if n == 0 {
         let x = leave_order(s, sh, e, p, h.first_empty);
         return head::empty_local(h, x);
     }
@@ -260,7 +260,7 @@ pub fn take_free(s: &mut [u64], sh: Shape, b: u64, r: u64, j: u64) -> u64
     ensures words { s.new ≡ take_w s.old sh b result r j }
 {
     let h = head::load(s, sh, b);
-    let k = words::dec(h.first_free);
+    let k = h.first_free.saturating_sub(1);
     let fr = frame_of(s, sh, h, k);
     let g = frame_word(s, sh, fr, k % size::PAGE_SIZE, field::SLOT_GENERATION);
     let n = frame_word(s, sh, fr, k % size::PAGE_SIZE, field::SLOT_NEXT_FREE);

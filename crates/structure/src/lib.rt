@@ -136,14 +136,12 @@ fn entries_ok(s: &[u64], sh: Shape, e: u32, n: u32) -> u64
     ensures { result ≡ counted (entries_b (loadAt s.now sh) sh e n) (attached_in (loadAt s.now sh) e n) }
 {
     let mut count: u64 = 0;
-    let mut p: u32 = 0;
-    while p < n {
+    for p in 0..n {
         let at = (e as u64) + (p as u64);
         if !entry_ok(s, sh, at) {
             return 0;
         }
         count += present(layout::entry_word(s, sh, at, field::ENTRY_FRAME));
-        p += 1;
     }
     count + 1
 }
@@ -166,15 +164,13 @@ fn tables_ok(s: &[u64], sh: Shape) -> u64
     let n = sh.tables;
     let mut count: u64 = 0;
     let mut first: u32 = 0;
-    let mut b: u8 = 0;
-    while b < n {
+    for b in 0..n {
         let c = table_ok(s, sh, b as u64, first);
         if c == 0 {
             return 0;
         }
         count += c - 1;
         first += layout::head_word(s, sh, b as u64, field::HEAD_PAGE_LIMIT) as u32;
-        b += 1;
     }
     if first != sh.pages {
         return 0;
@@ -199,13 +195,11 @@ fn free_in(s: &[u64], sh: Shape, a: u32, n: u16) -> u64
     let frames = sh.frames as u64;
     let end = (a as u64) + (n as u64);
     let mut count: u64 = 0;
-    let mut f = a as u64;
-    while f < end {
+    for f in a as u64..end {
         if f >= frames {
             return count;
         }
         count += free_at(s, sh, f);
-        f += 1;
     }
     count
 }
@@ -216,13 +210,11 @@ fn groups_ok(s: &[u64], sh: Shape, level: u8, size: u16, n: u16) -> bool
 {
     let region = layout::region::REGION_GROUP_16 + (level as u64);
     let each = size as u32;
-    let mut g: u16 = 0;
-    while g < n {
+    for g in 0..n {
         let free = free_in(s, sh, (g as u32) * each, size);
         if layout::load(s, sh, region, g as u64, 0, 0) != free {
             return false;
         }
-        g += 1;
     }
     true
 }
@@ -234,10 +226,8 @@ fn free_under(s: &[u64], sh: Shape, level: u8, size: u16, first: u32) -> u64
 {
     let region = layout::region::REGION_GROUP_16 + (level as u64);
     let mut count: u64 = 0;
-    let mut i: u64 = 0;
-    while i < 16 {
+    for i in 0..16 {
         count += layout::load(s, sh, region, (first as u64) + i, 0, 0);
-        i += 1;
     }
     count
 }
@@ -248,13 +238,11 @@ fn sums_ok(s: &[u64], sh: Shape, level: u8, size: u16, n: u16) -> bool
     ensures { result ≡ groups_b (loadAt s.now sh) sh.frames (level + 1) (16 * size) n }
 {
     let region = layout::region::REGION_GROUP_256 + (level as u64);
-    let mut g: u16 = 0;
-    while g < n {
+    for g in 0..n {
         let free = free_under(s, sh, level, size, (g as u32) * 16);
         if layout::load(s, sh, region, g as u64, 0, 0) != free {
             return false;
         }
-        g += 1;
     }
     true
 }

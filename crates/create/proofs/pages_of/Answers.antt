@@ -13,7 +13,7 @@ pub overflow_add-sum : goal.overflow_add-sum
 overflow_add-sum c = omega (arith, pages_small c.args.p.now c.loop-k.k)
 
 pub loop-k-preserved : goal.loop-k-preserved
-loop-k-preserved c = (search rules, pages_more c.args.p.now c.loop-k.k c.loop-k.sum c.smaller-sum.result _ c.loop-k.invariant.1 (c.smaller-sum.ensures ∙ ap (λ (x : ℕ). min x pages_max) c.word-pages.ensures) refl)
+loop-k-preserved c = (search rules, pages_more c.args.p.now c.loop-k.k c.loop-k.sum c.min-sum.result _ c.loop-k.invariant.1 (c.min-sum.ensures ∙ ap (λ (x : ℕ). min x pages_max) c.word-pages.ensures) refl)
 
 pub returns : goal.returns
 returns c = pages_at c.args.p.now c.loop-k.k c.args.n _ c.loop-k.invariant.1 (omega arith)

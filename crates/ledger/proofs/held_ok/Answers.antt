@@ -1,3 +1,4 @@
+use mathlib.Core.Path.{refl}
 use Rattle.layout.specs.Layout.{owner}
 use Prim.Native.Nat.{ℕ}
 use mathlib.Core.Path.{ap}
@@ -22,4 +23,4 @@ pub returns-then-owner-lt-PLAN_OWNER : goal.returns-then-owner-lt-PLAN_OWNER
 returns-then-owner-lt-PLAN_OWNER c = held_no (load c.args.s.now c.args.sh) c.args.sh c.args.x c.args.j c.args.want c.args.low (λ g. omega (arith, g.owner, c.owner_word-owner.ensures, ap (λ (y : ℕ). load c.args.s.now c.args.sh (owner y)) c.item_word-f.ensures))
 
 pub returns : goal.returns
-returns c = held_last (load c.args.s.now c.args.sh) c.args.sh c.args.x c.args.j c.args.want c.args.low _ _ _ (omega arith) (omega (arith, c.item_word-p.ensures)) c.item_word-f.ensures (omega arith) (omega arith) c.owner_word-owner.ensures (omega arith) c.eq.ensures
+returns c = held_last (load c.args.s.now c.args.sh) c.args.sh c.args.x c.args.j c.args.want c.args.low _ _ _ (omega arith) (omega (arith, c.item_word-p.ensures)) c.item_word-f.ensures (omega arith) (omega arith) c.owner_word-owner.ensures (omega arith) refl

@@ -13,9 +13,6 @@ loop-b-init c = all_none (table_b (load c.args.s.now c.args.sh))
 pub returns-then-not-check_table : goal.returns-then-not-check_table
 returns-then-not-check_table c = orders_stop (load c.args.s.now c.args.sh) c.args.sh c.loop-b.b (omega arith) (sym c.check_table.ensures ∙ not-true _ c.if-not-check_table.true-raw)
 
-pub overflow_add-b : goal.overflow_add-b
-overflow_add-b c = omega arith
-
 pub loop-b-smaller : goal.loop-b-smaller
 loop-b-smaller c = omega arith
 

@@ -12,9 +12,6 @@ loop-p-init c = (omega arith, omega arith, tally_start (detached_at (load c.args
 pub overflow_add-c : goal.overflow_add-c
 overflow_add-c c = omega arith
 
-pub overflow_add-p : goal.overflow_add-p
-overflow_add-p c = omega arith
-
 pub loop-p-smaller : goal.loop-p-smaller
 loop-p-smaller c = omega arith
 

@@ -20,7 +20,7 @@ pub loop-left-smaller : goal.loop-left-smaller
 loop-left-smaller c = omega arith
 
 pub loop-left-preserved : goal.loop-left-preserved
-loop-left-preserved c = sym (walk_on (page_next (load c.args.s.now c.args.sh) c.args.e) (λ h p. detached_link (load c.args.s.now c.args.sh) c.args.n c.args.e h) c.loop-left.left (c.loop-left.left - 1) c.loop-left.at 0 _ (omega arith) (sym c.detached_link.ensures ∙ not-false _ c.if-not-detached_link.false-raw) (c.page_word-at.ensures ∙ ap (page_next (load c.args.s.now c.args.sh) c.args.e) c.dec.ensures) ∙ walk_any (page_next (load c.args.s.now c.args.sh) c.args.e) (detached_link (load c.args.s.now c.args.sh) c.args.n c.args.e) (c.loop-left.left - 1) _ c.loop-left.at) ∙ c.loop-left.invariant
+loop-left-preserved c = sym (walk_on (page_next (load c.args.s.now c.args.sh) c.args.e) (λ h p. detached_link (load c.args.s.now c.args.sh) c.args.n c.args.e h) c.loop-left.left (c.loop-left.left - 1) c.loop-left.at 0 _ (omega arith) (sym c.detached_link.ensures ∙ not-false _ c.if-not-detached_link.false-raw) (c.page_word-at.ensures ∙ ap (page_next (load c.args.s.now c.args.sh) c.args.e) c.saturating_sub.ensures) ∙ walk_any (page_next (load c.args.s.now c.args.sh) c.args.e) (detached_link (load c.args.s.now c.args.sh) c.args.n c.args.e) (c.loop-left.left - 1) _ c.loop-left.at) ∙ c.loop-left.invariant
 
 pub returns : goal.returns
 returns c = walk_end (page_next (load c.args.s.now c.args.sh) c.args.e) (λ h p. detached_link (load c.args.s.now c.args.sh) c.args.n c.args.e h) c.loop-left.left c.loop-left.at 0 (omega arith) ∙ c.loop-left.invariant

@@ -19,7 +19,7 @@ pub loop-left-smaller : goal.loop-left-smaller
 loop-left-smaller c = omega arith
 
 pub loop-left-preserved : goal.loop-left-preserved
-loop-left-preserved c = sym (walk_on (page_next (load c.args.s.now c.args.sh) c.args.e) (empty_link (load c.args.s.now c.args.sh) c.args.n c.args.e) _ _ _ _ _ (omega arith) (sym c.empty_link.ensures ∙ not-false _ c.if-not-empty_link.false-raw) (c.page_word-at.ensures ∙ ap (page_next (load c.args.s.now c.args.sh) c.args.e) c.dec.ensures)) ∙ c.loop-left.invariant
+loop-left-preserved c = sym (walk_on (page_next (load c.args.s.now c.args.sh) c.args.e) (empty_link (load c.args.s.now c.args.sh) c.args.n c.args.e) _ _ _ _ _ (omega arith) (sym c.empty_link.ensures ∙ not-false _ c.if-not-empty_link.false-raw) (c.page_word-at.ensures ∙ ap (page_next (load c.args.s.now c.args.sh) c.args.e) c.saturating_sub.ensures)) ∙ c.loop-left.invariant
 
 pub returns : goal.returns
 returns c = walk_end (page_next (load c.args.s.now c.args.sh) c.args.e) (empty_link (load c.args.s.now c.args.sh) c.args.n c.args.e) c.loop-left.left c.loop-left.at c.loop-left.before (omega arith) ∙ c.loop-left.invariant

@@ -19,7 +19,7 @@ pub loop-left-smaller : goal.loop-left-smaller
 loop-left-smaller c = omega arith
 
 pub loop-left-preserved : goal.loop-left-preserved
-loop-left-preserved c = sym (walk_on (slot_next (load c.args.s.now c.args.sh) c.args.b) (free_link (load c.args.s.now c.args.sh) c.args.b) _ _ _ _ _ (omega arith) (sym c.free_link.ensures ∙ not-false _ c.if-not-free_link.false-raw) (c.slot_word-at.ensures ∙ ap (slot_next (load c.args.s.now c.args.sh) c.args.b) c.dec.ensures)) ∙ c.loop-left.invariant
+loop-left-preserved c = sym (walk_on (slot_next (load c.args.s.now c.args.sh) c.args.b) (free_link (load c.args.s.now c.args.sh) c.args.b) _ _ _ _ _ (omega arith) (sym c.free_link.ensures ∙ not-false _ c.if-not-free_link.false-raw) (c.slot_word-at.ensures ∙ ap (slot_next (load c.args.s.now c.args.sh) c.args.b) c.saturating_sub.ensures)) ∙ c.loop-left.invariant
 
 pub returns : goal.returns
 returns c = walk_end (slot_next (load c.args.s.now c.args.sh) c.args.b) (free_link (load c.args.s.now c.args.sh) c.args.b) c.loop-left.left c.loop-left.at c.loop-left.before (omega arith) ∙ c.loop-left.invariant

@@ -19,9 +19,6 @@ returns-then-f-frames c = free_end (load c.args.s.now c.args.sh) c.args.sh.frame
 pub overflow_add-count : goal.overflow_add-count
 overflow_add-count c = omega (arith, c.free_at-count.ensures, bit_small (eqb (load c.args.s.now c.args.sh (owner c.loop-f.f)) 0))
 
-pub overflow_add-f : goal.overflow_add-f
-overflow_add-f c = omega arith
-
 pub loop-f-smaller : goal.loop-f-smaller
 loop-f-smaller c = omega arith
 

@@ -18,9 +18,6 @@ overflow_add-first c = omega arith
 pub overflow_add-count : goal.overflow_add-count
 overflow_add-count c = omega (arith, under_small (load c.args.s.now c.args.sh) c.args.sh.frames c.args.level c.args.size c.requires _ _ _ refl c.load-count.ensures)
 
-pub overflow_add-i : goal.overflow_add-i
-overflow_add-i c = omega arith
-
 pub loop-i-smaller : goal.loop-i-smaller
 loop-i-smaller c = omega arith
 

@@ -1,4 +1,0 @@
-use Rattle.head.proofs.detached.Goals as goal
-
-pub returns : goal.returns
-returns c = cc

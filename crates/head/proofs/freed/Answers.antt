@@ -1,4 +1,0 @@
-use Rattle.head.proofs.freed.Goals as goal
-
-pub returns : goal.returns
-returns c = cc

@@ -1,5 +1,0 @@
-use borrow.Author.Rules.{rules}
-use Rattle.head.proofs.store_free.Goals as goal
-
-pub returns : goal.returns
-returns c = cc
