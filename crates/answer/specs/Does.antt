@@ -1,6 +1,6 @@
 -- What a request's function over words does: the state's words come to represent the model's next state, and the answer's words are those of
 -- the model's answer. Assumes nothing.
-use Rattle.std.specs.Prelude.{◌≡◌, List, [], ◌∷◌, ◌++◌, length, get_or, set, eqb}
+use Rattle.std.specs.Prelude.{◌≡◌, List, [], ◌∷◌, ◌++◌, length, get_or, set, eqb, Result, Ok, Err}
 use Rattle.std.proofs.Math.Path.{refl}
 use Rattle.std.proofs.Common.{sym, ap, ◌∙◌}
 use Prim.Native.Nat.{ℕ, zero, suc, ◌+◌, ◌-◌}
@@ -16,6 +16,8 @@ use Rattle.model.specs.Words.{used_words}
 use Rattle.layout.specs.declared.Shape.{Shape}
 use Rattle.layout.specs.Fields.{root_next_id}
 use Rattle.representation.specs.Represents.{Reps}
+use Rattle.format.specs.declared.refusal.Refusal.{Refusal}
+use Rattle.format.specs.Refusals.{number}
 use Rattle.request.specs.Answers.{puts}
 
 -- the words of a state and the words for answers
@@ -29,6 +31,15 @@ both ws os = record { state = ws; answers = os }
 -- the answer whose words begin at `base` gets the words of a list, from its first on
 abbrev pub answered : List ℕ → ℕ → List ℕ → List ℕ
 answered os base vs = puts os base 0 vs
+
+-- the words of an answer: 0 and those of what was done, or a refusal's number
+abbrev pub reply : {A : Type 0} → (A → List ℕ) → Result A Refusal → List ℕ
+reply words_of (Ok a) = 0 ∷ words_of a
+reply words_of (Err e) = number e ∷ []
+
+-- what a request does whose answer has the words vs and after which the state has the words ws: the same wherever that answer is put
+abbrev pub Gives : List ℕ → List ℕ → (List ℕ → ℕ → Both) → Type 0
+Gives ws vs does = (os : List ℕ) (base : ℕ) → both ws (answered os base vs) ≡ does os base
 
 -- a refusal: the number, and no word of the state changes
 abbrev pub refuse_r : List ℕ → List ℕ → ℕ → ℕ → Both

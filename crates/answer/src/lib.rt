@@ -2,72 +2,24 @@
 #![tactic(auto)]
 
 ghost use Rattle.std.specs.Prelude.{◌≡◌, [], ◌∷◌};
+ghost use Rattle.format.specs.Refusals.{number};
 ghost use Rattle.answer.specs.Does.{answered};
 
+use format::refusal::{DONE, Refusal};
+
 // "The first of the 72 is the number; after a refusal the rest are 0".
-pub fn refuse(out: &mut [u64], base: usize, n: u64)
-    ensures { out.new ≡ answered out.old base (n ∷ []) }
+pub fn refuse(out: &mut [u64], base: usize, refusal: Refusal)
+    ensures { out.new ≡ answered out.old base (number refusal ∷ []) }
 {
-    request::answer_put(out, base, 0, n);
+    request::answer_put(out, base, 0, refusal.number());
 }
 
-// Done, with no more words.
-pub fn say(out: &mut [u64], base: usize)
-    ensures { out.new ≡ answered out.old base (0 ∷ []) }
+// Done, with the words of what was done.
+pub fn say(out: &mut [u64], base: usize, words: &[u64])
+    ensures { out.new ≡ answered out.old base (0 ∷ words.now) }
 {
-    request::answer_put(out, base, 0, format::refusal::DONE);
-}
-
-// Done, with one word.
-pub fn say1(out: &mut [u64], base: usize, a: u64)
-    ensures { out.new ≡ answered out.old base (0 ∷ a ∷ []) }
-{
-    request::answer_put(out, base, 0, format::refusal::DONE);
-    request::answer_put(out, base, 1, a);
-}
-
-pub fn say2(out: &mut [u64], base: usize, a: u64, b: u64)
-    ensures { out.new ≡ answered out.old base (0 ∷ a ∷ b ∷ []) }
-{
-    request::answer_put(out, base, 0, format::refusal::DONE);
-    request::answer_put(out, base, 1, a);
-    request::answer_put(out, base, 2, b);
-}
-
-pub fn say3(out: &mut [u64], base: usize, a: u64, b: u64, c: u64)
-    ensures { out.new ≡ answered out.old base (0 ∷ a ∷ b ∷ c ∷ []) }
-{
-    request::answer_put(out, base, 0, format::refusal::DONE);
-    request::answer_put(out, base, 1, a);
-    request::answer_put(out, base, 2, b);
-    request::answer_put(out, base, 3, c);
-}
-
-pub fn say4(out: &mut [u64], base: usize, a: u64, b: u64, c: u64, d: u64)
-    ensures { out.new ≡ answered out.old base (0 ∷ a ∷ b ∷ c ∷ d ∷ []) }
-{
-    request::answer_put(out, base, 0, format::refusal::DONE);
-    request::answer_put(out, base, 1, a);
-    request::answer_put(out, base, 2, b);
-    request::answer_put(out, base, 3, c);
-    request::answer_put(out, base, 4, d);
-}
-
-pub fn say5(out: &mut [u64], base: usize, a: u64, b: u64, c: u64, d: u64, e: u64)
-    ensures { out.new ≡ answered out.old base (0 ∷ a ∷ b ∷ c ∷ d ∷ e ∷ []) }
-{
-    request::answer_put(out, base, 0, format::refusal::DONE);
-    request::answer_put(out, base, 1, a);
-    request::answer_put(out, base, 2, b);
-    request::answer_put(out, base, 3, c);
-    request::answer_put(out, base, 4, d);
-    request::answer_put(out, base, 5, e);
-}
-
-pub fn say7(out: &mut [u64], base: usize, a: u64, b: u64, c: u64, d: u64, e: u64, f: u64, g: u64)
-    ensures { out.new ≡ answered out.old base (0 ∷ a ∷ b ∷ c ∷ d ∷ e ∷ f ∷ g ∷ []) }
-{
-    say5(out, base, a, b, c, d, e);
-    request::answer_put(out, base, 6, f);
-    request::answer_put(out, base, 7, g);
+    request::answer_put(out, base, 0, DONE);
+    for (i, word) in words.iter().enumerate() {
+        request::answer_put(out, base, i + 1, *word);
+    }
 }

@@ -48,7 +48,7 @@ fn raise_mark(s: &mut [u64], sh: Shape, b: u64, p: u64, g: u64)
 {
     let e = layout::head_word(s, sh, b, field::HEAD_FIRST_ENTRY);
     let high = storage::page_word(s, sh, e, p, field::ENTRY_HIGH);
-    let mark = words::larger(high, g);
+    let mark = high.max(g);
     storage::put_page(s, sh, e, p, field::ENTRY_HIGH, mark);
 }
 

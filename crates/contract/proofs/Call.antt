@@ -1,4 +1,5 @@
 -- The whole call over words meets document 01 if each request does and the state check is sound and complete. Assumes nothing.
+use Rattle.std.specs.Prelude.{Option as CodeOption, Some, None}
 use Rattle.std.proofs.Math.Path.{◌≡◌, refl, subst}
 use Rattle.std.proofs.Common.{sym, ap, ◌∙◌, get_or-take}
 use Rattle.std.specs.Prelude.{Bool, false, ℕ, ◌+◌, ◌-◌, ◌*◌, ◌≤◌, get_or, ltb}
@@ -19,10 +20,7 @@ use Rattle.model.specs.Words.{read_list, Outcome, on_requests, answer_short, all
 use Rattle.layout.specs.declared.Shape.{Shape}
 use Rattle.layout.specs.Layout.{total}
 use Rattle.layout.specs.ShapeOf.{shape_of, on_bad, on_found, Shaped, shape_found, shape_is}
-use Rattle.layout.specs.declared.ShapeRead.{ShapeRead}
-use Rattle.layout.specs.declared.ShapeRead.TheVariants.{Bad, Shape as found}
 use Rattle.representation.specs.Represents.{Rep}
-use Rattle.request.specs.declared.Listed.TheVariants.{Requests, Malformed as ListMalformed}
 use Rattle.request.specs.Place.{listed}
 use Rattle.request.specs.Laws.{list_bad, list_counted}
 use Rattle.answer.specs.Does.{both}
@@ -138,28 +136,28 @@ module _ (one : One) (steps : Steps one) (well : List ℕ → Shape → Bool)
     kept = by (shape_of ws) refl;
   }
     where
-      found_rep : (sh : Shape) → shape_of ws ≡ found sh → well (take (total sh) ws) sh ≡ true → (s : State) × Rep ws sh s
+      found_rep : (sh : Shape) → shape_of ws ≡ Some sh → well (take (total sh) ws) sh ≡ true → (s : State) × Rep ws sh s
       found_rep sh e b =
           let g = shape_found ws sh e in
           let i = sound (take (total sh) ws) sh (shaped_take sh ws g) (small_take (total sh) ws g.room small) b in
           let w : take (total sh) ws ++ drop (total sh) ws ≡ ws = take-append-drop (total sh) ws in
           (i.0, rw w at (rep_past sh (take (total sh) ws) (drop (total sh) ws) i.0 i.1))
 
-      unchecked : (sh : Shape) → shape_of ws ≡ found sh → well (take (total sh) ws) sh ≡ false → run_w one well ws list os ≡ called 18 ws os
+      unchecked : (sh : Shape) → shape_of ws ≡ Some sh → well (take (total sh) ws) sh ≡ false → run_w one well ws list os ≡ called 18 ws os
       unchecked sh e b = let w : take (total sh) ws ++ drop (total sh) ws ≡ ws = take-append-drop (total sh) ws in rw (e, b, w)
 
       -- no well-formed state: 18
-      outside : (x : ShapeRead) → shape_of ws ≡ x → ((sh : Shape) (s : State) → Rep ws sh s → ⊥) → (run_w one well ws list os).result ≡ 18
-      outside (found sh) e h = bool (well (take (total sh) ws) sh)
+      outside : (x : CodeOption Shape) → shape_of ws ≡ x → ((sh : Shape) (s : State) → Rep ws sh s → ⊥) → (run_w one well ws list os).result ≡ 18
+      outside (Some sh) e h = bool (well (take (total sh) ws) sh)
           (λ b. let i = found_rep sh e b in absurd (h sh i.0 i.1))
           (λ b. let u = unchecked sh e b in rw u)
-      outside Bad e h = rw e
+      outside None e h = rw e
 
-      by : (x : ShapeRead) → shape_of ws ≡ x → ((run_w one well ws list os).result ≡ 0 → ⊥) → ((run_w one well ws list os).state ≡ ws) × ((run_w one well ws list os).answers ≡ os)
-      by (found sh) e z = bool (well (take (total sh) ws) sh)
+      by : (x : CodeOption Shape) → shape_of ws ≡ x → ((run_w one well ws list os).result ≡ 0 → ⊥) → ((run_w one well ws list os).state ≡ ws) × ((run_w one well ws list os).answers ≡ os)
+      by (Some sh) e z = bool (well (take (total sh) ws) sh)
           (λ b. let i = found_rep sh e b in let x = opened ws list os sh i.0 i.1 in rw x (kept ws list os sh i.0 i.1 (rw x at z)))
           (λ b. let u = unchecked sh e b in rw u (refl, refl))
-      by Bad e z = rw e (refl, refl)
+      by None e z = rw e (refl, refl)
 
 -- ---- what the code's branches say
 
@@ -171,10 +169,10 @@ module _ (one : One) (well : List ℕ → Shape → Bool) (ws os : List ℕ) (sh
       → called 0 ws' os' ≡ pick (ltb (length os) (answer_words * n)) (called 20 ws os) (done (list_r one n ws os sh list 0 0))
   answers_long n b ws' os' e t p = rw (sym e ∙ t) (ap done p)
 
-  pub list_malformed : ListMalformed ≡ listed (read_list list) → called 19 ws os ≡ requests_w one well ws os sh list (read_list list)
+  pub list_malformed : None ≡ listed (read_list list) → called 19 ws os ≡ requests_w one well ws os sh list (read_list list)
   list_malformed e = let z : read_list list ≡ none = list_bad (read_list list) e in rw z
 
-  pub list_read : (n : ℕ) (x : Called) → Requests n ≡ listed (read_list list)
+  pub list_read : (n : ℕ) (x : Called) → Some n ≡ listed (read_list list)
       → x ≡ pick (ltb (length os) (answer_words * n)) (called 20 ws os) (done (list_r one n ws os sh list 0 0)) → x ≡ requests_w one well ws os sh list (read_list list)
   list_read n x e p = by (list_counted (read_list list) n e)
     where
@@ -187,11 +185,11 @@ module _ (one : One) (well : List ℕ → Shape → Bool) (ws os : List ℕ) (sh
   pub check_good : (b : Bool) (ws' : List ℕ) (x : Called) → b ≡ well ws sh → b ≡ true → ws' ≡ ws → x ≡ requests_w one well ws' os sh list (read_list list) → x ≡ checked_w one well ws list os sh
   check_good b ws' x e t k p = rw (sym e ∙ t) (p ∙ ap (λ (v : List ℕ). requests_w one well v os sh list (read_list list)) k)
 
-pub run_bad : (one : One) (well : List ℕ → Shape → Bool) (ws list os : List ℕ) (x : ShapeRead) → x ≡ shape_of ws → x ≡ Bad → called 18 ws os ≡ run_w one well ws list os
+pub run_bad : (one : One) (well : List ℕ → Shape → Bool) (ws list os : List ℕ) (x : CodeOption Shape) → x ≡ shape_of ws → x ≡ None → called 18 ws os ≡ run_w one well ws list os
 unfolding run_w
 run_bad one well ws list os x e q = on_bad ws (called 18 ws os) (within_w one well ws list os) x (called 18 ws os) e q refl
 
-pub run_found : (one : One) (well : List ℕ → Shape → Bool) (ws list os : List ℕ) (x : ShapeRead) (sh : Shape) (y : Called) → x ≡ shape_of ws → x ≡ found sh → y ≡ within_w one well ws list os sh → y ≡ run_w one well ws list os
+pub run_found : (one : One) (well : List ℕ → Shape → Bool) (ws list os : List ℕ) (x : CodeOption Shape) (sh : Shape) (y : Called) → x ≡ shape_of ws → x ≡ Some sh → y ≡ within_w one well ws list os sh → y ≡ run_w one well ws list os
 unfolding run_w
 run_found one well ws list os x sh y e q p = on_found ws (called 18 ws os) (within_w one well ws list os) x sh y e q p
 

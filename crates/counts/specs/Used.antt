@@ -1,4 +1,5 @@
 -- How many objects, the first ones, may have a handle counted: those up to the last that has a count, and up to the last that a row has a handle of. Assumes nothing.
+use Rattle.std.specs.Prelude.{Option, Some, None}
 use Rattle.std.specs.Prelude.{◌≡◌, refl, Bool, false, ◌&&◌, List, [], ◌∷◌, ◌++◌, eqb, ltb}
 use Rattle.std.proofs.Common.{sym, ap, ◌∙◌, add-one}
 use Rattle.std.proofs.Math.Bool.{true}
@@ -12,8 +13,6 @@ use Rattle.model.proofs.Counting.{occurs_append}
 use Rattle.layout.specs.declared.Shape.{Shape}
 use Rattle.layout.specs.Layout.{Mem, object}
 use Rattle.layout.specs.Fields.{object_active}
-use Rattle.counts.specs.declared.ObjectsRead.{ObjectsRead}
-use Rattle.counts.specs.declared.ObjectsRead.TheVariants.{Bad, Used}
 use Rattle.counts.specs.Found.{gather}
 use Rattle.counts.specs.Objects.{object_b, objects_b, objects_stop}
 
@@ -79,19 +78,19 @@ module _ (m : Mem) where
   used_all n e = rw e
 
 -- a number of used objects, where a test has passed
-abbrev pub read_if : Bool → ℕ → ObjectsRead
-read_if b n = pick b (Used n) Bad
+abbrev pub read_if : Bool → ℕ → Option ℕ
+read_if b n = pick b (Some n) None
 
 -- the answer of `check_objects`
-unfoldable pub objects_read : Mem → Shape → ObjectsRead
+unfoldable pub objects_read : Mem → Shape → Option ℕ
 objects_read m sh = read_if (objects_b m sh) (used_to m sh.objects)
 
 module _ (m : Mem) (sh : Shape) (n : ℕ) (e : n ≡ used_to m sh.objects) where
-  pub used_bad : (o : ℕ) (t : Bool) → o < n → t ≡ object_b m o → t ≡ false → Bad ≡ objects_read m sh
+  pub used_bad : (o : ℕ) (t : Bool) → o < n → t ≡ object_b m o → t ≡ false → None ≡ objects_read m sh
   unfolding objects_read
   used_bad o t l q d = rw (← objects_stop m sh o t (omega (arith, e, used_few m sh.objects)) q d)
 
-  pub used_end : (o : ℕ) → all o (object_b m) ≡ true → n ≤ o → Used n ≡ objects_read m sh
+  pub used_end : (o : ℕ) → all o (object_b m) ≡ true → n ≤ o → Some n ≡ objects_read m sh
   unfolding objects_read objects_b
   used_end o h l = rw (all_yes sh.objects (object_b m) each, ← e)
     where

@@ -20,13 +20,6 @@ use layout::{Shape, field, place, size, value};
 // One more in the upper half of a word.
 const UNIT: u64 = size::NUMBER_32_MAX + 1;
 
-// What the objects' fields say: one is out of range, or how many objects there are up to the last that has a count.
-#[derive(Clone, Copy)]
-pub enum ObjectsRead {
-    Bad,
-    Used(u64),
-}
-
 // Whether a number is one of two.
 fn either(x: u64, a: u64, b: u64) -> bool
     ensures { result ≡ (eqb x a || eqb x b) }
@@ -117,7 +110,7 @@ fn used_objects(s: &[u64], sh: Shape, first: u64) -> u64
 }
 
 // Whether the fields of every object are in range, and how many objects may have handles.
-pub fn check_objects(s: &[u64], sh: Shape) -> ObjectsRead
+pub fn check_objects(s: &[u64], sh: Shape) -> Option<u64>
     requires { total sh ≤ length s.now }
     ensures { result ≡ objects_read (loadAt s.now sh) sh }
 {
@@ -125,10 +118,10 @@ pub fn check_objects(s: &[u64], sh: Shape) -> ObjectsRead
     let n = used_objects(s, sh, first);
     for o in 0..n {
         if !object_ok(s, sh, first, o) {
-            return ObjectsRead::Bad;
+            return None;
         }
     }
-    ObjectsRead::Used(n)
+    Some(n)
 }
 
 // A word with one more in its upper half: past the largest it starts again.

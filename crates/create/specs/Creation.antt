@@ -1,10 +1,9 @@
 -- What creation makes of the words that it is lent. Assumes nothing.
+use Rattle.std.specs.Prelude.{Option, Some, None}
 use Rattle.std.specs.Prelude.{◌≡◌, refl, Bool, true, false, List, [], ◌∷◌, ℕ, zero, suc, ◌+◌, ◌-◌, ◌*◌, ◌/◌, min, length, get_or, set, leb}
 use Rattle.std.proofs.Common.{sym, ap, ◌∙◌, add-one}
 use Rattle.words.specs.Pick.{pick, yes_is, no_is}
 use Rattle.layout.specs.declared.Shape.{Shape}
-use Rattle.layout.specs.declared.ShapeRead.{ShapeRead}
-use Rattle.layout.specs.declared.ShapeRead.TheVariants.{Shape as found, Bad}
 use Rattle.layout.specs.Layout.{Addr.reg, total, root, head, object, index, rank, save, Write, Write.at, writes, length_writes}
 use Rattle.layout.specs.ShapeOf.{on_shape}
 use Rattle.codec.specs.Codec.{mask_of}
@@ -85,10 +84,10 @@ create_w ws ps = on_shape (plan_of ps) (after 18 ws) (λ sh. placed_w ws ps sh)
 
 -- ---- arms
 
-on_found' : {A : Type 0} (x : ShapeRead) (bad : A) (good : Shape → A) (sh : Shape) (r : A) → x ≡ found sh → r ≡ good sh → r ≡ on_shape x bad good
+on_found' : {A : Type 0} (x : Option Shape) (bad : A) (good : Shape → A) (sh : Shape) (r : A) → x ≡ Some sh → r ≡ good sh → r ≡ on_shape x bad good
 on_found' x bad good sh r e p = rw e p
 
-on_bad' : {A : Type 0} (x : ShapeRead) (bad : A) (good : Shape → A) (r : A) → x ≡ Bad → r ≡ bad → r ≡ on_shape x bad good
+on_bad' : {A : Type 0} (x : Option Shape) (bad : A) (good : Shape → A) (r : A) → x ≡ None → r ≡ bad → r ≡ on_shape x bad good
 on_bad' x bad good r e p = rw e p
 
 -- ---- what the loops say
@@ -148,10 +147,10 @@ pub placed_no : (ws ps : List ℕ) (sh : Shape) (m n : ℕ) (b : Bool) → m ≡
 unfolding placed_w
 placed_no ws ps sh m n b em en eb h = no_is (leb (total sh) (length ws)) (after 18 ws) (after 0 (built_w ws ps sh)) (after 18 ws) (rw (← em, ← en) (sym eb ∙ h)) refl
 
-pub create_bad : (ws ps : List ℕ) (x : ShapeRead) → x ≡ plan_of ps → x ≡ Bad → after 18 ws ≡ create_w ws ps
+pub create_bad : (ws ps : List ℕ) (x : Option Shape) → x ≡ plan_of ps → x ≡ None → after 18 ws ≡ create_w ws ps
 unfolding create_w
 create_bad ws ps x e q = on_bad' (plan_of ps) (after 18 ws) (λ sh. placed_w ws ps sh) (after 18 ws) (sym e ∙ q) refl
 
-pub create_placed : (ws ps : List ℕ) (x : ShapeRead) (sh : Shape) (r : After) → x ≡ plan_of ps → x ≡ found sh → r ≡ placed_w ws ps sh → r ≡ create_w ws ps
+pub create_placed : (ws ps : List ℕ) (x : Option Shape) (sh : Shape) (r : After) → x ≡ plan_of ps → x ≡ Some sh → r ≡ placed_w ws ps sh → r ≡ create_w ws ps
 unfolding create_w
 create_placed ws ps x sh r e q p = on_found' (plan_of ps) (after 18 ws) (λ sh. placed_w ws ps sh) sh r (sym e ∙ q) p

@@ -1,11 +1,10 @@
 -- Creation's parameters in words: docs/formats.md, "Creation's parameters". Assumes nothing.
+use Rattle.std.specs.Prelude.{Option, Some, None}
 use Rattle.std.specs.Prelude.{◌≡◌, refl, Bool, true, false, ◌&&◌, List, [], ◌∷◌, ℕ, zero, suc, ◌+◌, ◌-◌, ◌*◌, ◌^◌, ◌≤◌, ◌<◌, min, length, get_or, ltb, leb}
 use Rattle.std.proofs.Common.{sym, ap, ◌∙◌, arith, add-one, lt-ltb, le-ltb, ltb-true, le-leb, leb-true}
 use Rattle.std.proofs.Math.Nat.{sub-zero}
 use Rattle.words.specs.Pick.{pick, bool, both, both_is, clash, refuted, all_six}
 use Rattle.layout.specs.declared.Shape.{Shape}
-use Rattle.layout.specs.declared.ShapeRead.{ShapeRead}
-use Rattle.layout.specs.declared.ShapeRead.TheVariants.{Shape as found, Bad}
 use Rattle.layout.specs.Sizes.{pages_max, tables_max, frames_max, objects_max, rows_max}
 use Rattle.model.specs.Base.{at_most, between, every, sum}
 use Rattle.model.specs.State.{till, max_tables, max_frames, max_objects, max_rows, max_limit, max_slots}
@@ -71,8 +70,8 @@ pub record Good (ps : List ℕ) : Type 0 where
   pub within : permitted till (parameters_of ps) ≡ true
 
 -- the state's counts, if the parameters are good
-unfoldable pub plan_of : List ℕ → ShapeRead
-plan_of ps = pick (leb (need ps) (length ps) && permitted till (parameters_of ps)) (found (shape_in ps)) Bad
+unfoldable pub plan_of : List ℕ → Option Shape
+plan_of ps = pick (leb (need ps) (length ps) && permitted till (parameters_of ps)) (Some (shape_in ps)) None
 
 -- ---- lists of things by number
 
@@ -222,11 +221,11 @@ checked_good ps k =
 
 -- ---- the plan
 
-pub plan_good : (ps : List ℕ) → Good ps → found (shape_in ps) ≡ plan_of ps
+pub plan_good : (ps : List ℕ) → Good ps → Some (shape_in ps) ≡ plan_of ps
 unfolding plan_of
 plan_good ps g = rw (le-leb (need ps) (length ps) g.long, g.within)
 
-pub plan_bad : (ps : List ℕ) → (Good ps → ⊥) → Bad ≡ plan_of ps
+pub plan_bad : (ps : List ℕ) → (Good ps → ⊥) → None ≡ plan_of ps
 unfolding plan_of
 plan_bad ps h = bool (leb (need ps) (length ps) && permitted till (parameters_of ps))
     (λ e. let b = both (leb (need ps) (length ps)) (permitted till (parameters_of ps)) e in
@@ -234,19 +233,19 @@ plan_bad ps h = bool (leb (need ps) (length ps) && permitted till (parameters_of
     (λ e. rw e)
 
 -- what the code's tests say
-pub counts_bad : (ps : List ℕ) → (CountsGood ps → ⊥) → Bad ≡ plan_of ps
+pub counts_bad : (ps : List ℕ) → (CountsGood ps → ⊥) → None ≡ plan_of ps
 counts_bad ps h = plan_bad ps (λ g. h (good_checked ps g).counts)
 
-pub tables_bad : (ps : List ℕ) (n : ℕ) (b : Bool) → n ≡ get_or ps 0 0 → b ≡ every (table_permitted till) (tables_in ps n) → b ≡ false → Bad ≡ plan_of ps
+pub tables_bad : (ps : List ℕ) (n : ℕ) (b : Bool) → n ≡ get_or ps 0 0 → b ≡ every (table_permitted till) (tables_in ps n) → b ≡ false → None ≡ plan_of ps
 tables_bad ps n b e q f = plan_bad ps (λ g. clash (good_checked ps g).tables (rw (← e) (sym q ∙ f)))
 
-pub objects_bad : (ps : List ℕ) (t n : ℕ) (b : Bool) → t ≡ get_or ps 0 0 → n ≡ get_or ps 2 0 → b ≡ every object_permitted (objects_in ps t n) → b ≡ false → Bad ≡ plan_of ps
+pub objects_bad : (ps : List ℕ) (t n : ℕ) (b : Bool) → t ≡ get_or ps 0 0 → n ≡ get_or ps 2 0 → b ≡ every object_permitted (objects_in ps t n) → b ≡ false → None ≡ plan_of ps
 objects_bad ps t n b e d q f = plan_bad ps (λ g. clash (good_checked ps g).objects (rw (← e, ← d) (sym q ∙ f)))
 
 module _ (ps : List ℕ) (t f o r p n : ℕ) (b d : Bool) (et : t ≡ get_or ps 0 0) (ef : f ≡ get_or ps 1 0) (eo : o ≡ get_or ps 2 0) (er : r ≡ get_or ps 3 0) (en : n ≡ length ps) where
   pub plan_yes : 1 ≤ t → t ≤ tables_max → f ≤ frames_max → 1 ≤ o → o ≤ objects_max → 1 ≤ r → r ≤ rows_max → 4 + t * 2 + o * 6 ≤ n
       → b ≡ every (table_permitted till) (tables_in ps t) → b ≡ true → d ≡ every object_permitted (objects_in ps t o) → d ≡ true → p ≡ page_sum ps t
-      → found (record { tables = t; pages = p; frames = f; objects = o; rows = r }) ≡ plan_of ps
+      → Some (record { tables = t; pages = p; frames = f; objects = o; rows = r }) ≡ plan_of ps
   unfolding shape_in
   plan_yes h1 h2 h3 h4 h5 h6 h7 h8 qb hb qd hd ep =
       rw (ep, et, ef, eo, er)

@@ -10,7 +10,7 @@ ghost use Rattle.create.specs.Parameters.{table_from, object_from, tables_in, ob
 ghost use Rattle.create.specs.Meets.{Meets};
 ghost use Rattle.create.specs.Creation.{cleared_w, header_w, head_p, heads_w, object_p, objects_w, groups_w, levels_w, places_w, built_w, placed_w, after, create_w};
 
-use layout::{Shape, ShapeRead, field, size, value};
+use layout::{Shape, field, size, value};
 
 // Whether a table's parameters are permitted; its seed may be any word.
 fn table_ok(p: &[u64], b: u8) -> bool
@@ -90,7 +90,7 @@ fn pages_of(p: &[u64], n: u8) -> u64
 }
 
 // The counts of the state that the parameters ask for, if they are all there and permitted.
-fn plan(p: &[u64]) -> ShapeRead
+fn plan(p: &[u64]) -> Option<Shape>
     ensures { result ≡ plan_of p.now }
 {
     let t = words::word(p, 0);
@@ -98,40 +98,40 @@ fn plan(p: &[u64]) -> ShapeRead
     let o = words::word(p, 2);
     let r = words::word(p, 3);
     if t < 1 {
-        return ShapeRead::Bad;
+        return None;
     }
     if t > size::TABLES_MAX {
-        return ShapeRead::Bad;
+        return None;
     }
     if f > size::FRAMES_MAX {
-        return ShapeRead::Bad;
+        return None;
     }
     if o < 1 {
-        return ShapeRead::Bad;
+        return None;
     }
     if o > size::OBJECTS_MAX {
-        return ShapeRead::Bad;
+        return None;
     }
     if r < 1 {
-        return ShapeRead::Bad;
+        return None;
     }
     if r > size::ROWS_MAX {
-        return ShapeRead::Bad;
+        return None;
     }
     let n = p.len() as u64;
     if n < 4 + t * 2 + o * 6 {
-        return ShapeRead::Bad;
+        return None;
     }
     let tables = t as u8;
     let objects = o as u16;
     if !tables_ok(p, tables) {
-        return ShapeRead::Bad;
+        return None;
     }
     if !objects_ok(p, tables, objects) {
-        return ShapeRead::Bad;
+        return None;
     }
     let pages = pages_of(p, tables);
-    ShapeRead::Shape(Shape {
+    Some(Shape {
         tables: tables,
         pages: pages as u32,
         frames: f as u16,
@@ -289,7 +289,7 @@ pub fn gurtxozal_create(state: &mut [u64], parameters: &[u64]) -> u64
 {
     let planned = plan(parameters);
     match planned {
-        ShapeRead::Bad => format::refusal::MISUSE,
-        ShapeRead::Shape(sh) => place(state, parameters, sh),
+        None => format::refusal::MISUSE,
+        Some(sh) => place(state, parameters, sh),
     }
 }

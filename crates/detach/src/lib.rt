@@ -36,13 +36,11 @@ fn unlink_page(s: &mut [u64], sh: Shape, b: u64, p: u64)
     ensures words { s.new ≡ unlink_page_w s.old sh b p }
 {
     let n = head::slots_of(p) as u64;
-    let first = words::smaller(p, size::LAST_PAGE) * size::PAGE_SIZE;
+    let first = p.min(size::LAST_PAGE) * size::PAGE_SIZE;
     let fr = storage::frame_link(s, sh, b, first);
     let mut h = head::load(s, sh, b);
-    let mut j: u64 = 0;
-    while j < n {
+    for j in 0..n {
         h = unlink_slot(s, sh, h, fr, j);
-        j += 1;
     }
     head::store_free(s, sh, b, h);
 }
@@ -55,7 +53,7 @@ fn join_detached(s: &mut [u64], sh: Shape, b: u64, p: u64)
     let e = h.entry;
     let x = storage::leave_order(s, sh, e, p, h.first_empty);
     let t = head::empty_local(h, x);
-    let u = head::detach_local(t, words::inc(p));
+    let u = head::detach_local(t, p.saturating_add(1));
     storage::put_page(s, sh, e, p, field::ENTRY_FRAME, 0);
     storage::put_page(s, sh, e, p, field::ENTRY_NEXT, h.first_detached);
     head::store_detached(s, sh, b, u);
@@ -66,7 +64,7 @@ pub fn detach_page(s: &mut [u64], sh: Shape, b: u64, p: u64)
     ensures words { s.new ≡ detach_w s.old sh b p }
 {
     let e = layout::head_word(s, sh, b, field::HEAD_FIRST_ENTRY);
-    let f = words::dec(storage::page_word(s, sh, e, p, field::ENTRY_FRAME));
+    let f = storage::page_word(s, sh, e, p, field::ENTRY_FRAME).saturating_sub(1);
     unlink_page(s, sh, b, p);
     join_detached(s, sh, b, p);
     frames::give_frame(s, sh, f);
@@ -76,10 +74,7 @@ pub fn detach_page(s: &mut [u64], sh: Shape, b: u64, p: u64)
 fn first_empty(s: &[u64], sh: Shape, b: u64) -> u64
     ensures { result ≡ first_empty (loadAt s.now sh) b }
 {
-    if words::eq(
-        layout::head_word(s, sh, b, field::HEAD_LIFECYCLE),
-        value::LIFE_ACTIVE,
-    ) {
+    if layout::head_word(s, sh, b, field::HEAD_LIFECYCLE) == value::LIFE_ACTIVE {
         return layout::head_word(s, sh, b, field::HEAD_FIRST_EMPTY);
     }
     0
@@ -89,13 +84,13 @@ fn first_empty(s: &[u64], sh: Shape, b: u64) -> u64
 pub fn take_empty_page(s: &mut [u64], sh: Shape, b: u64, out: &mut [u64], base: usize)
     ensures { both s.new out.new ≡ take_page_r s.old out.old sh base b }
 {
-    if words::lt(b, sh.tables as u64) {
+    if b < sh.tables as u64 {
         let h = first_empty(s, sh, b);
-        if words::eq(h, 0) {
+        if h == 0 {
             answer::say1(out, base, 0);
             return;
         }
-        let p = words::dec(h);
+        let p = h.saturating_sub(1);
         detach_page(s, sh, b, p);
         answer::say2(out, base, 1, p);
         return;

@@ -1,11 +1,10 @@
 -- The shape that a state's header gives, or none. Assumes nothing.
+use Rattle.std.specs.Prelude.{Option, Some, None}
 use Rattle.std.specs.Prelude.{◌≡◌, refl, Bool, true, ◌&&◌, List, [], ◌∷◌, ℕ, ◌*◌, ◌≤◌, ◌<◌, length, get_or, eqb, leb}
 use Rattle.std.proofs.Common.{sym, ◌∙◌, arith, eq-eqb, eqb-true, le-leb, leb-true}
 use Rattle.words.specs.Pick.{pick, bool, both, both_is}
 use Rattle.layout.specs.Layout.{total, root, Mem, load, load_root}
 use Rattle.layout.specs.declared.Shape.{Shape}
-use Rattle.layout.specs.declared.ShapeRead.{ShapeRead}
-use Rattle.layout.specs.declared.ShapeRead.TheVariants.{Shape as found, Bad}
 use Rattle.layout.specs.Fields.{root_version, root_tables, root_frames, root_objects, root_rows, root_next_id, root_free_frames, root_pages}
 use Rattle.layout.specs.Values.{format_version}
 use Rattle.layout.specs.Sizes.{pages_max, tables_max, frames_max, objects_max, rows_max}
@@ -79,8 +78,8 @@ pub permitted_small : (sh : Shape) → Permitted sh → total sh ≤ 46340255
 permitted_small sh p = omega arith
 
 -- THE READING: version 1, counts within the limits, and words enough for them
-unfoldable pub shape_of : List ℕ → ShapeRead
-shape_of ws = pick (eqb (get_or ws root_version 0) format_version && (permitted (shape_at ws) && leb (total (shape_at ws)) (length ws))) (found (shape_at ws)) Bad
+unfoldable pub shape_of : List ℕ → Option Shape
+shape_of ws = pick (eqb (get_or ws root_version 0) format_version && (permitted (shape_at ws) && leb (total (shape_at ws)) (length ws))) (Some (shape_at ws)) None
 
 -- what the tests say
 pub record Given (ws : List ℕ) (sh : Shape) : Type 0 where
@@ -89,17 +88,17 @@ pub record Given (ws : List ℕ) (sh : Shape) : Type 0 where
   pub limits : Permitted sh
   pub room : total sh ≤ length ws
 
-given_found : (ws : List ℕ) (sh : Shape) → shape_of ws ≡ found sh → Given ws sh
+given_found : (ws : List ℕ) (sh : Shape) → shape_of ws ≡ Some sh → Given ws sh
 unfolding shape_of
 given_found ws sh q = bool (eqb (get_or ws root_version 0) format_version && (permitted (shape_at ws) && leb (total (shape_at ws)) (length ws)))
     (λ e. let b = both (eqb (get_or ws root_version 0) format_version) (permitted (shape_at ws) && leb (total (shape_at ws)) (length ws)) e in
     let d = both (permitted (shape_at ws)) (leb (total (shape_at ws)) (length ws)) b.1 in
-    let z : found (shape_at ws) ≡ found sh = rw e at q in
+    let z : Some (shape_at ws) ≡ Some sh = rw e at q in
     let i : sh ≡ shape_at ws = cc in
     record { version = eqb-true (get_or ws root_version 0) format_version b.0; is = i; limits = rw i (permitted_is (shape_at ws) d.0); room = rw i (leb-true (total (shape_at ws)) (length ws) d.1) })
-    (λ e. let z : Bad ≡ found sh = rw e at q in let y : ◌≡◌ {A = ℕ} 0 1 = cc in absurd (omega arith))
+    (λ e. let z : None ≡ Some sh = rw e at q in let y : ◌≡◌ {A = ℕ} 0 1 = cc in absurd (omega arith))
 
-given_is : (ws : List ℕ) (sh : Shape) → Given ws sh → found sh ≡ shape_of ws
+given_is : (ws : List ℕ) (sh : Shape) → Given ws sh → Some sh ≡ shape_of ws
 unfolding shape_of
 given_is ws sh h =
     let i : sh ≡ shape_at ws = h.is in
@@ -107,7 +106,7 @@ given_is ws sh h =
     let m : total (shape_at ws) ≤ length ws = rw i at h.room in
     rw (eq-eqb (get_or ws root_version 0) format_version h.version, permitted_yes (shape_at ws) p, le-leb (total (shape_at ws)) (length ws) m, i)
 
-pub shape_bad : (ws : List ℕ) → (Given ws (shape_at ws) → ⊥) → Bad ≡ shape_of ws
+pub shape_bad : (ws : List ℕ) → (Given ws (shape_at ws) → ⊥) → None ≡ shape_of ws
 unfolding shape_of
 shape_bad ws h = bool (eqb (get_or ws root_version 0) format_version && (permitted (shape_at ws) && leb (total (shape_at ws)) (length ws)))
     (λ e. let b = both (eqb (get_or ws root_version 0) format_version) (permitted (shape_at ws) && leb (total (shape_at ws)) (length ws)) e in
@@ -118,24 +117,24 @@ shape_bad ws h = bool (eqb (get_or ws root_version 0) format_version && (permitt
 -- ---- what goes by the reading
 
 module _ {ℓ} {A : Type ℓ} where
-  abbrev pub on_shape : ShapeRead → A → (Shape → A) → A
-  on_shape (found sh) bad good = good sh
-  on_shape Bad bad good = bad
+  abbrev pub on_shape : Option Shape → A → (Shape → A) → A
+  on_shape (Some sh) bad good = good sh
+  on_shape None bad good = bad
 
   -- for a caller's two arms: x is what `shape_of` gave
-  pub on_found : (ws : List ℕ) (bad : A) (good : Shape → A) (x : ShapeRead) (sh : Shape) (r : A) → x ≡ shape_of ws → x ≡ found sh → r ≡ good sh → r ≡ on_shape (shape_of ws) bad good
+  pub on_found : (ws : List ℕ) (bad : A) (good : Shape → A) (x : Option Shape) (sh : Shape) (r : A) → x ≡ shape_of ws → x ≡ Some sh → r ≡ good sh → r ≡ on_shape (shape_of ws) bad good
   on_found ws bad good x sh r e q p = rw (sym e ∙ q) p
 
-  pub on_bad : (ws : List ℕ) (bad : A) (good : Shape → A) (x : ShapeRead) (r : A) → x ≡ shape_of ws → x ≡ Bad → r ≡ bad → r ≡ on_shape (shape_of ws) bad good
+  pub on_bad : (ws : List ℕ) (bad : A) (good : Shape → A) (x : Option Shape) (r : A) → x ≡ shape_of ws → x ≡ None → r ≡ bad → r ≡ on_shape (shape_of ws) bad good
   on_bad ws bad good x r e q p = rw (sym e ∙ q) p
 
 -- ---- what the code's tests say
 
 -- the last test of `shape_of`: n words, and m needed
-pub shape_short : (ws : List ℕ) (sh : Shape) (n m : ℕ) → sh ≡ shape_at ws → n ≡ length ws → m ≡ total sh → n < m → Bad ≡ shape_of ws
+pub shape_short : (ws : List ℕ) (sh : Shape) (n m : ℕ) → sh ≡ shape_at ws → n ≡ length ws → m ≡ total sh → n < m → None ≡ shape_of ws
 shape_short ws sh n m i l e h = shape_bad ws (λ q. let z : m ≡ total (shape_at ws) = rw i at e in omega (arith, q.room))
 
-pub shape_long : (ws : List ℕ) (sh : Shape) (n m : ℕ) → get_or ws root_version 0 ≡ format_version → sh ≡ shape_at ws → Permitted sh → n ≡ length ws → m ≡ total sh → m ≤ n → found sh ≡ shape_of ws
+pub shape_long : (ws : List ℕ) (sh : Shape) (n m : ℕ) → get_or ws root_version 0 ≡ format_version → sh ≡ shape_at ws → Permitted sh → n ≡ length ws → m ≡ total sh → m ≤ n → Some sh ≡ shape_of ws
 shape_long ws sh n m v i p l e h = given_is ws sh (record { version = v; is = i; limits = p; room = omega arith })
 
 -- ---- the reading, over the header's fields
@@ -165,7 +164,7 @@ pub record Shaped (ws : List ℕ) (sh : Shape) : Type 0 where
   pub room : total sh ≤ length ws
   pub roots : Roots sh (load ws sh)
 
-pub shape_found : (ws : List ℕ) (sh : Shape) → shape_of ws ≡ found sh → Shaped ws sh
+pub shape_found : (ws : List ℕ) (sh : Shape) → shape_of ws ≡ Some sh → Shaped ws sh
 unfolding shape_at
 shape_found ws sh q =
     let g = given_found ws sh q in let i : sh ≡ shape_at ws = g.is in
@@ -186,7 +185,7 @@ shape_parts : (sh : Shape) (t p f o r : ℕ) → t ≡ sh.tables → p ≡ sh.pa
     → sh ≡ record { tables = t; pages = p; frames = f; objects = o; rows = r }
 shape_parts sh t p f o r a b c d e = rw (a, b, c, d, e)
 
-pub shape_is : (ws : List ℕ) (sh : Shape) → Shaped ws sh → shape_of ws ≡ found sh
+pub shape_is : (ws : List ℕ) (sh : Shape) → Shaped ws sh → shape_of ws ≡ Some sh
 unfolding shape_at
 shape_is ws sh h =
     let r = h.roots in

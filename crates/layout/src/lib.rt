@@ -44,12 +44,6 @@ pub struct CellWords {
     pub unused: u64,
 }
 
-#[derive(Clone, Copy)]
-pub enum ShapeRead {
-    Shape(Shape),
-    Bad,
-}
-
 // The layout's region of a number; an empty one past its end.
 pub fn region_of(sh: Shape, k: u64) -> Extent
     ensures { result ≡ region (layout sh) k }
@@ -396,7 +390,7 @@ pub fn put_item(s: &mut [u64], sh: Shape, k: u64, j: u64, f: u64, v: u64)
 }
 
 // The shape that the header gives: version 1, counts within the limits, and words enough for them.
-pub fn shape_of(s: &[u64]) -> ShapeRead
+pub fn shape_of(s: &[u64]) -> Option<Shape>
     ensures { result ≡ shape_of s.now }
 {
     let version = words::word(s, place::ROOT_VERSION);
@@ -406,34 +400,34 @@ pub fn shape_of(s: &[u64]) -> ShapeRead
     let r = words::word(s, place::ROOT_ROWS);
     let p = words::word(s, place::ROOT_PAGES);
     if version != value::FORMAT_VERSION {
-        return ShapeRead::Bad;
+        return None;
     }
     if t < 1 {
-        return ShapeRead::Bad;
+        return None;
     }
     if t > size::TABLES_MAX {
-        return ShapeRead::Bad;
+        return None;
     }
     if f > size::FRAMES_MAX {
-        return ShapeRead::Bad;
+        return None;
     }
     if o < 1 {
-        return ShapeRead::Bad;
+        return None;
     }
     if o > size::OBJECTS_MAX {
-        return ShapeRead::Bad;
+        return None;
     }
     if r < 1 {
-        return ShapeRead::Bad;
+        return None;
     }
     if r > size::ROWS_MAX {
-        return ShapeRead::Bad;
+        return None;
     }
     if p < t {
-        return ShapeRead::Bad;
+        return None;
     }
     if p > t * size::PAGES_MAX {
-        return ShapeRead::Bad;
+        return None;
     }
     let sh = Shape {
         tables: t as u8,
@@ -444,7 +438,7 @@ pub fn shape_of(s: &[u64]) -> ShapeRead
     };
     let n = s.len() as u64;
     if n < total_of(sh) {
-        return ShapeRead::Bad;
+        return None;
     }
-    ShapeRead::Shape(sh)
+    Some(sh)
 }

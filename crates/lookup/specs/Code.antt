@@ -1,4 +1,5 @@
 -- What the code's branches say, in the terms of the definitions. Assumes nothing.
+use Rattle.std.specs.Prelude.{Option, Some, None}
 use Rattle.std.specs.Prelude.{◌≡◌, Bool, true, false, List, [], ◌∷◌, ℕ, suc, ◌+◌, ◌-◌, ◌*◌, ◌/◌, ◌%◌, min, ◌≤◌, ◌<◌, ltb}
 use Rattle.std.proofs.Math.Path.{refl, sym, ap}
 use Rattle.std.proofs.Common.{◌∙◌, arith}
@@ -31,8 +32,6 @@ use Rattle.answer.specs.Does.{Both, both, answered, refuse_r}
 use Rattle.lookup.specs.View.{handle_by, handle_at, slot_refusal, slot_view, decoded_view, view_of, table_refusal, view_opened, open_of}
 use Rattle.lookup.specs.Read.{on_opened, info_at, info_list, get_info_r, resolved_r, resolve_r}
 use Rattle.lookup.specs.declared.SnapshotEntry.{SnapshotEntry}
-use Rattle.lookup.specs.declared.NextCursor.{NextCursor}
-use Rattle.lookup.specs.declared.NextCursor.TheVariants.{At as NextAt, End}
 use Rattle.lookup.specs.declared.SnapshotPage.{SnapshotPage}
 use Rattle.lookup.specs.Scan.{length_at, entry_by, entry_of, FrameFor, next_at, ended_of}
 
@@ -227,13 +226,13 @@ frame_next m b k fr l e off =
 
 -- `next_cursor`
 module _ (stop long : ℕ) (t : Bool) (q : t ≡ ltb stop long) where
-  pub next_more : t ≡ true → NextAt stop ≡ next_at stop long
+  pub next_more : t ≡ true → Some stop ≡ next_at stop long
   next_more y = yes_is _ _ _ _ (sym q ∙ y) refl
 
-  pub next_none : t ≡ false → End ≡ next_at stop long
+  pub next_none : t ≡ false → None ≡ next_at stop long
   next_none y = no_is _ _ _ _ (sym q ∙ y) refl
 
 -- `ended`
-pub ended_by : (es : List SnapshotEntry) (len start stop long : ℕ) (n : NextCursor) → n ≡ next_at stop long
+pub ended_by : (es : List SnapshotEntry) (len start stop long : ℕ) (n : Option ℕ) → n ≡ next_at stop long
     → ◌≡◌ {A = SnapshotPage} (record { entries = es; len = len; next = n; examined = stop - start }) (ended_of es len start stop long)
 ended_by es len start stop long n e = rw e

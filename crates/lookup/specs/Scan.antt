@@ -1,4 +1,5 @@
 -- A scan over the memory: the snapshot page of table b from a cursor on. Assumes nothing.
+use Rattle.std.specs.Prelude.{Option, Some, None}
 use Rattle.std.specs.Prelude.{◌≡◌, List, [], ◌∷◌, ◌++◌, map, ℕ, zero, suc, ◌-◌, ◌*◌, ◌%◌, min, length, take, eqb, ltb}
 use Rattle.words.specs.Pick.{pick}
 use Rattle.codec.specs.Codec.{encode}
@@ -12,8 +13,6 @@ use Rattle.layout.specs.Sizes.{page_size}
 use Rattle.representation.specs.Represents.{frame_of, slot_word, slot_in}
 use Rattle.answer.specs.Does.{Both, both, answered, refuse_r}
 use Rattle.lookup.specs.declared.SnapshotEntry.{SnapshotEntry}
-use Rattle.lookup.specs.declared.NextCursor.{NextCursor}
-use Rattle.lookup.specs.declared.NextCursor.TheVariants.{At, End}
 use Rattle.lookup.specs.declared.SnapshotPage.{SnapshotPage}
 use Rattle.lookup.specs.View.{handle_by, handle_at, table_refusal}
 use Rattle.lookup.specs.Read.{info_at, info_list}
@@ -47,8 +46,8 @@ start_at m b c = min c (length_at m b)
 abbrev pub walk_at : Mem → ℕ → ℕ → Walk
 walk_at m b c = walk (slot_in m b) (start_at m b c) (min till.scan_slots (length_at m b - start_at m b c)) till.scan_entries
 
-abbrev pub next_at : ℕ → ℕ → NextCursor
-next_at stop long = pick (ltb stop long) (At stop) End
+abbrev pub next_at : ℕ → ℕ → Option ℕ
+next_at stop long = pick (ltb stop long) (Some stop) None
 
 -- "8 entries, a length and an optional next cursor", and "the slot where the scan stopped minus where it started"
 abbrev pub page_of : Mem → ℕ → ℕ → Walk → ℕ → SnapshotPage
@@ -74,13 +73,13 @@ ended_of es len start stop long = record { entries = es; len = len; next = next_
 
 -- ---- the answer's words
 
-abbrev pub has_next : NextCursor → ℕ
-has_next (At k) = 1
-has_next End = 0
+abbrev pub has_next : Option ℕ → ℕ
+has_next (Some k) = 1
+has_next None = 0
 
-abbrev pub next_word : NextCursor → ℕ
-next_word (At k) = k
-next_word End = 0
+abbrev pub next_word : Option ℕ → ℕ
+next_word (Some k) = k
+next_word None = 0
 
 -- "for each entry: value, koid, kind, rights, flags"
 abbrev pub entry_words : SnapshotEntry → List ℕ

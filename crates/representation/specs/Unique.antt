@@ -1,4 +1,5 @@
 -- The representation is a function: a memory represents at most one well-formed state. Assumes nothing.
+use Rattle.std.specs.Prelude.{Some}
 use Rattle.std.specs.Prelude.{◌≡◌, refl, Bool, true, false, List, [], ◌∷◌, ℕ, suc, ◌≤◌, ◌<◌, length, ltb}
 use Rattle.std.proofs.Common.{sym, ap, ◌∙◌, arith, ltb-true, ltb-false}
 use Rattle.std.proofs.Math.Path.{fun_ext}
@@ -9,7 +10,6 @@ use Rattle.model.specs.State.{till, Handle, Slot, Page, Lifecycle, Lifecycle.act
 use Rattle.model.proofs.Counting.{bit_same, bit_other}
 use Rattle.model.specs.WellFormed.{Rising, pages_with, plans_with, WellFormed}
 use Rattle.layout.specs.declared.Shape.{Shape}
-use Rattle.layout.specs.declared.ShapeRead.TheVariants.{Shape as found}
 use Rattle.layout.specs.Layout.{Mem, head, item, index, load}
 use Rattle.layout.specs.ShapeOf.{shape_is}
 use Rattle.layout.specs.Fields.{head_lifecycle, head_cursor, head_first_free, head_first_empty, head_first_detached, item_slot, item_page}
@@ -274,6 +274,6 @@ module _ (sh : Shape) (m : Mem) (s u : State) (i : Represents sh m s) (j : Repre
 -- so words determine their state, and its counts
 pub rep_unique : (ws : List ℕ) (sh sh' : Shape) (s u : State) → Rep ws sh s → Rep ws sh' u → (sh ≡ sh') × (s ≡ u)
 rep_unique ws sh sh' s u r q =
-    let z : found sh ≡ found sh' = sym (shape_is ws sh r.reps.shaped) ∙ shape_is ws sh' q.reps.shaped in
+    let z : Some sh ≡ Some sh' = sym (shape_is ws sh r.reps.shaped) ∙ shape_is ws sh' q.reps.shaped in
     let e : sh' ≡ sh = cc in
     (sym e, represents_unique sh (load ws sh) s u r.reps.memory (rw e at q.reps.memory) r.well_formed q.well_formed)

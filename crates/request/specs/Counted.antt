@@ -1,5 +1,6 @@
 -- Where a field stands and where a record ends, by counting the bits of its map; which of its words are tested.
 -- Assumes nothing.
+use Rattle.std.specs.Prelude.{Option as CodeOption, Some, None}
 use Rattle.std.specs.Prelude.{◌≡◌, refl, Bool, true, false, ◌&&◌, List, [], ◌∷◌, ℕ, zero, suc, ◌+◌, ◌-◌, ◌*◌, ◌/◌, ◌%◌, ◌^◌, ◌≤◌, ◌<◌, min, length, get_or, eqb, ltb, leb}
 use Rattle.std.proofs.Common.{sym, ap₂, subst, ◌∙◌, arith, add-zero, mod-lt, add-one, shr-shr, shl_exact, pow_pos}
 use Rattle.std.proofs.Math.Path.{ap}
@@ -16,9 +17,6 @@ use Rattle.model.specs.Base.{pick}
 use Rattle.model.specs.Words.{Fields, odd, fit_all, may, must}
 use Rattle.format.specs.Fields.{op_field, table_field, object_field, count_field, value_field, rights_field, flags_field, id_field, destination_field, kind_field, koid_field, cursor_field, route_field, offered_rights_field, offered_kind_field, expected_kind_field, forbidden_object_field, forbidden_kind_field, number32, a_koid, a_route}
 use Rattle.request.specs.declared.Three.{Three}
-use Rattle.request.specs.declared.Next.TheVariants.{At, Malformed}
-use Rattle.request.specs.declared.Optional.{Optional}
-use Rattle.request.specs.declared.Optional.TheVariants.{Word, Absent}
 use Rattle.request.specs.Place.{next_of, optional, past, after, here, fields_from, fields_at, has_map, three_at, end_at, kinds_of, fit_one, narrow_fit, walk}
 use Rattle.request.specs.Fields.{past_is, walk_all, find_out}
 
@@ -80,18 +78,18 @@ below_few m bit h = omega (arith, below_is m bit h, ones-le bit (m % 2 ^ bit) (m
 -- One field
 
 module _ (ws : List ℕ) (at map bit : ℕ) where
-  pub field_there : (n : ℕ) (r : Optional) → bit < field_count → n ≡ ones (map % 2 ^ bit) → r ≡ optional (here (odd (map / 2 ^ bit)) ws (at + n)) → r ≡ optional (may (fields_from field_count map ws at) bit)
+  pub field_there : (n : ℕ) (r : CodeOption ℕ) → bit < field_count → n ≡ ones (map % 2 ^ bit) → r ≡ optional (here (odd (map / 2 ^ bit)) ws (at + n)) → r ≡ optional (may (fields_from field_count map ws at) bit)
   field_there n r h e p = p ∙ ap (λ (k : ℕ). optional (here (odd (map / 2 ^ bit)) ws (at + k))) e ∙ ap optional (sym (may_at field_count bit map ws at h))
 
-  pub field_past : field_count ≤ bit → Absent ≡ optional (may (fields_from field_count map ws at) bit)
+  pub field_past : field_count ≤ bit → None ≡ optional (may (fields_from field_count map ws at) bit)
   field_past h = ap optional (sym (may_past field_count bit map ws at h))
 
 module _ (ws : List ℕ) (at bit : ℕ) where
-  pub find_there : (r : Optional) → r ≡ optional (may (fields_from field_count (get_or ws at 0) ws (at + 1)) bit) → r ≡ optional (may (fields_at ws at) bit)
+  pub find_there : (r : CodeOption ℕ) → r ≡ optional (may (fields_from field_count (get_or ws at 0) ws (at + 1)) bit) → r ≡ optional (may (fields_at ws at) bit)
   unfolding fields_at
   find_there r p = p ∙ ap (λ (q : ℕ). optional (may (fields_from field_count (get_or ws at 0) ws q) bit)) (add-one at)
 
-  pub find_none : length ws ≤ at → Absent ≡ optional (may (fields_at ws at) bit)
+  pub find_none : length ws ≤ at → None ≡ optional (may (fields_at ws at) bit)
   find_none h = sym (ap optional (find_out ws at bit h))
 
 -- whether a record has a map
@@ -135,17 +133,17 @@ end_out ws at h = sym (ap (λ (b : Bool). pick b (after field_count (get_or ws a
 
 -- The words that are tested
 
-pub fit_word : (x : Option ℕ) (kind w : ℕ) (r : Optional) (t ok : Bool) → r ≡ optional x → r ≡ Word w → t ≡ field_fits kind w → t ≡ true → ok ≡ (fit_one kind x && ok)
+pub fit_word : (x : Option ℕ) (kind w : ℕ) (r : CodeOption ℕ) (t ok : Bool) → r ≡ optional x → r ≡ Some w → t ≡ field_fits kind w → t ≡ true → ok ≡ (fit_one kind x && ok)
 unfolding fit_one
 fit_word none kind w r t ok p q f e = refl
 fit_word (some v) kind w r t ok p q f e = let z : v ≡ w = cc in sym (ap (λ (b : Bool). b && ok) (ap (field_fits kind) z ∙ sym f ∙ e))
 
-pub unfit_word : (x : Option ℕ) (kind w : ℕ) (r : Optional) (t ok : Bool) → r ≡ optional x → r ≡ Word w → t ≡ field_fits kind w → t ≡ false → false ≡ (fit_one kind x && ok)
+pub unfit_word : (x : Option ℕ) (kind w : ℕ) (r : CodeOption ℕ) (t ok : Bool) → r ≡ optional x → r ≡ Some w → t ≡ field_fits kind w → t ≡ false → false ≡ (fit_one kind x && ok)
 unfolding fit_one
 unfit_word none kind w r t ok p q f e = cc
 unfit_word (some v) kind w r t ok p q f e = let z : v ≡ w = cc in sym (ap (λ (b : Bool). b && ok) (ap (field_fits kind) z ∙ sym f ∙ e))
 
-pub fit_absent : (x : Option ℕ) (kind : ℕ) (r : Optional) (ok : Bool) → r ≡ optional x → r ≡ Absent → ok ≡ (fit_one kind x && ok)
+pub fit_absent : (x : Option ℕ) (kind : ℕ) (r : CodeOption ℕ) (ok : Bool) → r ≡ optional x → r ≡ None → ok ≡ (fit_one kind x && ok)
 unfolding fit_one
 fit_absent none kind r ok p q = refl
 fit_absent (some v) kind r ok p q = cc
@@ -231,12 +229,12 @@ module _ (first m : ℕ) (ws : List ℕ) (p n : ℕ) (h : p ≤ length ws) (e : 
       walk_all first ws m p h
       ∙ ap₂ (λ (k : ℕ) (b : Bool). pick (leb k (length ws) && b) (some k) none) (after_ones field_count m p ∙ ap (λ (k : ℕ). p + k) (sym e)) (fits_are first m ws p)
 
-  pub fields_fit : (t : Bool) → n ≤ length ws - p → t ≡ (fit_one first (may (fields_from field_count m ws p) op_field) && narrow_fit (fields_from field_count m ws p)) → t ≡ true → At (p + n) ≡ next_of (walk (kinds_of first) ws m p)
+  pub fields_fit : (t : Bool) → n ≤ length ws - p → t ≡ (fit_one first (may (fields_from field_count m ws p) op_field) && narrow_fit (fields_from field_count m ws p)) → t ≡ true → Some (p + n) ≡ next_of (walk (kinds_of first) ws m p)
   fields_fit t l f q = sym (ap next_of (walk_is ∙ ap₂ (λ (a b : Bool). pick (a && b) (some (p + n)) none) (le-leb (p + n) (length ws) (omega arith)) (sym f ∙ q)))
 
-  pub fields_unfit : (t : Bool) → n ≤ length ws - p → t ≡ (fit_one first (may (fields_from field_count m ws p) op_field) && narrow_fit (fields_from field_count m ws p)) → t ≡ false → Malformed ≡ next_of (walk (kinds_of first) ws m p)
+  pub fields_unfit : (t : Bool) → n ≤ length ws - p → t ≡ (fit_one first (may (fields_from field_count m ws p) op_field) && narrow_fit (fields_from field_count m ws p)) → t ≡ false → None ≡ next_of (walk (kinds_of first) ws m p)
   fields_unfit t l f q = sym (ap next_of (walk_is ∙ ap₂ (λ (a b : Bool). pick (a && b) (some (p + n)) none) (le-leb (p + n) (length ws) (omega arith)) (sym f ∙ q)))
 
-  pub fields_short : length ws - p < n → Malformed ≡ next_of (walk (kinds_of first) ws m p)
+  pub fields_short : length ws - p < n → None ≡ next_of (walk (kinds_of first) ws m p)
   fields_short l =
       sym (ap next_of (walk_is ∙ ap (λ (a : Bool). pick (a && (fit_one first (may (fields_from field_count m ws p) op_field) && narrow_fit (fields_from field_count m ws p))) (some (p + n)) none) (lt-leb (p + n) (length ws) (omega arith))))

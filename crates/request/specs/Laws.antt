@@ -1,5 +1,6 @@
 -- What a caller that runs the requests of a list one after the other goes by.
 -- Assumes nothing.
+use Rattle.std.specs.Prelude.{Some, None}
 use Rattle.std.specs.Prelude.{◌≡◌, refl, Bool, true, false, List, [], ◌∷◌, ℕ, zero, suc, ◌+◌, ◌-◌, ◌≤◌, ◌<◌, length, get_or, drop, eqb}
 use Rattle.std.proofs.Common.{sym, ap, subst, ◌∙◌, arith, add-one}
 use Rattle.std.proofs.Math.Option.{Option, none, some}
@@ -10,7 +11,6 @@ use Rattle.model.specs.Base.{pick}
 use Rattle.model.specs.Request.{Request}
 use Rattle.model.specs.Words.{and_then, Fields, must, read_list}
 use Rattle.request.specs.declared.Three.{Three}
-use Rattle.request.specs.declared.Listed.TheVariants.{Requests, Malformed as ListMalformed}
 use Rattle.request.specs.Place.{listed, up_to, three_at, end_at, record_end, many_end, places_from, place_of, items_end, op_at, count_at, request_end, next_at, request_of, request_at}
 use Rattle.request.specs.Fields.{Whole, record_whole, first_fits}
 use Rattle.request.specs.Lists.{known_op_law, place_later, request_ends, list_turn, list_end}
@@ -129,11 +129,11 @@ request_whole ws at e p = go (record_end an_op (get_or musts (op_at ws at) 0) (g
 -- Lists
 
 -- what `list_ok` says: number 19 exactly if the list cannot be read, or how many requests it has
-pub list_bad : (x : Option (List Request)) → ListMalformed ≡ listed x → x ≡ none
+pub list_bad : (x : Option (List Request)) → None ≡ listed x → x ≡ none
 list_bad none p = refl
 list_bad (some rs) p = cc
 
-pub list_counted : (x : Option (List Request)) (n : ℕ) → Requests n ≡ listed x → (rs : List Request) × (x ≡ some rs) × (length rs ≡ n)
+pub list_counted : (x : Option (List Request)) (n : ℕ) → Some n ≡ listed x → (rs : List Request) × (x ≡ some rs) × (length rs ≡ n)
 list_counted none n p = let z : ◌≡◌ {A = ℕ} 0 1 = cc in absurd (omega arith)
 list_counted (some rs) n p = (rs, refl, cc)
 

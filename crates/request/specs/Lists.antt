@@ -1,5 +1,6 @@
 -- Requests, items and lists in place are those that the model reads.
 -- Assumes nothing.
+use Rattle.std.specs.Prelude.{Some, None}
 use Rattle.std.specs.Prelude.{◌≡◌, Bool, true, false, ◌&&◌, length, drop, eqb, leb}
 use Rattle.std.proofs.Math.Path.{refl, ap}
 use Rattle.std.proofs.Common.{sym, subst, ◌∙◌, add-zero, add-suc, suc-add, zero-add, arith, length-drop, length-append, drop_of_length-le, drop-cons, leb-true}
@@ -15,8 +16,6 @@ use Rattle.model.proofs.Lists.{Front, request_in_front, reading_ends}
 use Rattle.model.proofs.Tests.{◌&◌, nth_some}
 use Rattle.format.specs.Fields.{op_field, table_field, id_field, route_field, forbidden_object_field, forbidden_kind_field, an_op, an_operation, zero_word}
 use Rattle.format.specs.Ops.{op_publish, op_prepare_transfer, op_last}
-use Rattle.request.specs.declared.Next.TheVariants.{At}
-use Rattle.request.specs.declared.Listed.TheVariants.{Requests, Malformed as ListMalformed}
 use Rattle.request.specs.Place.{next_of, placed, up_to, counted, listed, fields_at, end_at, record_end, many_end, places_from, place_of, item_of, item_at, parcel_at, op_at, count_at, item_places, items_end, request_end, request_of, request_at}
 use Rattle.request.specs.Fields.{record_read, record_whole, first_fits}
 
@@ -206,7 +205,7 @@ request_placed ws at = go (request_end ws at) refl ∙ sym (ap (placed ws) (requ
   where
     go : (x : Option ℕ) → request_end ws at ≡ x → next_of x ≡ placed ws (up_to ws x (request_at ws at))
     go none p = refl
-    go (some e) p = ap At (omega (arith, length-drop e ws, (request_ends ws at e p).1))
+    go (some e) p = ap Some (omega (arith, length-drop e ws, (request_ends ws at e p).1))
 
 -- Lists
 
@@ -245,14 +244,14 @@ count_turn ws n at e h p =
   where
     go : (x : Option (List Request)) → counted n (and_then x λ rs. some (request_at ws at ∷ rs)) ≡ counted (n + 1) x
     go none = refl
-    go (some rs) = ap Requests (omega arith)
+    go (some rs) = ap Some (omega arith)
 
-pub count_bad : (ws : List ℕ) (n at : ℕ) → at < length ws → request_end ws at ≡ none → counted n (read_list (drop at ws)) ≡ ListMalformed
+pub count_bad : (ws : List ℕ) (n at : ℕ) → at < length ws → request_end ws at ≡ none → counted n (read_list (drop at ws)) ≡ None
 count_bad ws n at h p = ap (counted n) (list_turn ws at h ∙ ap (λ (x : Option ℕ). turned (up_to ws x (request_at ws at))) p)
 
-pub count_end : (ws : List ℕ) (n at : ℕ) → length ws ≤ at → counted n (read_list (drop at ws)) ≡ Requests n
-count_end ws n at h = ap (counted n) (list_end ws at h) ∙ ap Requests (add-zero n)
+pub count_end : (ws : List ℕ) (n at : ℕ) → length ws ≤ at → counted n (read_list (drop at ws)) ≡ Some n
+count_end ws n at h = ap (counted n) (list_end ws at h) ∙ ap Some (add-zero n)
 
 pub count_all : (x : Option (List Request)) → listed x ≡ counted 0 x
 count_all none = refl
-count_all (some rs) = ap Requests (sym (zero-add (length rs)))
+count_all (some rs) = ap Some (sym (zero-add (length rs)))

@@ -1,5 +1,6 @@
 -- A list of requests read in place: where the records, the fields and the items of a list of words stand. Document 01, "The request list".
 -- Assumes nothing.
+use Rattle.std.specs.Prelude.{Option as CodeOption, Some, None}
 use Rattle.std.specs.Prelude.{Bool, true, false, ◌&&◌, List, [], ◌∷◌, map, ℕ, zero, suc, ◌+◌, ◌-◌, ◌/◌, length, get_or, drop, eqb, ltb}
 use Rattle.std.proofs.Math.Option.{Option, none, some}
 use Rattle.authority.specs.Rights.{contains}
@@ -10,24 +11,18 @@ use Rattle.model.specs.Words.{Reading, and_then, Fields, odd, may, must, operati
 use Rattle.format.specs.Fields.{op_field, table_field, count_field, value_field, rights_field, flags_field, id_field, kind_field, koid_field, route_field, offered_rights_field, offered_kind_field, expected_kind_field, forbidden_object_field, forbidden_kind_field, number32, a_koid, a_route, an_operation, zero_word}
 use Rattle.format.specs.Ops.{op_publish, op_prepare_transfer}
 use Rattle.request.specs.declared.Three.{Three}
-use Rattle.request.specs.declared.Next.{Next}
-use Rattle.request.specs.declared.Next.TheVariants.{At, Malformed}
-use Rattle.request.specs.declared.Listed.{Listed}
-use Rattle.request.specs.declared.Listed.TheVariants.{Requests, Malformed as ListMalformed}
-use Rattle.request.specs.declared.Optional.{Optional}
-use Rattle.request.specs.declared.Optional.TheVariants.{Word, Absent}
 
 -- What the code answers
 
 -- the place after what was read, or that it is malformed
-abbrev pub next_of : Option ℕ → Next
-next_of none = Malformed
-next_of (some e) = At e
+abbrev pub next_of : Option ℕ → CodeOption ℕ
+next_of none = None
+next_of (some e) = Some e
 
 -- the same of a reading of the model: where the words that are left begin
-abbrev pub placed : {A : Type 0} → List ℕ → Option (A × List ℕ) → Next
-placed ws none = Malformed
-placed ws (some r) = At (length ws - length r.1)
+abbrev pub placed : {A : Type 0} → List ℕ → Option (A × List ℕ) → CodeOption ℕ
+placed ws none = None
+placed ws (some r) = Some (length ws - length r.1)
 
 -- what was read up to a place of the list, with the words that are left
 abbrev pub up_to : {A : Type 0} → List ℕ → Option ℕ → A → Reading A
@@ -35,19 +30,19 @@ up_to ws none a = none
 up_to ws (some e) a = some (a, drop e ws)
 
 -- how many requests were read after n others
-abbrev pub counted : ℕ → Option (List Request) → Listed
-counted n none = ListMalformed
-counted n (some rs) = Requests (n + length rs)
+abbrev pub counted : ℕ → Option (List Request) → CodeOption ℕ
+counted n none = None
+counted n (some rs) = Some (n + length rs)
 
 -- the answer for a list: number 19, or how many requests
-abbrev pub listed : Option (List Request) → Listed
-listed none = ListMalformed
-listed (some rs) = Requests (length rs)
+abbrev pub listed : Option (List Request) → CodeOption ℕ
+listed none = None
+listed (some rs) = Some (length rs)
 
 -- a field that may stand
-abbrev pub optional : Option ℕ → Optional
-optional none = Absent
-optional (some w) = Word w
+abbrev pub optional : Option ℕ → CodeOption ℕ
+optional none = None
+optional (some w) = Some w
 
 -- One record
 

@@ -1,5 +1,6 @@
 -- What each step of the code shows, over plain values.
 -- Assumes nothing.
+use Rattle.std.specs.Prelude.{Option as CodeOption, Some, None}
 use Rattle.std.specs.Prelude.{◌≡◌, Bool, true, false, ◌&&◌, List, length, get_or, drop, ltb}
 use Rattle.std.proofs.Math.Path.{refl, sym, ap}
 use Rattle.std.proofs.Common.{◌∙◌, add-one}
@@ -13,54 +14,49 @@ use Rattle.format.specs.Ops.{op_publish, op_prepare_transfer}
 use Rattle.format.specs.Fields.{an_op, an_operation, zero_word}
 use Rattle.model.specs.Base.{or_else, is_some}
 use Rattle.model.specs.Words.{and_then, may, must, read_request, read_list}
-use Rattle.request.specs.declared.Next.{Next}
-use Rattle.request.specs.declared.Next.TheVariants.{At, Malformed}
-use Rattle.request.specs.declared.Listed.TheVariants.{Requests, Malformed as ListMalformed}
-use Rattle.request.specs.declared.Optional.{Optional}
-use Rattle.request.specs.declared.Optional.TheVariants.{Word, Absent}
 use Rattle.request.specs.Place.{next_of, placed, counted, listed, op_at, count_at, place_of, next_at, items_end, request_end, optional, here, fields_from, fields_at, end_at, kinds_of, walk, good_map, record_end, many_end}
 use Rattle.request.specs.Counted.{end_out}
 use Rattle.request.specs.Lists.{place_later, request_placed, request_ends, count_turn, count_bad, count_end, count_all}
 
 -- an answer that was taken apart
-pub at_is : (r : Next) (x : Option ℕ) (e : ℕ) → r ≡ next_of x → r ≡ At e → x ≡ some e
+pub at_is : (r : CodeOption ℕ) (x : Option ℕ) (e : ℕ) → r ≡ next_of x → r ≡ Some e → x ≡ some e
 at_is r none e p q = cc
 at_is r (some f) e p q = let z : f ≡ e = cc in ap some z
 
-pub bad_is : (r : Next) (x : Option ℕ) → r ≡ next_of x → r ≡ Malformed → x ≡ none
+pub bad_is : (r : CodeOption ℕ) (x : Option ℕ) → r ≡ next_of x → r ≡ None → x ≡ none
 bad_is r none p q = refl
 bad_is r (some f) p q = cc
 
 -- One field, found
 
-pub word_there : (b : Bool) (ws : List ℕ) (p w : ℕ) → b ≡ true → w ≡ get_or ws p 0 → Word w ≡ optional (here b ws p)
-word_there true ws p w e q = ap Word q
+pub word_there : (b : Bool) (ws : List ℕ) (p w : ℕ) → b ≡ true → w ≡ get_or ws p 0 → Some w ≡ optional (here b ws p)
+word_there true ws p w e q = ap Some q
 word_there false ws p w e q = cc
 
-pub word_absent : (b : Bool) (ws : List ℕ) (p : ℕ) → b ≡ false → Absent ≡ optional (here b ws p)
+pub word_absent : (b : Bool) (ws : List ℕ) (p : ℕ) → b ≡ false → None ≡ optional (here b ws p)
 word_absent true ws p e = cc
 word_absent false ws p e = refl
 
-found : (x : Option ℕ) (r : Optional) (w : ℕ) → r ≡ optional x → r ≡ Word w → (true ≡ is_some x) × (w ≡ or_else x 0)
+found : (x : Option ℕ) (r : CodeOption ℕ) (w : ℕ) → r ≡ optional x → r ≡ Some w → (true ≡ is_some x) × (w ≡ or_else x 0)
 found none r w p q = (cc, cc)
 found (some v) r w p q = (refl, cc)
 
-not_found : (x : Option ℕ) (r : Optional) → r ≡ optional x → r ≡ Absent → (false ≡ is_some x) × (0 ≡ or_else x 0)
+not_found : (x : Option ℕ) (r : CodeOption ℕ) → r ≡ optional x → r ≡ None → (false ≡ is_some x) × (0 ≡ or_else x 0)
 not_found none r p q = (refl, refl)
 not_found (some v) r p q = (cc, cc)
 
 module _ (ws : List ℕ) (at bit : ℕ) where
-  pub field_found : (r : Optional) (w : ℕ) → r ≡ optional (may (fields_at ws at) bit) → r ≡ Word w → (true ≡ is_some (may (fields_at ws at) bit)) × (w ≡ must (fields_at ws at) bit)
+  pub field_found : (r : CodeOption ℕ) (w : ℕ) → r ≡ optional (may (fields_at ws at) bit) → r ≡ Some w → (true ≡ is_some (may (fields_at ws at) bit)) × (w ≡ must (fields_at ws at) bit)
   field_found r w p q = found (may (fields_at ws at) bit) r w p q
 
-  pub field_not_found : (r : Optional) → r ≡ optional (may (fields_at ws at) bit) → r ≡ Absent → (false ≡ is_some (may (fields_at ws at) bit)) × (0 ≡ must (fields_at ws at) bit)
+  pub field_not_found : (r : CodeOption ℕ) → r ≡ optional (may (fields_at ws at) bit) → r ≡ None → (false ≡ is_some (may (fields_at ws at) bit)) × (0 ≡ must (fields_at ws at) bit)
   field_not_found r p q = not_found (may (fields_at ws at) bit) r p q
 
 module _ (ws : List ℕ) (at map bit : ℕ) where
-  pub known_found : (r : Optional) (w : ℕ) → r ≡ optional (may (fields_from field_count map ws at) bit) → r ≡ Word w → w ≡ must (fields_from field_count map ws at) bit
+  pub known_found : (r : CodeOption ℕ) (w : ℕ) → r ≡ optional (may (fields_from field_count map ws at) bit) → r ≡ Some w → w ≡ must (fields_from field_count map ws at) bit
   known_found r w p q = (found (may (fields_from field_count map ws at) bit) r w p q).1
 
-  pub known_not_found : (r : Optional) → r ≡ optional (may (fields_from field_count map ws at) bit) → r ≡ Absent → 0 ≡ must (fields_from field_count map ws at) bit
+  pub known_not_found : (r : CodeOption ℕ) → r ≡ optional (may (fields_from field_count map ws at) bit) → r ≡ None → 0 ≡ must (fields_from field_count map ws at) bit
   known_not_found r p q = (not_found (may (fields_from field_count map ws at) bit) r p q).1
 
 -- The place after records in a row
@@ -115,15 +111,15 @@ both_no true q e = cc
 both_no false q e = refl
 
 module _ (first must allowed : ℕ) (ws : List ℕ) where
-  pub record_in : (at : ℕ) (r : Next) → at < length ws → good_map (get_or ws at 0) must allowed ≡ true → r ≡ next_of (walk (kinds_of first) ws (get_or ws at 0) (at + 1)) → r ≡ next_of (record_end first must allowed ws at)
+  pub record_in : (at : ℕ) (r : CodeOption ℕ) → at < length ws → good_map (get_or ws at 0) must allowed ≡ true → r ≡ next_of (walk (kinds_of first) ws (get_or ws at 0) (at + 1)) → r ≡ next_of (record_end first must allowed ws at)
   unfolding record_end
   record_in at r h g e = rw (lt-ltb at (length ws) h, g) (e ∙ ap (λ (p : ℕ). next_of (walk (kinds_of first) ws (get_or ws at 0) p)) (add-one at))
 
-  pub record_bad : (at : ℕ) → at < length ws → good_map (get_or ws at 0) must allowed ≡ false → Malformed ≡ next_of (record_end first must allowed ws at)
+  pub record_bad : (at : ℕ) → at < length ws → good_map (get_or ws at 0) must allowed ≡ false → None ≡ next_of (record_end first must allowed ws at)
   unfolding record_end
   record_bad at h g = rw (lt-ltb at (length ws) h, g)
 
-  pub record_out : (at : ℕ) → length ws ≤ at → Malformed ≡ next_of (record_end first must allowed ws at)
+  pub record_out : (at : ℕ) → length ws ≤ at → None ≡ next_of (record_end first must allowed ws at)
   unfolding record_end
   record_out at h = rw (le-ltb at (length ws) h)
 
@@ -146,11 +142,11 @@ module _ (first must allowed : ℕ) (ws : List ℕ) where
     unfolding Many
     many_turn place left e s h f = s ∙ many_on left place h ∙ ap (λ (x : Option ℕ). and_then x λ e. many_end first must allowed (left - 1) ws e) f
 
-    pub many_bad : (place left : ℕ) → Many place left → 0 < left → record_end first must allowed ws place ≡ none → Malformed ≡ next_of (many_end first must allowed count ws at)
+    pub many_bad : (place left : ℕ) → Many place left → 0 < left → record_end first must allowed ws place ≡ none → None ≡ next_of (many_end first must allowed count ws at)
     unfolding Many
     many_bad place left s h f = sym (ap next_of (s ∙ many_on left place h ∙ ap (λ (x : Option ℕ). and_then x λ e. many_end first must allowed (left - 1) ws e) f))
 
-    pub many_end_law : (place left : ℕ) → Many place left → left ≤ 0 → At place ≡ next_of (many_end first must allowed count ws at)
+    pub many_end_law : (place left : ℕ) → Many place left → left ≤ 0 → Some place ≡ next_of (many_end first must allowed count ws at)
     unfolding Many many_end
     many_end_law place zero s h = sym (ap next_of s)
     many_end_law place (suc left) s h = absurd (omega arith)
@@ -166,15 +162,15 @@ short_is n count = go (ltb (n / answer_words) count) refl
 -- Items, requests and lists
 
 module _ (op n : ℕ) (ws : List ℕ) (e : ℕ) where
-  pub items_parcels : (r : Next) → op ≡ op_publish → r ≡ next_of (many_end zero_word parcel_item_must parcel_item_must n ws e) → r ≡ next_of (items_end op n ws e)
+  pub items_parcels : (r : CodeOption ℕ) → op ≡ op_publish → r ≡ next_of (many_end zero_word parcel_item_must parcel_item_must n ws e) → r ≡ next_of (items_end op n ws e)
   unfolding items_end
   items_parcels r p q = rw (eq-eqb op op_publish p) q
 
-  pub items_transfer : (r : Next) → (op ≡ op_publish → ⊥) → op ≡ op_prepare_transfer → r ≡ next_of (many_end an_operation transfer_item_must (transfer_item_must + transfer_item_may) n ws e) → r ≡ next_of (items_end op n ws e)
+  pub items_transfer : (r : CodeOption ℕ) → (op ≡ op_publish → ⊥) → op ≡ op_prepare_transfer → r ≡ next_of (many_end an_operation transfer_item_must (transfer_item_must + transfer_item_may) n ws e) → r ≡ next_of (items_end op n ws e)
   unfolding items_end
   items_transfer r f p q = rw (ne_eqb op op_publish f, eq-eqb op op_prepare_transfer p) q
 
-  pub items_none : (op ≡ op_publish → ⊥) → (op ≡ op_prepare_transfer → ⊥) → At e ≡ next_of (items_end op n ws e)
+  pub items_none : (op ≡ op_publish → ⊥) → (op ≡ op_prepare_transfer → ⊥) → Some e ≡ next_of (items_end op n ws e)
   unfolding items_end
   items_none f g = rw (ne_eqb op op_publish f, ne_eqb op op_prepare_transfer g)
 
@@ -190,12 +186,12 @@ module _ (ws : List ℕ) (at op m y : ℕ) (o : op ≡ op_at ws at) (p : m ≡ g
       let q' : get_or mays (op_at ws at) 0 ≡ y = sym (q ∙ ap (λ (k : ℕ). get_or mays k 0) o) in
       rw (p', q') e
 
-  pub request_bad : record_end an_op m (m + y) ws at ≡ none → Malformed ≡ placed ws (read_request (drop at ws))
+  pub request_bad : record_end an_op m (m + y) ws at ≡ none → None ≡ placed ws (read_request (drop at ws))
   unfolding request_end
   request_bad e =
       sym (ap (λ (x : Option ℕ). next_of (and_then x λ e. items_end (op_at ws at) (count_at ws at) ws e)) (head_is none e)) ∙ request_placed ws at
 
-  pub request_go : (e n : ℕ) (r : Next) → record_end an_op m (m + y) ws at ≡ some e → n ≡ count_at ws at → r ≡ next_of (items_end op n ws e) → r ≡ placed ws (read_request (drop at ws))
+  pub request_go : (e n : ℕ) (r : CodeOption ℕ) → record_end an_op m (m + y) ws at ≡ some e → n ≡ count_at ws at → r ≡ next_of (items_end op n ws e) → r ≡ placed ws (read_request (drop at ws))
   unfolding request_end
   request_go e n r f c i =
       i ∙ ap (λ (k : ℕ). next_of (items_end k n ws e)) o ∙ ap (λ (k : ℕ). next_of (items_end (op_at ws at) k ws e)) c
@@ -210,20 +206,20 @@ module _ (ws : List ℕ) where
   unfolding Counting
   counting_first = count_all (read_list ws)
 
-  end_is : (place : ℕ) (r : Next) → r ≡ placed ws (read_request (drop place ws)) → r ≡ next_of (request_end ws place)
+  end_is : (place : ℕ) (r : CodeOption ℕ) → r ≡ placed ws (read_request (drop place ws)) → r ≡ next_of (request_end ws place)
   end_is place r p = p ∙ sym (request_placed ws place)
 
-  pub counting_turn : (place n e : ℕ) (r : Next) → Counting place n → place < length ws → r ≡ placed ws (read_request (drop place ws)) → r ≡ At e → Counting e (n + 1)
+  pub counting_turn : (place n e : ℕ) (r : CodeOption ℕ) → Counting place n → place < length ws → r ≡ placed ws (read_request (drop place ws)) → r ≡ Some e → Counting e (n + 1)
   unfolding Counting
   counting_turn place n e r s h p q = s ∙ count_turn ws n place e h (at_is r (request_end ws place) e (end_is place r p) q)
 
-  pub counting_rises : (place e : ℕ) (r : Next) → r ≡ placed ws (read_request (drop place ws)) → r ≡ At e → (place < e) × (e ≤ length ws)
+  pub counting_rises : (place e : ℕ) (r : CodeOption ℕ) → r ≡ placed ws (read_request (drop place ws)) → r ≡ Some e → (place < e) × (e ≤ length ws)
   counting_rises place e r p q = request_ends ws place e (at_is r (request_end ws place) e (end_is place r p) q)
 
-  pub counting_bad : (place n : ℕ) (r : Next) → Counting place n → place < length ws → r ≡ placed ws (read_request (drop place ws)) → r ≡ Malformed → ListMalformed ≡ listed (read_list ws)
+  pub counting_bad : (place n : ℕ) (r : CodeOption ℕ) → Counting place n → place < length ws → r ≡ placed ws (read_request (drop place ws)) → r ≡ None → None ≡ listed (read_list ws)
   unfolding Counting
   counting_bad place n r s h p q = sym (s ∙ count_bad ws n place h (bad_is r (request_end ws place) (end_is place r p) q))
 
-  pub counting_end : (place n : ℕ) → Counting place n → length ws ≤ place → Requests n ≡ listed (read_list ws)
+  pub counting_end : (place n : ℕ) → Counting place n → length ws ≤ place → Some n ≡ listed (read_list ws)
   unfolding Counting
   counting_end place n s h = sym (s ∙ count_end ws n place h)

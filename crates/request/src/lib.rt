@@ -10,27 +10,6 @@ ghost use Rattle.model.specs.Words.{odd, may, must, read_request, read_list};
 ghost use Rattle.request.specs.Place.{next_of, placed, listed, optional, fields_from, fields_at, has_map, three_at, end_at, kinds_of, fit_one, narrow_fit, walk, good_map, record_end, many_end, items_end, here, place_of, next_at};
 ghost use Rattle.request.specs.Answers.{cleared};
 
-// The place after what was read, or that it is malformed.
-#[derive(Clone, Copy)]
-pub enum Next {
-    At(usize),
-    Malformed,
-}
-
-// How many requests a list has, or that it is malformed.
-#[derive(Clone, Copy)]
-pub enum Listed {
-    Requests(u64),
-    Malformed,
-}
-
-// A field that may be absent.
-#[derive(Clone, Copy)]
-pub enum Optional {
-    Word(u64),
-    Absent,
-}
-
 // Three fields of a record, read once.
 #[derive(Clone, Copy)]
 pub struct Three {
@@ -54,13 +33,13 @@ fn covers(held: u64, asked: u64) -> bool
 }
 
 // The word at a place, where the map's lowest bit stands.
-fn word_of(rq: &[u64], map: u64, at: usize) -> Optional
+fn word_of(rq: &[u64], map: u64, at: usize) -> Option<u64>
     ensures { result ≡ optional (here (odd map) rq.now at) }
 {
     if lowest(map) {
-        return Optional::Word(words::word(rq, at));
+        return Some(words::word(rq, at));
     }
-    Optional::Absent
+    None
 }
 
 // How many fields of a map stand below a bit.
@@ -72,44 +51,38 @@ fn below(map: u64, bit: u64) -> usize
 }
 
 // A field by its bit, of the fields of a map that begin at a place.
-fn field_in(rq: &[u64], at: usize, map: u64, bit: u64) -> Optional
+fn field_in(rq: &[u64], at: usize, map: u64, bit: u64) -> Option<u64>
     requires { at ≤ length rq.now }
     ensures { result ≡ optional (may (fields_from field_count map rq.now at) bit) }
 {
     if bit < format::field::FIELDS {
         return word_of(rq, map >> bit, at + below(map, bit));
     }
-    Optional::Absent
+    None
 }
 
 // A field of the record at a place, by its bit.
-pub fn find(rq: &[u64], at: usize, bit: u64) -> Optional
+pub fn find(rq: &[u64], at: usize, bit: u64) -> Option<u64>
     ensures { result ≡ optional (may (fields_at rq.now at) bit) }
 {
     if at < rq.len() {
         return field_in(rq, at + 1, rq[at], bit);
     }
-    Optional::Absent
+    None
 }
 
 // Whether a field stands.
 pub fn has(rq: &[u64], at: usize, bit: u64) -> bool
     ensures { result ≡ is_some (may (fields_at rq.now at) bit) }
 {
-    match find(rq, at, bit) {
-        Optional::Word(_) => true,
-        Optional::Absent => false,
-    }
+    find(rq, at, bit).is_some()
 }
 
 // A field's word; 0 where it does not stand.
 pub fn field(rq: &[u64], at: usize, bit: u64) -> u64
     ensures { result ≡ must (fields_at rq.now at) bit }
 {
-    match find(rq, at, bit) {
-        Optional::Word(w) => w,
-        Optional::Absent => 0,
-    }
+    find(rq, at, bit).unwrap_or(0)
 }
 
 // A field's word by its bit, of the fields of a map that begin at a place; 0 where it does not stand.
@@ -117,10 +90,7 @@ fn field_known(rq: &[u64], at: usize, map: u64, bit: u64) -> u64
     requires { at ≤ length rq.now }
     ensures { result ≡ must (fields_from field_count map rq.now at) bit }
 {
-    match field_in(rq, at, map, bit) {
-        Optional::Word(w) => w,
-        Optional::Absent => 0,
-    }
+    field_in(rq, at, map, bit).unwrap_or(0)
 }
 
 // Whether the record at a place has a map.
@@ -215,8 +185,8 @@ fn fits_too(rq: &[u64], at: usize, map: u64, bit: u64, kind: u64, ok: bool) -> b
     ensures { result ≡ (fit_one kind (may (fields_from field_count map rq.now at) bit) && ok) }
 {
     match field_in(rq, at, map, bit) {
-        Optional::Word(w) => { if format::fits(kind, w) { ok } else { false } }
-        Optional::Absent => ok,
+        Some(w) => format::fits(kind, w) && ok,
+        None => ok,
     }
 }
 
@@ -303,7 +273,7 @@ fn narrow_fit(rq: &[u64], at: usize, map: u64) -> bool
 }
 
 // "list ends inside a record"; "too wide or a koid of 0": the place after a record's fields, which begin at a place.
-fn fields_end(rq: &[u64], at: usize, map: u64, first: u64) -> Next
+fn fields_end(rq: &[u64], at: usize, map: u64, first: u64) -> Option<usize>
     requires { at ≤ length rq.now }
     ensures { result ≡ next_of (walk (kinds_of first) rq.now map at) }
 {
@@ -317,30 +287,22 @@ fn fields_end(rq: &[u64], at: usize, map: u64, first: u64) -> Next
             first,
             narrow_fit(rq, at, map),
         ) {
-            return Next::At(at + count);
+            return Some(at + count);
         }
-        return Next::Malformed;
+        return None;
     }
-    Next::Malformed
+    None
 }
 
 // "Bit 0 .. always stands"; "field missing, extra".
 fn map_ok(map: u64, must: u64, allowed: u64) -> bool
     ensures { result ≡ good_map map must allowed }
 {
-    if lowest(map) {
-        if covers(map, must) {
-            covers(allowed, map)
-        } else {
-            false
-        }
-    } else {
-        false
-    }
+    lowest(map) && covers(map, must) && covers(allowed, map)
 }
 
 // Checks the record at a place, which must carry the fields `must` and no others than `allowed`; `first` is the kind of bit 0's word.
-pub fn record_ok(rq: &[u64], at: usize, first: u64, must: u64, allowed: u64) -> Next
+pub fn record_ok(rq: &[u64], at: usize, first: u64, must: u64, allowed: u64) -> Option<usize>
     ensures { result ≡ next_of (record_end first must allowed rq.now at) }
 {
     if at < rq.len() {
@@ -348,29 +310,34 @@ pub fn record_ok(rq: &[u64], at: usize, first: u64, must: u64, allowed: u64) -> 
         if map_ok(map, must, allowed) {
             return fields_end(rq, at + 1, map, first);
         }
-        return Next::Malformed;
+        return None;
     }
-    Next::Malformed
+    None
 }
 
 // Checks `count` records in a row; it stops where the list ends.
-pub fn records_ok(rq: &[u64], at: usize, count: u64, first: u64, must: u64, allowed: u64) -> Next
+pub fn records_ok(
+    rq: &[u64],
+    at: usize,
+    count: u64,
+    first: u64,
+    must: u64,
+    allowed: u64,
+) -> Option<usize>
     ensures { result ≡ next_of (many_end first must allowed count rq.now at) }
 {
     let mut place = at;
     let mut more = count;
     while 0 < more {
-        let Next::At(next) = record_ok(rq, place, first, must, allowed) else {
-            return Next::Malformed;
-        };
+        let next = record_ok(rq, place, first, must, allowed)?;
         place = next;
         more -= 1;
     }
-    Next::At(place)
+    Some(place)
 }
 
 // "A transfer's items, or a publish's parcels, follow as records of their own, as many as its count field says".
-fn items_ok(rq: &[u64], at: usize, op: u64, count: u64) -> Next
+fn items_ok(rq: &[u64], at: usize, op: u64, count: u64) -> Option<usize>
     ensures { result ≡ next_of (items_end op count rq.now at) }
 {
     if op == format::op::OP_PUBLISH {
@@ -393,37 +360,33 @@ fn items_ok(rq: &[u64], at: usize, op: u64, count: u64) -> Next
             format::maps::TRANSFER_ITEM_MUST + format::maps::TRANSFER_ITEM_MAY,
         );
     }
-    Next::At(at)
+    Some(at)
 }
 
 // Checks the request at a place, with its items, and gives the place after it.
-pub fn request_ok(rq: &[u64], at: usize) -> Next
+pub fn request_ok(rq: &[u64], at: usize) -> Option<usize>
     ensures { result ≡ placed rq.now (read_request (drop at rq.now)) }
 {
     let op = field(rq, at, format::field::FIELD_OP);
     let must = format::must(op);
     let may = format::may(op);
-    let Next::At(end) = record_ok(rq, at, format::field::KIND_OP, must, must + may) else {
-        return Next::Malformed;
-    };
+    let end = record_ok(rq, at, format::field::KIND_OP, must, must + may)?;
     let count = field(rq, at, format::field::FIELD_COUNT);
     items_ok(rq, end, op, count)
 }
 
 // "Order: .. list 19": how many requests a list has. "An empty list is accepted."
-pub fn list_ok(rq: &[u64]) -> Listed
+pub fn list_ok(rq: &[u64]) -> Option<u64>
     ensures { result ≡ listed (read_list rq.now) }
 {
     let mut place: usize = 0;
     let mut count: u64 = 0;
     while place < rq.len() {
-        let Next::At(next) = request_ok(rq, place) else {
-            return Listed::Malformed;
-        };
+        let next = request_ok(rq, place)?;
         place = next;
         count += 1;
     }
-    Listed::Requests(count)
+    Some(count)
 }
 
 // "AnswerShort: fewer than 72 words a request".

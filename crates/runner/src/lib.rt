@@ -15,8 +15,7 @@ ghost use Rattle.contract.specs.Call.{done, requests_w, checked_w, within_w, run
 ghost use Rattle.serve.specs.Serve.{one_r};
 
 use format::field;
-use layout::{Shape, ShapeRead};
-use request::Listed;
+use layout::Shape;
 
 // The request at a place, whose answer's 72 words begin at a base.
 fn run_one(s: &mut [u64], sh: Shape, rq: &[u64], at: usize, out: &mut [u64], base: usize)
@@ -59,8 +58,8 @@ fn run_list(s: &mut [u64], sh: Shape, rq: &[u64], out: &mut [u64]) -> u64
     ensures { called result s.new out.new ≡ requests_w one_r well_b s.old out.old sh rq.now (read_list rq.now) }
 {
     match request::list_ok(rq) {
-        Listed::Malformed => format::refusal::MALFORMED,
-        Listed::Requests(n) => answer_all(s, sh, rq, n, out),
+        None => format::refusal::MALFORMED,
+        Some(n) => answer_all(s, sh, rq, n, out),
     }
 }
 
@@ -90,7 +89,7 @@ pub fn gurtxozal_run(state: &mut [u64], list: &[u64], answers: &mut [u64]) -> u6
 {
     wellformed::are_words(state);
     match layout::shape_of(state) {
-        ShapeRead::Bad => format::refusal::MISUSE,
-        ShapeRead::Shape(sh) => run_within(state, sh, list, answers),
+        None => format::refusal::MISUSE,
+        Some(sh) => run_within(state, sh, list, answers),
     }
 }

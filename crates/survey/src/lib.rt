@@ -166,7 +166,7 @@ fn walk_table(s: &mut [u64], sh: Shape, used: u64, b: u64) -> bool
     let size = layout::head_word(s, sh, b, field::HEAD_PAGES);
     let e = layout::head_word(s, sh, b, field::HEAD_FIRST_ENTRY);
     let bound = structure::bound_of(used, life);
-    let n = words::smaller(size, sh.pages as u64);
+    let n = size.min(sh.pages as u64);
     let mut ok = true;
     let mut p: u32 = 0;
     while (p as u64) < n {
@@ -186,11 +186,9 @@ pub fn walk_slots(s: &mut [u64], sh: Shape, used: u64) -> bool
 {
     let n = sh.tables as u64;
     let mut ok = true;
-    let mut b: u64 = 0;
-    while b < n {
+    for b in 0..n {
         let table = walk_table(s, sh, used, b);
         ok = counts::both(ok, table);
-        b += 1;
     }
     ok
 }

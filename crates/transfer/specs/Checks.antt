@@ -1,5 +1,6 @@
 -- What the functions that check a transfer answer, over the words. They stand line by line beside `item_checks` of the model, which has the
 -- printed order. Assumes nothing.
+use Rattle.std.specs.Prelude.{Option as CodeOption, Some, None}
 use Rattle.std.specs.Prelude.{◌≡◌, Bool, true, false, not, ◌&&◌, List, [], ◌∷◌, map, ℕ, zero, suc, eqb, ltb}
 use Rattle.std.proofs.Math.Option.{Option, none, some}
 use Rattle.words.specs.Pick.{pick}
@@ -14,8 +15,6 @@ use Rattle.layout.specs.Layout.{Mem, object}
 use Rattle.layout.specs.Fields.{object_koid, object_kind, object_class}
 use Rattle.layout.specs.Values.{class_leaf, class_rendezvous_only, route_buffered}
 use Rattle.layout.specs.Sizes.{batch_max}
-use Rattle.request.specs.declared.Optional.{Optional}
-use Rattle.request.specs.declared.Optional.TheVariants.{Word, Absent}
 use Rattle.request.specs.Place.{fields_at, places_from, place_of, item_at}
 use Rattle.object.specs.declared.ObjectRecord.{ObjectRecord}
 use Rattle.object.specs.Words.{record_at}
@@ -29,9 +28,9 @@ use Rattle.transfer.specs.declared.TransferRules.{TransferRules}
 
 -- ---- what is read
 
-abbrev pub as_option : Optional → Option ℕ
-as_option (Word w) = some w
-as_option Absent = none
+abbrev pub as_option : CodeOption ℕ → Option ℕ
+as_option (Some w) = some w
+as_option None = none
 
 -- the model's item
 unfoldable pub item_by : HandleTransferRequest → Item

@@ -1,4 +1,5 @@
 -- What the code of prepare transfer says, in the terms of the definitions. Assumes nothing.
+use Rattle.std.specs.Prelude.{Option as CodeOption, Some}
 use Rattle.std.specs.Prelude.{◌≡◌, Bool, true, not, List, [], ◌∷◌, ◌++◌, map, length, ltb}
 use Rattle.std.proofs.Math.Path.{refl, sym, ap}
 use Rattle.std.proofs.Common.{◌∙◌, ne_eqb, eqb-true}
@@ -20,8 +21,6 @@ use Rattle.layout.specs.Layout.{Mem, root, object, load}
 use Rattle.layout.specs.Fields.{root_next_id, object_koid, object_kind, object_class}
 use Rattle.layout.specs.Values.{class_leaf, class_rendezvous_only}
 use Rattle.layout.specs.Sizes.{batch_max}
-use Rattle.request.specs.declared.Optional.{Optional}
-use Rattle.request.specs.declared.Optional.TheVariants.{Word}
 use Rattle.request.specs.Place.{optional, fields_at, end_at, places_from, place_of, item_at}
 use Rattle.request.specs.Lists.{place_later}
 use Rattle.request.specs.Laws.{places_turn, places_end, places_length, place_next}
@@ -44,7 +43,7 @@ as_found : (o : Option ℕ) → as_option (optional o) ≡ o
 as_found none = refl
 as_found (some w) = refl
 
-found_is : (x : Optional) (o : Option ℕ) → x ≡ optional o → as_option x ≡ o
+found_is : (x : CodeOption ℕ) (o : Option ℕ) → x ≡ optional o → as_option x ≡ o
 found_is x o e = ap as_option e ∙ as_found o
 
 -- `read_rules`
@@ -157,11 +156,11 @@ module _ (held : ℕ) (op : Operation) (t : Bool) (e : t ≡ is_copy op) where
   denied_move y = let z : is_copy op ≡ false = sym e ∙ y in rw z
 
 -- `rights_offered`, `banned`, `differs`
-module _ (o : Optional) where
-  pub banned_word : (w x : ℕ) (r : Bool) → o ≡ Word w → r ≡ eqb w x → r ≡ bans (as_option o) x
+module _ (o : CodeOption ℕ) where
+  pub banned_word : (w x : ℕ) (r : Bool) → o ≡ Some w → r ≡ eqb w x → r ≡ bans (as_option o) x
   banned_word w x r e a = rw e a
 
-  pub differs_word : (w x : ℕ) (r : Bool) → o ≡ Word w → r ≡ not (eqb w x) → r ≡ not (agrees (as_option o) x)
+  pub differs_word : (w x : ℕ) (r : Bool) → o ≡ Some w → r ≡ not (eqb w x) → r ≡ not (agrees (as_option o) x)
   differs_word w x r e a = rw e a
 
 -- `route_bars`

@@ -1,4 +1,5 @@
 -- What the functions' bodies go by: the parts that write nothing are tried in turn, then the slots and the counts. Assumes nothing.
+use Rattle.std.specs.Prelude.{Option, Some, None}
 use Rattle.std.specs.Prelude.{◌≡◌, refl, Bool, false, ◌&&◌, ℕ, ◌-◌, ◌≤◌, ◌<◌, length, eqb, ltb}
 use Rattle.std.proofs.Math.Path.{sym, ap}
 use Rattle.std.proofs.Common.{◌∙◌}
@@ -18,8 +19,6 @@ use Rattle.structure.specs.Split.{slots_in, structure_split}
 use Rattle.orders.specs.Check.{orders_b}
 use Rattle.ledger.specs.Plans.{held_frames}
 use Rattle.ledger.specs.Ledger.{marks_b, book_b, ledger_b, ledger_split}
-use Rattle.counts.specs.declared.ObjectsRead.{ObjectsRead}
-use Rattle.counts.specs.declared.ObjectsRead.TheVariants.{Bad, Used}
 use Rattle.counts.specs.Found.{gather, in_table, in_book, found, handles, counts_b, book_same}
 use Rattle.counts.specs.Shift.{unit, shifted, shifted_off}
 use Rattle.counts.specs.Objects.{objects_b}
@@ -67,22 +66,22 @@ module _ (m : Mem) (sh : Shape) (h : ℕ) (eh : h ≡ counted (book_b m sh) (hel
       quiet_last yb = rest (objects_b m sh) (and_next (outline_b m sh (held_frames m)) (orders_b m sh && objects_b m sh) a (objects_b m sh) outline ya
           (and_next (orders_b m sh) (objects_b m sh) b (objects_b m sh) eb yb refl))
 
-      pub quiet_all : (r : ObjectsRead) → b ≡ true → r ≡ objects_read m sh → r ≡ read_if (quiet_b m sh) (used_to m sh.objects)
+      pub quiet_all : (r : Option ℕ) → b ≡ true → r ≡ objects_read m sh → r ≡ read_if (quiet_b m sh) (used_to m sh.objects)
       unfolding objects_read
       quiet_all r yb q = q ∙ ap (λ (x : Bool). read_if x (used_to m sh.objects)) (quiet_last yb)
 
 -- a part that fails
-pub read_no : (b : Bool) (n : ℕ) → false ≡ b → Bad ≡ read_if b n
+pub read_no : (b : Bool) (n : ℕ) → false ≡ b → None ≡ read_if b n
 read_no b n e = ap (λ (x : Bool). read_if x n) e
 
 -- what an answer tells
-read_bad : (b : Bool) (n : ℕ) → read_if b n ≡ Bad → b ≡ false
+read_bad : (b : Bool) (n : ℕ) → read_if b n ≡ None → b ≡ false
 read_bad true n e = let y : ◌≡◌ {A = ℕ} 0 1 = cc in absurd (omega arith)
 read_bad false n e = refl
 
-pub read_used : (b : Bool) (n k : ℕ) (x : ObjectsRead) → x ≡ read_if b n → x ≡ Used k → (b ≡ true) × (k ≡ n)
-read_used true n k x p q = let e : Used n ≡ Used k = sym p ∙ q in (refl, cc)
-read_used false n k x p q = let e : Bad ≡ Used k = sym p ∙ q in let y : ◌≡◌ {A = ℕ} 0 1 = cc in absurd (omega arith)
+pub read_used : (b : Bool) (n k : ℕ) (x : Option ℕ) → x ≡ read_if b n → x ≡ Some k → (b ≡ true) × (k ≡ n)
+read_used true n k x p q = let e : Some n ≡ Some k = sym p ∙ q in (refl, cc)
+read_used false n k x p q = let e : None ≡ Some k = sym p ∙ q in let y : ◌≡◌ {A = ℕ} 0 1 = cc in absurd (omega arith)
 
 -- the parts are these, the slots and the marks
 parts_order : (a s o b k j : Bool) → ((a && s) && (o && ((b && k) && j))) ≡ ((b && (a && (o && j))) && (s && k))
@@ -123,7 +122,7 @@ module _ (ws : List ℕ) (sh : Shape) where
   unfolding well_b
   too_short n t a b h = sym (ap (λ (x : Bool). parts_b (load ws sh) sh && x) (short_counts (omega arith)) ∙ and-false (parts_b (load ws sh) sh))
 
-  pub no_parts : (x : ObjectsRead) → x ≡ read_if (quiet_b (load ws sh) sh) (used_to (load ws sh) sh.objects) → x ≡ Bad → false ≡ well_b ws sh
+  pub no_parts : (x : Option ℕ) → x ≡ read_if (quiet_b (load ws sh) sh) (used_to (load ws sh) sh.objects) → x ≡ None → false ≡ well_b ws sh
   unfolding well_b
   no_parts x e d = rw (parts_split (load ws sh) sh, read_bad (quiet_b (load ws sh) sh) (used_to (load ws sh) sh.objects) (sym e ∙ d))
 

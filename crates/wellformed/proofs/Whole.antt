@@ -1,4 +1,5 @@
 -- THE STATE CHECK, WHOLE: it answers exactly whether the words represent a well-formed state. Assumes nothing.
+use Rattle.std.specs.Prelude.{Option, Some, None}
 use Rattle.std.specs.Prelude.{◌≡◌, refl, true, false, ◌&&◌, List, ℕ}
 use Rattle.std.proofs.Math.Path.{sym}
 use Rattle.std.proofs.Common.{ap, subst, ◌∙◌, arith}
@@ -7,8 +8,6 @@ use Rattle.words.specs.Words.{Small}
 use Rattle.model.specs.State.{till, State}
 use Rattle.model.specs.WellFormed.{WellFormed}
 use Rattle.layout.specs.declared.Shape.{Shape}
-use Rattle.layout.specs.declared.ShapeRead.{ShapeRead}
-use Rattle.layout.specs.declared.ShapeRead.TheVariants.{Shape as found, Bad}
 use Rattle.layout.specs.Layout.{load}
 use Rattle.layout.specs.ShapeOf.{Shaped, shape_of, shape_found, shape_is, on_shape}
 use Rattle.representation.specs.Represents.{Represents, Rep}
@@ -80,23 +79,23 @@ module _ (ws : List ℕ) (sh : Shape) where
   shown small s r = (rep_unique ws sh sh s (view_of sh (load ws sh)) r (sound r.reps.shaped small (complete s r))).1
 
   -- the shape of words that represent a state is the one that their header gives ..
-  pub shape_given : (s : State) → Rep ws sh s → shape_of ws ≡ found sh
+  pub shape_given : (s : State) → Rep ws sh s → shape_of ws ≡ Some sh
   shape_given s r = shape_is ws sh r.reps.shaped
 
 -- .. so that words without one represent none
-pub shapeless : (ws : List ℕ) → shape_of ws ≡ Bad → (sh : Shape) (s : State) → Rep ws sh s → ⊥
-shapeless ws e sh s r = let z : Bad ≡ found sh = sym e ∙ shape_given ws sh s r in let y : ◌≡◌ {A = ℕ} 0 1 = cc in absurd (omega arith)
+pub shapeless : (ws : List ℕ) → shape_of ws ≡ None → (sh : Shape) (s : State) → Rep ws sh s → ⊥
+shapeless ws e sh s r = let z : None ≡ Some sh = sym e ∙ shape_given ws sh s r in let y : ◌≡◌ {A = ℕ} 0 1 = cc in absurd (omega arith)
 
 -- ---- with the shape that the header gives
 
 -- THE CHECK IS EXACT: yes is right ..
-pub check_sound : (ws : List ℕ) → Small ws → check_b ws ≡ true → (sh : Shape) × (shape_of ws ≡ found sh) × Rep ws sh (view_of sh (load ws sh))
+pub check_sound : (ws : List ℕ) → Small ws → check_b ws ≡ true → (sh : Shape) × (shape_of ws ≡ Some sh) × Rep ws sh (view_of sh (load ws sh))
 unfolding check_b
 check_sound ws small e = go (shape_of ws) refl e
   where
-    go : (x : ShapeRead) → shape_of ws ≡ x → on_shape x false (well_b ws) ≡ true → (sh : Shape) × (shape_of ws ≡ found sh) × Rep ws sh (view_of sh (load ws sh))
-    go (found sh) q d = (sh, q, sound ws sh (shape_found ws sh q) small d)
-    go Bad q d = clash d refl
+    go : (x : Option Shape) → shape_of ws ≡ x → on_shape x false (well_b ws) ≡ true → (sh : Shape) × (shape_of ws ≡ Some sh) × Rep ws sh (view_of sh (load ws sh))
+    go (Some sh) q d = (sh, q, sound ws sh (shape_found ws sh q) small d)
+    go None q d = clash d refl
 
 -- .. and so is no
 pub check_complete : (ws : List ℕ) (sh : Shape) (s : State) → Rep ws sh s → check_b ws ≡ true

@@ -8,7 +8,6 @@ ghost use Rattle.counts.specs.Used.{read_if, used_to};
 ghost use Rattle.wellformed.specs.Whole.{well_b};
 ghost use Rattle.wellformed.specs.Code.{quiet_b};
 
-use counts::ObjectsRead;
 use layout::Shape;
 
 // Does nothing: its contract says that lent words are below 2^64, which `sound` asks for.
@@ -19,19 +18,19 @@ pub fn are_words(s: &[u64])
 }
 
 // The parts that write nothing: whether they pass, and how many objects may have handles.
-fn check_parts(s: &[u64], sh: Shape) -> ObjectsRead
+fn check_parts(s: &[u64], sh: Shape) -> Option<u64>
     requires { total sh ≤ length s.now }
     ensures { result ≡ read_if (quiet_b (loadAt s.now sh) sh) (used_to (loadAt s.now sh) sh.objects) }
 {
     let book = ledger::check_book(s, sh);
     if book == 0 {
-        return ObjectsRead::Bad;
+        return None;
     }
     if !structure::check_outline(s, sh, book - 1) {
-        return ObjectsRead::Bad;
+        return None;
     }
     if !orders::check_orders(s, sh) {
-        return ObjectsRead::Bad;
+        return None;
     }
     counts::check_objects(s, sh)
 }
@@ -61,7 +60,7 @@ pub fn check(s: &mut [u64], sh: Shape) -> bool
         return false;
     }
     match check_parts(s, sh) {
-        ObjectsRead::Bad => false,
-        ObjectsRead::Used(used) => check_handles(s, sh, used),
+        None => false,
+        Some(used) => check_handles(s, sh, used),
     }
 }

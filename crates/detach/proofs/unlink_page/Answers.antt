@@ -7,10 +7,10 @@ use mathlib.Core.Path.{◌≡◌, refl}
 use Rattle.detach.proofs.unlink_page.Goals as goal
 
 pub overflow_mul-first : goal.overflow_mul-first
-overflow_mul-first c = omega (arith, c.smaller-first.ensures)
+overflow_mul-first c = omega (arith, c.min-first.ensures)
 
 pub loop-j-init : goal.loop-j-init
-loop-j-init c = (search rules, refl, leaving_none c.args.s.now c.args.sh c.args.b c.args.p _ _ _ c.load-h.ensures c.smaller-first.ensures c.frame_link-fr.ensures)
+loop-j-init c = (search rules, refl, leaving_none c.args.s.now c.args.sh c.args.b c.args.p _ _ _ c.load-h.ensures c.min-first.ensures c.frame_link-fr.ensures)
 
 pub loop-j-preserved : goal.loop-j-preserved
 loop-j-preserved c = (search rules, search rules, leaving_more c.args.s.now _ _ c.args.sh c.args.b c.args.p _ _ _ _ _ c.slots_of-n.ensures c.loop-j-test.true c.loop-j.invariant.2 c.unlink_slot-h.ensures.words c.unlink_slot-h.ensures.head)
