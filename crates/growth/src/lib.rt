@@ -46,12 +46,10 @@ fn build_frame(s: &mut [u64], sh: Shape, f: u64, p: u32, g: u64, h: u64)
     ensures { s.new ≡ built_w s.old sh f p g h }
 {
     let n = head::slots_of(p as u64);
-    let mut j: u8 = 0;
-    while j < n {
+    for j in 0..n {
         let x = next_word(p, h, j);
         let y = prev_word(p, n, j);
         build_slot(s, sh, f, j as u64, g, x, y);
-        j += 1;
     }
 }
 
@@ -61,7 +59,7 @@ fn fresh_generation(s: &[u64], sh: Shape, h: TableHead, p: u64) -> u64
 {
     let n = h.pages;
     let e = h.entry;
-    if words::lt(p, n) {
+    if p < n {
         return codec::next_generation(storage::page_word(s, sh, e, p, field::ENTRY_HIGH));
     }
     1
@@ -73,7 +71,7 @@ fn detached_with(s: &[u64], sh: Shape, h: TableHead, p: u64) -> u64
 {
     let d = h.first_detached;
     let e = h.entry;
-    if words::eq(d, words::inc(p)) {
+    if d == p.saturating_add(1) {
         return storage::page_word(s, sh, e, p, field::ENTRY_NEXT);
     }
     d
@@ -83,7 +81,7 @@ fn detached_with(s: &[u64], sh: Shape, h: TableHead, p: u64) -> u64
 fn put_entry(s: &mut [u64], sh: Shape, e: u64, p: u64, f: u64, g: u64)
     ensures { s.new ≡ writes s.old sh (own_p e p f g) }
 {
-    let y = words::inc(f);
+    let y = f.saturating_add(1);
     storage::put_page(s, sh, e, p, field::ENTRY_FRAME, y);
     storage::put_page(s, sh, e, p, field::ENTRY_HIGH, g);
     storage::put_page(s, sh, e, p, field::ENTRY_BUSY, 0);
@@ -95,7 +93,7 @@ fn attached_head(h: TableHead, p: u64, d: u64) -> TableHead
 {
     let t = head::attach_local(h, p);
     let u = head::draw_local(t, d);
-    head::empty_local(u, words::inc(p))
+    head::empty_local(u, p.saturating_add(1))
 }
 
 // Page p of table b stands in frame f, but for the frame's owner.
@@ -127,12 +125,9 @@ fn join_page(s: &mut [u64], sh: Shape, b: u64, p: u32, f: u64)
 pub fn attach_page(s: &mut [u64], sh: Shape, b: u64, p: u32, f: u64)
     ensures words { s.new ≡ attach_w s.old sh b p f }
 {
-    let e = words::smaller(
-        layout::head_word(s, sh, b, field::HEAD_FIRST_ENTRY),
-        size::NUMBER_32_MAX,
-    );
+    let e = layout::head_word(s, sh, b, field::HEAD_FIRST_ENTRY).min(size::NUMBER_32_MAX);
     join_page(s, sh, b, p, f);
-    frames::take_frame(s, sh, f, words::inc(e + (p as u64)));
+    frames::take_frame(s, sh, f, (e + (p as u64)).saturating_add(1));
 }
 
 // The page that a table gets next: the first detached one, by its link, or else the n-th.
@@ -160,7 +155,7 @@ fn size_after(d: u64, n: u64) -> u64
     ensures { result ≡ size_after d n }
 {
     if d == 0 {
-        return words::inc(n);
+        return n.saturating_add(1);
     }
     n
 }
@@ -170,7 +165,7 @@ fn is_full(d: u64, n: u64, limit: u64) -> bool
     ensures { result ≡ is_full d n limit }
 {
     if d == 0 {
-        return words::eq(n, limit);
+        return n == limit;
     }
     false
 }
@@ -184,19 +179,19 @@ pub fn pages_needed(s: &[u64], sh: Shape, b: u64, k: u64) -> u64
 {
     let e = layout::head_word(s, sh, b, field::HEAD_FIRST_ENTRY);
     let limit = layout::head_word(s, sh, b, field::HEAD_PAGE_LIMIT);
-    let mut need = words::left(k, layout::head_word(s, sh, b, field::HEAD_FREE_SLOTS));
+    let mut need = k.saturating_sub(layout::head_word(s, sh, b, field::HEAD_FREE_SLOTS));
     let mut d = layout::head_word(s, sh, b, field::HEAD_FIRST_DETACHED);
     let mut n = layout::head_word(s, sh, b, field::HEAD_PAGES);
     let mut c: u64 = 0;
     while c < size::BATCH_MAX {
-        if words::eq(need, 0) {
+        if need == 0 {
             return c;
         }
         if is_full(d, n, limit) {
             return NO_PLAN;
         }
         let p = page_at(d, n);
-        need = words::left(need, head::slots_of(p) as u64);
+        need = need.saturating_sub(head::slots_of(p) as u64);
         n = size_after(d, n);
         d = link_after(s, sh, e, d);
         c += 1;
@@ -210,13 +205,11 @@ fn put_pages(s: &mut [u64], sh: Shape, e: u64, x: u64, d: u64, n: u64, k: u64)
 {
     let mut link: u64 = d;
     let mut size: u64 = n;
-    let mut j: u64 = 0;
-    while j < k {
+    for j in 0..k {
         let p = page_at(link, size);
         size = size_after(link, size);
         link = link_after(s, sh, e, link);
         layout::put_item(s, sh, x, j, field::ITEM_PAGE, p);
-        j += 1;
     }
 }
 
@@ -237,15 +230,13 @@ pub fn pages_same(s: &[u64], sh: Shape, b: u64, x: u64, k: u64) -> bool
     let e = layout::head_word(s, sh, b, field::HEAD_FIRST_ENTRY);
     let mut d = layout::head_word(s, sh, b, field::HEAD_FIRST_DETACHED);
     let mut n = layout::head_word(s, sh, b, field::HEAD_PAGES);
-    let mut j: u64 = 0;
-    while j < k {
+    for j in 0..k {
         let p = page_at(d, n);
-        if words::ne(layout::item_word(s, sh, x, j, field::ITEM_PAGE), p) {
+        if layout::item_word(s, sh, x, j, field::ITEM_PAGE) != p {
             return false;
         }
         n = size_after(d, n);
         d = link_after(s, sh, e, d);
-        j += 1;
     }
     true
 }
@@ -256,7 +247,7 @@ fn attach_next(s: &mut [u64], sh: Shape, b: u64)
 {
     let d = layout::head_word(s, sh, b, field::HEAD_FIRST_DETACHED);
     let n = layout::head_word(s, sh, b, field::HEAD_PAGES);
-    let p = words::smaller(page_at(d, n), size::LAST_PAGE);
+    let p = page_at(d, n).min(size::LAST_PAGE);
     let f = frames::lowest_free(s, sh);
     attach_page(s, sh, b, p as u32, f);
 }
@@ -265,10 +256,8 @@ fn attach_next(s: &mut [u64], sh: Shape, b: u64)
 fn attach_all(s: &mut [u64], sh: Shape, b: u64, n: u64)
     ensures { s.new ≡ attach_all_w s.old sh b n }
 {
-    let mut k: u64 = 0;
-    while k < n {
+    for k in 0..n {
         attach_next(s, sh, b);
-        k += 1;
     }
 }
 
@@ -276,10 +265,7 @@ fn attach_all(s: &mut [u64], sh: Shape, b: u64, n: u64)
 fn attach_item(s: &mut [u64], sh: Shape, b: u64, x: u64, j: u64)
     ensures { s.new ≡ attach_item_w sh b x j s.old }
 {
-    let p = words::smaller(
-        layout::item_word(s, sh, x, j, field::ITEM_PAGE),
-        size::LAST_PAGE,
-    );
+    let p = layout::item_word(s, sh, x, j, field::ITEM_PAGE).min(size::LAST_PAGE);
     let f = layout::item_word(s, sh, x, j, field::ITEM_FRAME);
     attach_page(s, sh, b, p as u32, f);
 }
@@ -288,10 +274,8 @@ fn attach_item(s: &mut [u64], sh: Shape, b: u64, x: u64, j: u64)
 fn attach_in(s: &mut [u64], sh: Shape, b: u64, x: u64, n: u64)
     ensures { s.new ≡ attach_in_w sh b x 0 n s.old }
 {
-    let mut j: u64 = 0;
-    while j < n {
+    for j in 0..n {
         attach_item(s, sh, b, x, j);
-        j += 1;
     }
 }
 
@@ -308,7 +292,7 @@ pub fn advance_epoch(s: &mut [u64], sh: Shape, b: u64)
 fn advance_for(s: &mut [u64], sh: Shape, b: u64, n: u64)
     ensures { s.new ≡ aged_w s.old sh b n }
 {
-    if words::ne(n, 0) {
+    if n != 0 {
         advance_epoch(s, sh, b);
     }
 }

@@ -104,11 +104,11 @@ pub fn handle_at(s: &[u64], sh: Shape, b: u64, k: u64) -> PreparedHandle
 fn slot_refusal(g: u64, w: CellWords) -> u64
     ensures { result ≡ slot_refusal g w }
 {
-    if words::eq(g, w.generation) {
-        if words::eq(w.tag, value::TAG_OCCUPIED) {
+    if g == w.generation {
+        if w.tag == value::TAG_OCCUPIED {
             return format::refusal::DONE;
         }
-        if words::eq(w.tag, value::TAG_TRANSFER_RESERVED) {
+        if w.tag == value::TAG_TRANSFER_RESERVED {
             return format::refusal::BUSY;
         }
         return format::refusal::INVALID_HANDLE;
@@ -120,11 +120,8 @@ fn slot_refusal(g: u64, w: CellWords) -> u64
 pub fn table_refusal(s: &[u64], sh: Shape, b: u64) -> u64
     ensures { result ≡ table_refusal (loadAt s.now sh) sh b }
 {
-    if words::lt(b, sh.tables as u64) {
-        if words::eq(
-            layout::head_word(s, sh, b, field::HEAD_LIFECYCLE),
-            value::LIFE_ACTIVE,
-        ) {
+    if b < sh.tables as u64 {
+        if layout::head_word(s, sh, b, field::HEAD_LIFECYCLE) == value::LIFE_ACTIVE {
             return format::refusal::DONE;
         }
         return format::refusal::TABLE_RETIRED;
@@ -179,7 +176,7 @@ fn open_slot(s: &[u64], sh: Shape, b: u64, k: u64, g: u64) -> Opened
     let fr = slot_frame(s, sh, b, k);
     let w = slot_words(s, sh, fr, k % size::PAGE_SIZE);
     let n = slot_refusal(g, w);
-    if words::eq(n, format::refusal::DONE) {
+    if n == format::refusal::DONE {
         return Opened::Handle(prepared(k, w));
     }
     Opened::Refused(n)
@@ -204,7 +201,7 @@ pub fn find_handle(s: &[u64], sh: Shape, b: u64, v: HandleValue) -> View
 {
     match open_value(s, sh, b, v) {
         Opened::Refused(n) => {
-            if words::eq(n, format::refusal::BUSY) {
+            if n == format::refusal::BUSY {
                 return View::Busy;
             }
             View::Invalid
@@ -218,7 +215,7 @@ pub fn open_handle(s: &[u64], sh: Shape, b: u64, v: HandleValue) -> Opened
     ensures { result ≡ open_of (loadAt s.now sh) sh b v.0 }
 {
     let n = table_refusal(s, sh, b);
-    if words::eq(n, 0) {
+    if n == 0 {
         return open_value(s, sh, b, v);
     }
     Opened::Refused(n)
@@ -266,7 +263,7 @@ fn resolve_handle(
     let held = Rights(h.rights);
     if held.contains(required) {
         let info = info_of(s, sh, h);
-        if words::eq(info.kind, kind) {
+        if info.kind == kind {
             answer::say3(out, base, h.object, info.koid.0, h.rights);
             return;
         }
@@ -308,7 +305,7 @@ pub fn table_length(s: &[u64], sh: Shape, b: u64) -> u64
     if n >= size::PAGES_MAX {
         return most;
     }
-    words::smaller(n * size::PAGE_SIZE, most)
+    (n * size::PAGE_SIZE).min(most)
 }
 
 // The snapshot of slot k, whose words are given, in a table of that mask.
@@ -370,7 +367,7 @@ fn tag_in(s: &[u64], sh: Shape, fr: u64, j: u64) -> u64
 fn next_cursor(stop: u64, length: u64) -> NextCursor
     ensures { result ≡ next_at stop length }
 {
-    if words::lt(stop, length) {
+    if stop < length {
         return NextCursor::At(stop);
     }
     NextCursor::End
@@ -401,20 +398,20 @@ pub fn scan(s: &[u64], sh: Shape, b: u64, cursor: u64) -> SnapshotPage
     ensures bounded { result.examined ≤ 256 }
 {
     let length = table_length(s, sh, b);
-    let start = words::smaller(cursor, length);
+    let start = cursor.min(length);
     let mask = layout::head_word(s, sh, b, field::HEAD_MASK);
     let none = no_entry();
     let mut entries = [none; format::size::SCAN_ENTRIES];
     let mut len: usize = 0;
     let mut fr = storage::frame_link(s, sh, b, start);
     let mut at = start;
-    let mut left = words::smaller(format::size::SCAN_SLOTS, length - start);
+    let mut left = format::size::SCAN_SLOTS.min(length - start);
     while 0 < left {
         if format::size::SCAN_ENTRIES <= len {
             return ended(entries, len, start, at, length);
         }
         fr = frame_on(s, sh, b, at, fr);
-        if words::eq(tag_in(s, sh, fr, at % size::PAGE_SIZE), value::TAG_OCCUPIED) {
+        if tag_in(s, sh, fr, at % size::PAGE_SIZE) == value::TAG_OCCUPIED {
             let w = storage::cell_in(s, sh, fr, at % size::PAGE_SIZE);
             entries[len] = snapshot_by(s, sh, mask, at, w);
             len += 1;
@@ -466,14 +463,12 @@ fn put_entries(out: &mut [u64], base: usize, p: SnapshotPage)
 {
     let entries = p.entries;
     let len = p.len;
-    let mut k: usize = 0;
-    while k < format::size::SCAN_ENTRIES {
+    for k in 0..format::size::SCAN_ENTRIES {
         if len <= k {
             return;
         }
         let x = entries[k];
         put_entry(out, base, 5 + k * 5, x);
-        k += 1;
     }
 }
 
@@ -492,7 +487,7 @@ pub fn scan_handles(s: &[u64], sh: Shape, b: u64, cursor: u64, out: &mut [u64], 
     ensures { both s.now out.new ≡ scan_r s.now out.old sh base b cursor }
 {
     let n = table_refusal(s, sh, b);
-    if words::eq(n, 0) {
+    if n == 0 {
         say_page(out, base, scan(s, sh, b, cursor));
         return;
     }

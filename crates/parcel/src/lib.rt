@@ -30,7 +30,7 @@ use object::ObjectRecord;
 pub fn retire_object(s: &mut [u64], sh: Shape, o: u64, out: &mut [u64], base: usize)
     ensures { both s.new out.new ≡ retire_r s.old out.old sh base o }
 {
-    if words::lt(o, sh.objects as u64) {
+    if o < sh.objects as u64 {
         object::retire_object(s, sh, o);
         answer::say(out, base);
         return;
@@ -49,16 +49,16 @@ fn known_flags(flags: u64) -> bool
 pub fn activation_refusal(x: ObjectRecord) -> u64
     ensures { result ≡ activation_refusal x }
 {
-    if words::eq(x.exportable, 0) {
+    if x.exportable == 0 {
         return format::refusal::UNSUPPORTED_RIGHTS;
     }
-    if words::eq(x.stage, value::STAGE_RETIRED) {
+    if x.stage == value::STAGE_RETIRED {
         return format::refusal::OBJECT_RETIRED;
     }
-    if words::eq(x.stage, value::STAGE_ACTIVE) {
+    if x.stage == value::STAGE_ACTIVE {
         return format::refusal::OBJECT_ALREADY_ACTIVE;
     }
-    if words::eq(x.count, x.limit) {
+    if x.count == x.limit {
         return format::refusal::ACTIVE_HANDLE_LIMIT;
     }
     format::refusal::DONE
@@ -69,7 +69,7 @@ fn row_refusal(s: &[u64], sh: Shape, x: ObjectRecord) -> u64
     ensures { result ≡ row_refusal (loadAt s.now sh) x }
 {
     let n = activation_refusal(x);
-    if words::eq(n, 0) {
+    if n == 0 {
         return book::id_refusal(s, sh);
     }
     n
@@ -79,7 +79,7 @@ fn row_refusal(s: &[u64], sh: Shape, x: ObjectRecord) -> u64
 fn new_refusal(s: &[u64], sh: Shape, o: u64, rights: Rights, flags: u64) -> u64
     ensures { result ≡ new_refusal (loadAt s.now sh) sh o rights.0 flags }
 {
-    if words::lt(o, sh.objects as u64) {
+    if o < sh.objects as u64 {
         if book::row_left(s, sh) {
             let x = object::read_object(s, sh, o);
             let supported = Rights(x.supported);
@@ -117,7 +117,7 @@ pub fn new_object(
     ensures { both s.new out.new ≡ new_object_r s.old out.old sh base o rights.0 flags }
 {
     let n = new_refusal(s, sh, o, rights, flags);
-    if words::eq(n, 0) {
+    if n == 0 {
         let id = layout::root_word(s, sh, field::ROOT_NEXT_ID);
         object::activate_object(s, sh, o);
         put_parcel(s, sh, o, rights.0, flags);
@@ -136,7 +136,7 @@ fn copy_refusal(s: &[u64], sh: Shape, h: PreparedHandle, rights: Rights) -> u64
     if held.contains(Rights::DUPLICATE) {
         if held.contains(rights) {
             let n = object::raise_refusal(s, sh, h.object);
-            if words::eq(n, 0) {
+            if n == 0 {
                 return book::id_refusal(s, sh);
             }
             return n;
@@ -158,7 +158,7 @@ fn duplicate_handle(
     ensures { both s.new out.new ≡ copied_r s.old out.old sh base rights.0 h }
 {
     let n = copy_refusal(s, sh, h, rights);
-    if words::eq(n, 0) {
+    if n == 0 {
         let id = layout::root_word(s, sh, field::ROOT_NEXT_ID);
         object::raise_object(s, sh, h.object);
         put_parcel(s, sh, h.object, rights.0, h.flags);
@@ -182,7 +182,7 @@ pub fn duplicate(
     ensures { both s.new out.new ≡ duplicate_r s.old out.old sh base b v.0 rights.0 }
 {
     let n = lookup::table_refusal(s, sh, b);
-    if words::eq(n, 0) {
+    if n == 0 {
         if book::row_left(s, sh) {
             match lookup::open_handle(s, sh, b, v) {
                 Opened::Refused(k) => {
@@ -205,10 +205,7 @@ pub fn parcel_of(s: &[u64], sh: Shape, id: ReservationId) -> u64
     ensures { result ≡ parcel_link (loadAt s.now sh) sh id.0 }
 {
     let link = book::row_of(s, sh, id.0);
-    if words::eq(
-        layout::row_word(s, sh, words::dec(link), field::ROW_KIND),
-        value::KIND_PARCEL,
-    ) {
+    if layout::row_word(s, sh, link.saturating_sub(1), field::ROW_KIND) == value::KIND_PARCEL {
         return link;
     }
     0
@@ -218,11 +215,9 @@ pub fn parcel_of(s: &[u64], sh: Shape, id: ReservationId) -> u64
 fn lower_items(s: &mut [u64], sh: Shape, x: u64, n: u64)
     ensures words { s.new ≡ lowered_w s.old sh x 0 n }
 {
-    let mut i: u64 = 0;
-    while i < n {
+    for i in 0..n {
         let o = layout::item_word(s, sh, x, i, field::ITEM_OBJECT);
         object::lower_object(s, sh, o);
-        i += 1;
     }
 }
 
@@ -240,11 +235,11 @@ pub fn release_parcel(s: &mut [u64], sh: Shape, id: ReservationId, out: &mut [u6
     ensures { both s.new out.new ≡ release_r s.old out.old sh base id.0 }
 {
     let link = parcel_of(s, sh, id);
-    if words::eq(link, 0) {
+    if link == 0 {
         answer::refuse(out, base, format::refusal::MISUSE);
         return;
     }
-    release_row(s, sh, words::dec(link));
+    release_row(s, sh, link.saturating_sub(1));
     answer::say(out, base);
 }
 
@@ -292,18 +287,18 @@ fn parcels_fit(s: &[u64], sh: Shape, rq: &[u64], at: usize, count: u64, n: u64) 
     let mut left = n;
     while 0 < more {
         let link = parcel_of(s, sh, ReservationId(item_id(rq, place)));
-        if words::eq(link, 0) {
+        if link == 0 {
             return false;
         }
-        let c = layout::row_word(s, sh, words::dec(link), field::ROW_LENGTH);
-        if words::lt(left, c) {
+        let c = layout::row_word(s, sh, link.saturating_sub(1), field::ROW_LENGTH);
+        if left < c {
             return false;
         }
         left -= c;
         place = item_end(rq, place);
         more -= 1;
     }
-    words::eq(left, 0)
+    left == 0
 }
 
 // Whether an id stands in the items.
@@ -314,7 +309,7 @@ fn named(rq: &[u64], at: usize, count: u64, id: u64) -> bool
     let mut more = count;
     while 0 < more {
         let other = item_id(rq, place);
-        if words::eq(id, other) {
+        if id == other {
             return true;
         }
         place = item_end(rq, place);
@@ -345,15 +340,13 @@ fn distinct_ids(rq: &[u64], at: usize, count: u64) -> bool
 fn fill_from(s: &mut [u64], sh: Shape, b: u64, x: u64, p: u64, y: u64, n: u64)
     ensures words { s.new ≡ filled_w s.old sh b x p y 0 n }
 {
-    let mut i: u64 = 0;
-    while i < n {
+    for i in 0..n {
         let q = add(p, i);
         let k = layout::item_word(s, sh, x, q, field::ITEM_SLOT);
         let o = layout::item_word(s, sh, y, i, field::ITEM_OBJECT);
         let r = layout::item_word(s, sh, y, i, field::ITEM_RIGHTS);
         let f = layout::item_word(s, sh, y, i, field::ITEM_FLAGS);
         storage::occupy(s, sh, b, k, o, r, f);
-        i += 1;
     }
 }
 
@@ -366,7 +359,7 @@ fn fill_slots(s: &mut [u64], sh: Shape, b: u64, x: u64, rq: &[u64], at: usize, c
     let mut p: u64 = 0;
     while 0 < more {
         let link = parcel_of(s, sh, ReservationId(item_id(rq, place)));
-        let y = words::dec(link);
+        let y = link.saturating_sub(1);
         let n = layout::row_word(s, sh, y, field::ROW_LENGTH);
         fill_from(s, sh, b, x, p, y, n);
         p = add(p, n);
@@ -383,7 +376,7 @@ fn close_parcels(s: &mut [u64], sh: Shape, rq: &[u64], at: usize, count: u64)
     let mut more = count;
     while 0 < more {
         let link = book::row_of(s, sh, item_id(rq, place));
-        let y = words::dec(link);
+        let y = link.saturating_sub(1);
         book::close_row(s, sh, y);
         place = item_end(rq, place);
         more -= 1;
@@ -415,11 +408,11 @@ pub fn publish(
     ensures { both s.new out.new ≡ publish_r s.old out.old sh base id.0 (ids_at rq.now at count) }
 {
     let link = book::reservation_of(s, sh, id);
-    if words::eq(link, 0) {
+    if link == 0 {
         answer::refuse(out, base, format::refusal::MISUSE);
         return;
     }
-    let x = words::dec(link);
+    let x = link.saturating_sub(1);
     let n = layout::row_word(s, sh, x, field::ROW_LENGTH);
     if parcels_fit(s, sh, rq, at, count, n) {
         if distinct_ids(rq, at, count) {

@@ -19,7 +19,7 @@ use layout::{Shape, field, size, value};
 fn owner_word(x: u64) -> u64
     ensures { result ≡ owner_word x }
 {
-    size::PLAN_OWNER + words::smaller(x, size::ROWS_MAX)
+    size::PLAN_OWNER + x.min(size::ROWS_MAX)
 }
 
 // The lowest free frame is taken for the plan in place x, and item j names it.
@@ -36,10 +36,8 @@ fn hold_frame(s: &mut [u64], sh: Shape, x: u64, j: u64)
 fn hold_frames(s: &mut [u64], sh: Shape, x: u64, n: u64)
     ensures { s.new ≡ hold_all_w sh x 0 n s.old }
 {
-    let mut j: u64 = 0;
-    while j < n {
+    for j in 0..n {
         hold_frame(s, sh, x, j);
-        j += 1;
     }
 }
 
@@ -79,13 +77,13 @@ pub fn make_plan(s: &mut [u64], sh: Shape, b: u64, n: u64, out: &mut [u64], base
     ensures { both s.new out.new ≡ make_plan_r s.old out.old sh base b n }
 {
     let wrong = reserve::batch_refusal(s, sh, b, n);
-    if words::ne(wrong, 0) {
+    if wrong != 0 {
         answer::refuse(out, base, wrong);
         return;
     }
     let p = growth::pages_needed(s, sh, b, n);
     let full = reserve::room_refusal(s, sh, p);
-    if words::ne(full, 0) {
+    if full != 0 {
         answer::refuse(out, base, full);
         return;
     }
@@ -97,21 +95,19 @@ fn is_stale(s: &[u64], sh: Shape, x: u64) -> bool
     ensures { result ≡ stale_at (loadAt s.now sh) x }
 {
     let b = layout::row_word(s, sh, x, field::ROW_TABLE);
-    if words::ne(
-        layout::head_word(s, sh, b, field::HEAD_EPOCH),
-        layout::row_word(s, sh, x, field::ROW_EPOCH),
-    ) {
+    if layout::head_word(s, sh, b, field::HEAD_EPOCH)
+        != layout::row_word(s, sh, x, field::ROW_EPOCH)
+    {
         return true;
     }
-    if words::ne(
-        layout::head_word(s, sh, b, field::HEAD_FREE_SLOTS),
-        layout::item_word(s, sh, x, 0, field::ITEM_FREE_SLOTS),
-    ) {
+    if layout::head_word(s, sh, b, field::HEAD_FREE_SLOTS)
+        != layout::item_word(s, sh, x, 0, field::ITEM_FREE_SLOTS)
+    {
         return true;
     }
     let n = layout::row_word(s, sh, x, field::ROW_COUNT);
     let k = layout::row_word(s, sh, x, field::ROW_LENGTH);
-    if words::ne(growth::pages_needed(s, sh, b, n), k) {
+    if growth::pages_needed(s, sh, b, n) != k {
         return true;
     }
     if growth::pages_same(s, sh, b, x, k) {
@@ -125,7 +121,7 @@ fn use_refusal(s: &[u64], sh: Shape, x: u64) -> u64
     ensures { result ≡ use_refusal (loadAt s.now sh) sh x }
 {
     let known = lookup::table_refusal(s, sh, layout::row_word(s, sh, x, field::ROW_TABLE));
-    if words::eq(known, 0) {
+    if known == 0 {
         if is_stale(s, sh, x) {
             return format::refusal::STALE_PLAN;
         }
@@ -146,10 +142,8 @@ fn give_frame(s: &mut [u64], sh: Shape, x: u64, j: u64)
 fn give_frames(s: &mut [u64], sh: Shape, x: u64, n: u64)
     ensures { s.new ≡ give_all_w sh x 0 n s.old }
 {
-    let mut j: u64 = 0;
-    while j < n {
+    for j in 0..n {
         give_frame(s, sh, x, j);
-        j += 1;
     }
 }
 
@@ -179,13 +173,13 @@ pub fn use_plan(s: &mut [u64], sh: Shape, id: ReservationId, out: &mut [u64], ba
     ensures { both s.new out.new ≡ use_plan_r s.old out.old sh base id.0 }
 {
     let link = book::plan_of(s, sh, id);
-    if words::eq(link, 0) {
+    if link == 0 {
         answer::refuse(out, base, format::refusal::MISUSE);
         return;
     }
-    let x = words::dec(link);
+    let x = link.saturating_sub(1);
     let wrong = use_refusal(s, sh, x);
-    if words::ne(wrong, 0) {
+    if wrong != 0 {
         answer::refuse(out, base, wrong);
         return;
     }
@@ -197,11 +191,11 @@ pub fn drop_plan(s: &mut [u64], sh: Shape, id: ReservationId, out: &mut [u64], b
     ensures { both s.new out.new ≡ drop_plan_r s.old out.old sh base id.0 }
 {
     let link = book::plan_of(s, sh, id);
-    if words::eq(link, 0) {
+    if link == 0 {
         answer::refuse(out, base, format::refusal::MISUSE);
         return;
     }
-    drop_row(s, sh, words::dec(link));
+    drop_row(s, sh, link.saturating_sub(1));
     answer::say(out, base);
 }
 

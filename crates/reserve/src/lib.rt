@@ -22,11 +22,11 @@ pub fn batch_refusal(s: &[u64], sh: Shape, b: u64, n: u64) -> u64
     ensures { result ≡ batch_refusal (loadAt s.now sh) sh b n }
 {
     let known = lookup::table_refusal(s, sh, b);
-    if words::eq(known, 0) {
-        if words::eq(n, 0) {
+    if known == 0 {
+        if n == 0 {
             return format::refusal::EMPTY_RESERVATION;
         }
-        if words::lt(size::BATCH_MAX, n) {
+        if size::BATCH_MAX < n {
             return format::refusal::RESERVATION_TOO_LARGE;
         }
         return format::refusal::DONE;
@@ -38,17 +38,14 @@ pub fn batch_refusal(s: &[u64], sh: Shape, b: u64, n: u64) -> u64
 pub fn room_refusal(s: &[u64], sh: Shape, p: u64) -> u64
     ensures { result ≡ room_refusal (loadAt s.now sh) sh p }
 {
-    if words::eq(p, growth::NO_PLAN) {
+    if p == growth::NO_PLAN {
         return format::refusal::TABLE_FULL;
     }
-    if words::lt(layout::root_word(s, sh, field::ROOT_FREE_FRAMES), p) {
+    if layout::root_word(s, sh, field::ROOT_FREE_FRAMES) < p {
         return format::refusal::ALLOCATION;
     }
-    if words::lt(
-        layout::root_word(s, sh, field::ROOT_USED_ROWS),
-        sh.rows as u64,
-    ) {
-        if words::eq(layout::root_word(s, sh, field::ROOT_NEXT_ID), book::LAST_ID) {
+    if layout::root_word(s, sh, field::ROOT_USED_ROWS) < sh.rows as u64 {
+        if layout::root_word(s, sh, field::ROOT_NEXT_ID) == book::LAST_ID {
             return format::refusal::RESERVATION_ID_EXHAUSTED;
         }
         return format::refusal::DONE;
@@ -61,12 +58,10 @@ fn list_slots(s: &mut [u64], sh: Shape, b: u64, x: u64, l: u64, n: u64)
     ensures words { s.new ≡ listed_w s.old sh b x 0 l n }
 {
     let mut link: u64 = l;
-    let mut j: u64 = 0;
-    while j < n {
-        let k = words::dec(link);
+    for j in 0..n {
+        let k = link.saturating_sub(1);
         link = storage::slot_word(s, sh, b, k, field::SLOT_NEXT_FREE);
         layout::put_item(s, sh, x, j, field::ITEM_SLOT, k);
-        j += 1;
     }
 }
 
@@ -83,10 +78,8 @@ fn list_free(s: &mut [u64], sh: Shape, b: u64, n: u64)
 fn take_slots(s: &mut [u64], sh: Shape, b: u64, x: u64, n: u64)
     ensures words { s.new ≡ taken_w s.old sh b x 0 n }
 {
-    let mut j: u64 = 0;
-    while j < n {
+    for j in 0..n {
         storage::take_free(s, sh, b, x, j);
-        j += 1;
     }
 }
 
@@ -103,16 +96,14 @@ fn open_batch(s: &mut [u64], sh: Shape, b: u64, n: u64)
 fn say_values(s: &[u64], sh: Shape, b: u64, x: u64, n: u64, out: &mut [u64], base: usize)
     ensures { out.new ≡ puts out.old base 3 (values_at (loadAt s.now sh) b x 0 (min n batch_max)) }
 {
-    let most = words::smaller(n, size::BATCH_MAX);
+    let most = n.min(size::BATCH_MAX);
     let mask = layout::head_word(s, sh, b, field::HEAD_MASK);
-    let mut j: u64 = 0;
-    while j < most {
+    for j in 0..most {
         let k = layout::item_word(s, sh, x, j, field::ITEM_SLOT);
         let g = storage::slot_word(s, sh, b, k, field::SLOT_GENERATION);
         let codec = HandleCodec { mask: mask };
         let v = codec.encode(k, g);
         request::answer_put(out, base, (j + 3) as usize, v.0);
-        j += 1;
     }
 }
 
@@ -148,13 +139,13 @@ pub fn reserve(s: &mut [u64], sh: Shape, b: u64, n: u64, out: &mut [u64], base: 
     ensures { both s.new out.new ≡ reserve_r s.old out.old sh base b n }
 {
     let wrong = batch_refusal(s, sh, b, n);
-    if words::ne(wrong, 0) {
+    if wrong != 0 {
         answer::refuse(out, base, wrong);
         return;
     }
     let p = growth::pages_needed(s, sh, b, n);
     let full = room_refusal(s, sh, p);
-    if words::ne(full, 0) {
+    if full != 0 {
         answer::refuse(out, base, full);
         return;
     }

@@ -23,12 +23,18 @@ pub fn next_occupied(s: &[u64], sh: Shape, b: u64, start: u64) -> u64
     let mut k = start;
     while k < length {
         let fr = storage::frame_link(s, sh, b, k);
-        if words::eq(fr, 0) {
+        if fr == 0 {
             k = (k / size::PAGE_SIZE + 1) * size::PAGE_SIZE;
             continue;
         }
-        let tag = layout::cell_word(s, sh, words::dec(fr), k % size::PAGE_SIZE, field::SLOT_TAG);
-        if words::eq(tag, value::TAG_OCCUPIED) {
+        let tag = layout::cell_word(
+            s,
+            sh,
+            fr.saturating_sub(1),
+            k % size::PAGE_SIZE,
+            field::SLOT_TAG,
+        );
+        if tag == value::TAG_OCCUPIED {
             return k + 1;
         }
         k += 1;
@@ -68,11 +74,11 @@ fn remove_stopping(s: &mut [u64], sh: Shape, b: u64, cursor: u64, out: &mut [u64
     ensures { both s.new out.new ≡ stopped_r s.old out.old sh base b cursor }
 {
     let next = next_occupied(s, sh, b, cursor);
-    if words::eq(next, 0) {
+    if next == 0 {
         answer::say2(out, base, 0, 0);
         return;
     }
-    let k = words::dec(next);
+    let k = next.saturating_sub(1);
     let x = lookup::snapshot_at(s, sh, b, k);
     remove_slot(s, sh, b, k);
     answer::say7(
@@ -100,11 +106,8 @@ pub fn remove_stopping_owner(
 )
     ensures { both s.new out.new ≡ stopping_r s.old out.old sh base b cursor }
 {
-    if words::lt(b, sh.tables as u64) {
-        if words::eq(
-            layout::head_word(s, sh, b, field::HEAD_LIFECYCLE),
-            value::LIFE_ACTIVE,
-        ) {
+    if b < sh.tables as u64 {
+        if layout::head_word(s, sh, b, field::HEAD_LIFECYCLE) == value::LIFE_ACTIVE {
             remove_stopping(s, sh, b, cursor, out, base);
             return;
         }
@@ -120,11 +123,11 @@ fn opens_in(s: &[u64], sh: Shape, b: u64, x: u64) -> bool
 {
     let what = layout::row_word(s, sh, x, field::ROW_KIND);
     let table = layout::row_word(s, sh, x, field::ROW_TABLE);
-    if words::eq(what, value::KIND_RESERVATION) {
-        return words::eq(b, table);
+    if what == value::KIND_RESERVATION {
+        return b == table;
     }
-    if words::eq(what, value::KIND_CLAIM) {
-        return words::eq(b, table);
+    if what == value::KIND_CLAIM {
+        return b == table;
     }
     false
 }
@@ -134,14 +137,12 @@ fn any_open(s: &[u64], sh: Shape, b: u64) -> bool
     ensures { result ≡ open_in (loadAt s.now sh) sh b }
 {
     let rows = sh.rows as u64;
-    let n = words::smaller(layout::root_word(s, sh, field::ROOT_USED_ROWS), rows);
-    let mut i: u64 = 0;
-    while i < n {
+    let n = layout::root_word(s, sh, field::ROOT_USED_ROWS).min(rows);
+    for i in 0..n {
         let x = layout::index_word(s, sh, i);
         if opens_in(s, sh, b, x) {
             return true;
         }
-        i += 1;
     }
     false
 }
@@ -151,7 +152,7 @@ pub fn begin_teardown(s: &mut [u64], sh: Shape, b: u64, out: &mut [u64], base: u
     ensures { both s.new out.new ≡ teardown_start_r s.old out.old sh base b }
 {
     let n = lookup::table_refusal(s, sh, b);
-    if words::eq(n, 0) {
+    if n == 0 {
         if any_open(s, sh, b) {
             answer::refuse(out, base, format::refusal::OUTSTANDING_RESERVATION);
             return;
@@ -167,11 +168,8 @@ pub fn begin_teardown(s: &mut [u64], sh: Shape, b: u64, out: &mut [u64], base: u
 fn is_tearing(s: &[u64], sh: Shape, b: u64) -> bool
     ensures { result ≡ tearing (loadAt s.now sh) sh b }
 {
-    if words::lt(b, sh.tables as u64) {
-        return words::eq(
-            layout::head_word(s, sh, b, field::HEAD_LIFECYCLE),
-            value::LIFE_TEARING_DOWN,
-        );
+    if b < sh.tables as u64 {
+        return layout::head_word(s, sh, b, field::HEAD_LIFECYCLE) == value::LIFE_TEARING_DOWN;
     }
     false
 }
@@ -182,11 +180,11 @@ fn remove_tearing(s: &mut [u64], sh: Shape, b: u64, out: &mut [u64], base: usize
 {
     let cursor = layout::head_word(s, sh, b, field::HEAD_CURSOR);
     let next = next_occupied(s, sh, b, cursor);
-    if words::eq(next, 0) {
+    if next == 0 {
         answer::say1(out, base, 0);
         return;
     }
-    let k = words::dec(next);
+    let k = next.saturating_sub(1);
     let info = lookup::info_of(s, sh, lookup::handle_at(s, sh, b, k));
     remove_slot(s, sh, b, k);
     put_tearing(s, sh, b, next);
@@ -218,7 +216,7 @@ pub fn finish_teardown(s: &mut [u64], sh: Shape, b: u64, out: &mut [u64], base: 
 {
     if is_tearing(s, sh, b) {
         let next = next_occupied(s, sh, b, 0);
-        if words::eq(next, 0) {
+        if next == 0 {
             put_retired(s, sh, b);
             answer::say(out, base);
             return;

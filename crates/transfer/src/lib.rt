@@ -60,10 +60,7 @@ fn put_moved(s: &mut [u64], sh: Shape, x: u64, j: u64, h: PreparedHandle, r: u64
 fn mark_item(s: &mut [u64], sh: Shape, b: u64, x: u64, j: u64)
     ensures words { s.new ≡ mark_item_w s.old sh b x j }
 {
-    if words::eq(
-        layout::item_word(s, sh, x, j, field::ITEM_OPERATION),
-        value::OPERATION_MOVE,
-    ) {
+    if layout::item_word(s, sh, x, j, field::ITEM_OPERATION) == value::OPERATION_MOVE {
         let k = layout::item_word(s, sh, x, j, field::ITEM_MOVED);
         storage::mark_moving(s, sh, b, k, x, j);
     }
@@ -73,10 +70,8 @@ fn mark_item(s: &mut [u64], sh: Shape, b: u64, x: u64, j: u64)
 fn mark_items(s: &mut [u64], sh: Shape, b: u64, x: u64, n: u64)
     ensures words { s.new ≡ marked_w s.old sh b x 0 n }
 {
-    let mut j: u64 = 0;
-    while j < n {
+    for j in 0..n {
         mark_item(s, sh, b, x, j);
-        j += 1;
     }
 }
 
@@ -103,8 +98,8 @@ fn consume_refusal(
     let held = Rights(h.rights);
     if held.contains(required) {
         let info = lookup::info_of(s, sh, h);
-        if words::eq(info.kind, kind) {
-            if words::eq(info.koid.0, koid.0) {
+        if info.kind == kind {
+            if info.koid.0 == koid.0 {
                 return book::id_refusal(s, sh);
             }
             return format::refusal::INVALID_HANDLE;
@@ -129,7 +124,7 @@ fn consume_handle(
     ensures { both s.new out.new ≡ consumed_r s.old out.old sh base b required.0 kind koid.0 h }
 {
     let n = consume_refusal(s, sh, h, required, kind, koid);
-    if words::eq(n, 0) {
+    if n == 0 {
         let id = layout::root_word(s, sh, field::ROOT_NEXT_ID);
         let x = book::spare_place(s, sh);
         put_moved(s, sh, x, 0, h, h.rights);
@@ -155,7 +150,7 @@ pub fn prepare_consumption(
     ensures { both s.new out.new ≡ consumption_r s.old out.old sh base b v.0 required.0 kind koid.0 }
 {
     let n = lookup::table_refusal(s, sh, b);
-    if words::eq(n, 0) {
+    if n == 0 {
         if book::row_left(s, sh) {
             match lookup::open_handle(s, sh, b, v) {
                 Opened::Refused(k) => {
@@ -277,13 +272,13 @@ fn transfer_refusal(s: &[u64], sh: Shape, b: u64, n: u64) -> u64
     ensures { result ≡ transfer_refusal (loadAt s.now sh) sh b n }
 {
     let known = lookup::table_refusal(s, sh, b);
-    if words::ne(known, 0) {
+    if known != 0 {
         return known;
     }
-    if words::eq(n, 0) {
+    if n == 0 {
         return format::refusal::EMPTY_RESERVATION;
     }
-    if words::lt(size::BATCH_MAX, n) {
+    if size::BATCH_MAX < n {
         return format::refusal::RESERVATION_TOO_LARGE;
     }
     if book::row_left(s, sh) {
@@ -306,7 +301,7 @@ fn lacks(held: Rights, asked: Rights) -> bool
 fn copies(operation: u64) -> bool
     ensures { result ≡ is_copy (operation_of operation) }
 {
-    words::ne(operation, value::OPERATION_MOVE)
+    operation != value::OPERATION_MOVE
 }
 
 // "a copy without DUPLICATE".
@@ -334,7 +329,7 @@ fn banned(ban: Optional, x: u64) -> bool
     ensures { result ≡ bans (as_option ban) x }
 {
     match ban {
-        Optional::Word(w) => words::eq(w, x),
+        Optional::Word(w) => w == x,
         Optional::Absent => false,
     }
 }
@@ -344,7 +339,7 @@ fn differs(kind: Optional, x: u64) -> bool
     ensures { result ≡ not (agrees (as_option kind) x) }
 {
     match kind {
-        Optional::Word(w) => words::ne(w, x),
+        Optional::Word(w) => w != x,
         Optional::Absent => false,
     }
 }
@@ -353,11 +348,11 @@ fn differs(kind: Optional, x: u64) -> bool
 fn route_bars(route: u64, class: u64) -> bool
     ensures { result ≡ route_bars route class }
 {
-    if words::eq(class, value::CLASS_LEAF) {
+    if class == value::CLASS_LEAF {
         return false;
     }
-    if words::eq(class, value::CLASS_RENDEZVOUS_ONLY) {
-        return words::eq(route, value::ROUTE_BUFFERED);
+    if class == value::CLASS_RENDEZVOUS_ONLY {
+        return route == value::ROUTE_BUFFERED;
     }
     true
 }
@@ -440,7 +435,7 @@ fn handle_refusal(
     ensures { result ≡ handle_refusal (loadAt s.now sh) h t.route (as_option t.forbidden_object) (as_option t.forbidden_kind) (item_by q) }
 {
     let n = rights_refusal(Rights(h.rights), q);
-    if words::ne(n, 0) {
+    if n != 0 {
         return n;
     }
     let x = look_at(s, sh, h.object);
@@ -452,14 +447,12 @@ fn listed(rq: &[u64], at: usize, n: u64, v: u64) -> bool
     ensures { result ≡ member v (earlier_at rq.now at n) }
 {
     let mut place = at;
-    let mut i: u64 = 0;
-    while i < n {
+    for i in 0..n {
         let other = item_value(rq, place);
-        if words::eq(v, other) {
+        if v == other {
             return true;
         }
         place = item_end(rq, place);
-        i += 1;
     }
     false
 }
@@ -472,7 +465,7 @@ fn in_set(seen: u64, v: u64) -> bool
     ensures { result ≡ eqb (bit_of seen v) 1 }
 {
     let k = v % WORD_BITS;
-    words::eq((seen >> k) % 2, 1)
+    (seen >> k) % 2 == 1
 }
 
 // The set with that bit.
@@ -534,17 +527,15 @@ fn items_refusal(
     ensures { result ≡ items_refusal (loadAt s.now sh) b t.route (as_option t.forbidden_object) (as_option t.forbidden_kind) [] (items_at rq.now at count) }
 {
     let mut place = at;
-    let mut i: u64 = 0;
     let mut seen: u64 = 0;
-    while i < count {
+    for i in 0..count {
         let q = read_item(rq, place);
         let n = item_refusal(s, sh, rq, at, i, seen, b, q, t);
-        if words::ne(n, 0) {
+        if n != 0 {
             return n;
         }
         seen = joined(seen, q.value.0);
         place = item_end(rq, place);
-        i += 1;
     }
     format::refusal::DONE
 }
@@ -558,7 +549,7 @@ fn copied_object(s: &[u64], sh: Shape, b: u64, q: HandleTransferRequest) -> u64
         return match lookup::find_handle(s, sh, b, value) {
             View::Invalid => 0,
             View::Busy => 0,
-            View::Holds(h) => words::inc(h.object),
+            View::Holds(h) => h.object.saturating_add(1),
         };
     }
     0
@@ -569,12 +560,12 @@ fn raise_item(s: &mut [u64], sh: Shape, b: u64, q: HandleTransferRequest) -> u64
     ensures { tried result s.new ≡ raised_item s.old sh b (item_by q) }
 {
     let link = copied_object(s, sh, b, q);
-    if words::eq(link, 0) {
+    if link == 0 {
         return format::refusal::DONE;
     }
-    let o = words::dec(link);
+    let o = link.saturating_sub(1);
     let n = object::raise_refusal(s, sh, o);
-    if words::ne(n, 0) {
+    if n != 0 {
         return n;
     }
     object::raise_object(s, sh, o);
@@ -586,10 +577,10 @@ fn lower_item(s: &mut [u64], sh: Shape, b: u64, q: HandleTransferRequest)
     ensures words { s.new ≡ lowered_item s.old sh b (item_by q) }
 {
     let link = copied_object(s, sh, b, q);
-    if words::eq(link, 0) {
+    if link == 0 {
         return;
     }
-    object::lower_object(s, sh, words::dec(link));
+    object::lower_object(s, sh, link.saturating_sub(1));
 }
 
 // So for the first n items. The counts do not depend on the order, so that no record is sought backwards.
@@ -611,16 +602,14 @@ fn raise_items(s: &mut [u64], sh: Shape, rq: &[u64], at: usize, count: u64, b: u
     ensures { tried result s.new ≡ raised_items s.old sh b [] (items_at rq.now at count) }
 {
     let mut place = at;
-    let mut i: u64 = 0;
-    while i < count {
+    for i in 0..count {
         let q = read_item(rq, place);
         let n = raise_item(s, sh, b, q);
-        if words::ne(n, 0) {
+        if n != 0 {
             lower_items(s, sh, rq, at, i, b);
             return n;
         }
         place = item_end(rq, place);
-        i += 1;
     }
     format::refusal::DONE
 }
@@ -674,12 +663,10 @@ fn put_entries(s: &mut [u64], sh: Shape, rq: &[u64], at: usize, count: u64, b: u
 {
     let x = book::spare_place(s, sh);
     let mut place = at;
-    let mut j: u64 = 0;
-    while j < count {
+    for j in 0..count {
         let q = read_item(rq, place);
         put_entry(s, sh, b, x, j, q);
         place = item_end(rq, place);
-        j += 1;
     }
 }
 
@@ -706,12 +693,12 @@ fn prepare_items(
     ensures { both s.new out.new ≡ items_r s.old out.old sh base b t.route (as_option t.forbidden_object) (as_option t.forbidden_kind) (items_at rq.now at count) }
 {
     let n = items_refusal(s, sh, rq, at, count, b, t);
-    if words::ne(n, 0) {
+    if n != 0 {
         refuse_spent(s, sh, n, out, base);
         return;
     }
     let k = raise_items(s, sh, rq, at, count, b);
-    if words::ne(k, 0) {
+    if k != 0 {
         refuse_spent(s, sh, k, out, base);
         return;
     }
@@ -736,7 +723,7 @@ pub fn prepare_transfer(
     let b = request::field(rq, at, format::field::FIELD_TABLE);
     let count = request::field(rq, at, format::field::FIELD_COUNT);
     let n = transfer_refusal(s, sh, b, count);
-    if words::ne(n, 0) {
+    if n != 0 {
         answer::refuse(out, base, n);
         return;
     }

@@ -23,9 +23,6 @@ overflow_add-k c = omega arith
 pub put_entry-requires : goal.put_entry-requires
 put_entry-requires c = omega arith
 
-pub overflow_add-k-in-loop-k : goal.overflow_add-k-in-loop-k
-overflow_add-k-in-loop-k c = omega arith
-
 pub loop-k-smaller : goal.loop-k-smaller
 loop-k-smaller c = omega arith
 

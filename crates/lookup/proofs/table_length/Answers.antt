@@ -7,4 +7,4 @@ pub returns-then-n-ge-PAGES_MAX : goal.returns-then-n-ge-PAGES_MAX
 returns-then-n-ge-PAGES_MAX c = length_most (load c.args.s.now c.args.sh) c.args.b _ c.head_word-n.ensures c.if-n-ge-PAGES_MAX.true
 
 pub returns : goal.returns
-returns c = length_few (load c.args.s.now c.args.sh) c.args.b _ _ c.head_word-n.ensures c.smaller.ensures
+returns c = length_few (load c.args.s.now c.args.sh) c.args.b _ _ c.head_word-n.ensures c.min.ensures

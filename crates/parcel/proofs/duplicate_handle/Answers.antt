@@ -1,9 +1,11 @@
+use Rattle.std.proofs.Common.{eq-eqb, ne_eqb}
+use mathlib.Core.Path.{refl}
 use Rattle.parcel.specs.Code.{parcel_is, copied_done, copied_refused}
 use borrow.Author.Rules.{rules}
 use Rattle.parcel.proofs.duplicate_handle.Goals as goal
 
-pub returns-then-eq : goal.returns-then-eq
-returns-then-eq c = copied_done c.args.s.now c.args.out.now _ c.args.sh c.args.base c.args.rights.0 c.args.h _ _ c.copy_refusal-n.ensures c.eq.ensures _ _ _ c.if-eq.true c.root_word-id.ensures c.raise_object.ensures.words (parcel_is _ _ _ c.args.sh c.args.h.object c.args.rights.0 c.args.h.flags c.put_parcel.ensures c.open_row.ensures.words) c.say1.ensures
+pub returns-then-n-eq0 : goal.returns-then-n-eq0
+returns-then-n-eq0 c = copied_done c.args.s.now c.args.out.now _ c.args.sh c.args.base c.args.rights.0 c.args.h _ _ c.copy_refusal-n.ensures refl _ _ _ (eq-eqb _ _ c.if-n-eq0.true) c.root_word-id.ensures c.raise_object.ensures.words (parcel_is _ _ _ c.args.sh c.args.h.object c.args.rights.0 c.args.h.flags c.put_parcel.ensures c.open_row.ensures.words) c.say1.ensures
 
 pub returns : goal.returns
-returns c = copied_refused c.args.s.now c.args.out.now _ c.args.sh c.args.base c.args.rights.0 c.args.h _ _ c.copy_refusal-n.ensures c.eq.ensures c.if-eq.false c.refuse.ensures
+returns c = copied_refused c.args.s.now c.args.out.now _ c.args.sh c.args.base c.args.rights.0 c.args.h _ _ c.copy_refusal-n.ensures refl (ne_eqb _ _ c.if-n-eq0.false) c.refuse.ensures

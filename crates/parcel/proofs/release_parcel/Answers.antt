@@ -1,9 +1,11 @@
+use Rattle.std.proofs.Common.{eq-eqb, ne_eqb}
+use mathlib.Core.Path.{refl}
 use Rattle.answer.specs.Code.{on_row_none, on_row_done}
 use borrow.Author.Rules.{rules}
 use Rattle.parcel.proofs.release_parcel.Goals as goal
 
-pub returns-then-eq : goal.returns-then-eq
-returns-then-eq c = on_row_none _ c.args.s.now c.args.out.now _ c.args.base _ _ _ c.parcel_of-link.ensures c.eq.ensures c.if-eq.true c.refuse.ensures
+pub returns-then-link-eq0 : goal.returns-then-link-eq0
+returns-then-link-eq0 c = on_row_none _ c.args.s.now c.args.out.now _ c.args.base _ _ _ c.parcel_of-link.ensures refl (eq-eqb _ _ c.if-link-eq0.true) c.refuse.ensures
 
 pub returns : goal.returns
-returns c = on_row_done _ c.args.s.now c.args.out.now _ c.args.base _ _ _ c.parcel_of-link.ensures c.eq.ensures _ _ c.if-eq.false c.dec.ensures c.release_row.ensures.words c.say.ensures
+returns c = on_row_done _ c.args.s.now c.args.out.now _ c.args.base _ _ _ c.parcel_of-link.ensures refl _ _ (ne_eqb _ _ c.if-link-eq0.false) c.saturating_sub.ensures c.release_row.ensures.words c.say.ensures

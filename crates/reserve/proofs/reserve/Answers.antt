@@ -1,16 +1,20 @@
+use Rattle.std.proofs.Common.{eq-eqb, ne_eqb}
+use Rattle.std.proofs.Common.{ap}
+use Rattle.std.specs.Prelude.{not}
+use mathlib.Core.Path.{refl}
 use borrow.Author.Rules.{rules}
 use Rattle.reserve.specs.Ops.{open_r, reserve_r}
 use Rattle.reserve.specs.ReserveCode.{room_wrong, room_over, room_done}
 use Rattle.reserve.proofs.reserve.Goals as goal
 
-pub returns-then-ne : goal.returns-then-ne
+pub returns-then-wrong-ne0 : goal.returns-then-wrong-ne0
 unfolding reserve_r
-returns-then-ne c = room_wrong c.args.s.now c.args.out.now c.args.sh c.args.base c.args.b c.args.n (open_r c.args.s.now c.args.out.now c.args.sh c.args.base c.args.b c.args.n) _ c.batch_refusal-wrong.ensures _ c.ne.ensures _ c.if-ne.true c.refuse.ensures
+returns-then-wrong-ne0 c = room_wrong c.args.s.now c.args.out.now c.args.sh c.args.base c.args.b c.args.n (open_r c.args.s.now c.args.out.now c.args.sh c.args.base c.args.b c.args.n) _ c.batch_refusal-wrong.ensures _ refl _ (ap not (ne_eqb _ _ c.if-wrong-ne0.true)) c.refuse.ensures
 
-pub returns-then-ne-2 : goal.returns-then-ne-2
+pub returns-then-full-ne0 : goal.returns-then-full-ne0
 unfolding reserve_r
-returns-then-ne-2 c = room_over c.args.s.now c.args.out.now c.args.sh c.args.base c.args.b c.args.n (open_r c.args.s.now c.args.out.now c.args.sh c.args.base c.args.b c.args.n) _ c.batch_refusal-wrong.ensures _ c.ne.ensures c.if-ne.false _ _ c.pages_needed-p.ensures c.room_refusal-full.ensures _ c.ne-2.ensures _ c.if-ne-2.true c.refuse-then-ne-2.ensures
+returns-then-full-ne0 c = room_over c.args.s.now c.args.out.now c.args.sh c.args.base c.args.b c.args.n (open_r c.args.s.now c.args.out.now c.args.sh c.args.base c.args.b c.args.n) _ c.batch_refusal-wrong.ensures _ refl (ap not (eq-eqb _ _ c.if-wrong-ne0.false)) _ _ c.pages_needed-p.ensures c.room_refusal-full.ensures _ refl _ (ap not (ne_eqb _ _ c.if-full-ne0.true)) c.refuse-then-full-ne0.ensures
 
 pub returns : goal.returns
 unfolding reserve_r
-returns c = room_done c.args.s.now c.args.out.now c.args.sh c.args.base c.args.b c.args.n (open_r c.args.s.now c.args.out.now c.args.sh c.args.base c.args.b c.args.n) _ c.batch_refusal-wrong.ensures _ c.ne.ensures c.if-ne.false _ _ c.pages_needed-p.ensures c.room_refusal-full.ensures _ c.ne-2.ensures _ c.if-ne-2.false c.reserve_slots.ensures
+returns c = room_done c.args.s.now c.args.out.now c.args.sh c.args.base c.args.b c.args.n (open_r c.args.s.now c.args.out.now c.args.sh c.args.base c.args.b c.args.n) _ c.batch_refusal-wrong.ensures _ refl (ap not (eq-eqb _ _ c.if-wrong-ne0.false)) _ _ c.pages_needed-p.ensures c.room_refusal-full.ensures _ refl _ (ap not (eq-eqb _ _ c.if-full-ne0.false)) c.reserve_slots.ensures

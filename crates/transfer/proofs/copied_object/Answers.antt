@@ -12,7 +12,7 @@ pub returns-in-Busy : goal.returns-in-Busy
 returns-in-Busy c = link_view (load c.args.s.now c.args.sh) c.args.b c.args.q _ c.copies.ensures _ Busy _ c.if-copies.true c.find_handle.ensures c.in-Busy.is refl
 
 pub returns-in-Holds : goal.returns-in-Holds
-returns-in-Holds c = link_view (load c.args.s.now c.args.sh) c.args.b c.args.q _ c.copies.ensures _ _ _ c.if-copies.true c.find_handle.ensures c.in-Holds.is c.inc.ensures
+returns-in-Holds c = link_view (load c.args.s.now c.args.sh) c.args.b c.args.q _ c.copies.ensures _ _ _ c.if-copies.true c.find_handle.ensures c.in-Holds.is c.saturating_add.ensures
 
 pub returns : goal.returns
 returns c = link_moves (load c.args.s.now c.args.sh) c.args.b c.args.q _ c.copies.ensures c.if-copies.false
