@@ -295,6 +295,7 @@ fn fields_end(rq: &[u64], at: usize, map: u64, first: u64) -> Option<usize>
 }
 
 // "Bit 0 .. always stands"; "field missing, extra".
+#[tactic(auto, unfolding(crate::specs::Place::good_map))]
 fn map_ok(map: u64, must: u64, allowed: u64) -> bool
     ensures { result ≡ good_map map must allowed }
 {
