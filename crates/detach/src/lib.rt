@@ -17,18 +17,18 @@ ghost use Rattle.detach.specs.Ops.{unlink_page_w, join_detached_w, detach_w, fir
 use head::TableHead;
 use layout::{Shape, field, size, value};
 
-// Slot j of the frame fr, which is vacant, leaves the free order of the table of a head, wherever it stands in it: the head then. Its own words stay.
-fn unlink_slot(s: &mut [u64], sh: Shape, h: TableHead, fr: u64, j: u64) -> TableHead
-    ensures words { s.new ≡ without_w s.old sh h fr j }
-    ensures head { result ≡ without_by (loadAt s.old sh) h fr j }
+// Slot j of the frame fr, which is vacant, leaves the free order of the table of a head, wherever it stands in it. Its own words stay.
+fn unlink_slot(s: &mut [u64], sh: Shape, h: &mut TableHead, fr: u64, j: u64)
+    ensures words { s.new ≡ without_w s.old sh h.old fr j }
+    ensures head { h.new ≡ without_by (loadAt s.old sh) h.old fr j }
 {
     let n = storage::frame_word(s, sh, fr, j, field::SLOT_NEXT_FREE);
     let q = storage::frame_word(s, sh, fr, j, field::SLOT_PREVIOUS_FREE);
-    let qf = storage::link_frame(s, sh, h, q);
-    let nf = storage::link_frame(s, sh, h, n);
+    let qf = storage::link_frame(s, sh, *h, q);
+    let nf = storage::link_frame(s, sh, *h, n);
     storage::put_slot_link(s, sh, qf, q, field::SLOT_NEXT_FREE, n);
     storage::put_slot_link(s, sh, nf, n, field::SLOT_PREVIOUS_FREE, q);
-    head::take_local(h, storage::head_after(q, n, h.first_free))
+    h.take(storage::head_after(q, n, h.first_free));
 }
 
 // The slots of page p, all vacant, leave the free order. They stand in one frame, and the head's words are stored last.
@@ -40,7 +40,7 @@ fn unlink_page(s: &mut [u64], sh: Shape, b: u64, p: u64)
     let fr = storage::frame_link(s, sh, b, first);
     let mut h = head::load(s, sh, b);
     for j in 0..n {
-        h = unlink_slot(s, sh, h, fr, j);
+        unlink_slot(s, sh, &mut h, fr, j);
     }
     head::store_free(s, sh, b, h);
 }
@@ -49,14 +49,15 @@ fn unlink_page(s: &mut [u64], sh: Shape, b: u64, p: u64)
 fn join_detached(s: &mut [u64], sh: Shape, b: u64, p: u64)
     ensures words { s.new ≡ join_detached_w (leave_w s.old sh b p) sh b p }
 {
-    let h = head::load(s, sh, b);
+    let mut h = head::load(s, sh, b);
     let e = h.entry;
+    let d = h.first_detached;
     let x = storage::leave_order(s, sh, e, p, h.first_empty);
-    let t = head::empty_local(h, x);
-    let u = head::detach_local(t, p.saturating_add(1));
+    h.empty(x);
+    h.detach(p.saturating_add(1));
     storage::put_page(s, sh, e, p, field::ENTRY_FRAME, 0);
-    storage::put_page(s, sh, e, p, field::ENTRY_NEXT, h.first_detached);
-    head::store_detached(s, sh, b, u);
+    storage::put_page(s, sh, e, p, field::ENTRY_NEXT, d);
+    head::store_detached(s, sh, b, h);
 }
 
 // Page p, which is empty, is detached and its frame given back.

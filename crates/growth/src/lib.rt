@@ -91,9 +91,7 @@ fn put_entry(s: &mut [u64], sh: Shape, e: u64, p: u64, f: u64, g: u64)
 fn attached_head(h: TableHead, p: u64, d: u64) -> TableHead
     ensures { result ≡ empty_by (drawn_by (attached_by h p) d) (up p) }
 {
-    let t = head::attach_local(h, p);
-    let u = head::draw_local(t, d);
-    head::empty_local(u, p.saturating_add(1))
+    h.attached(p).drawn(d).emptied(p.saturating_add(1))
 }
 
 // Page p of table b stands in frame f, but for the frame's owner.
@@ -283,9 +281,9 @@ fn attach_in(s: &mut [u64], sh: Shape, b: u64, x: u64, n: u64)
 pub fn advance_epoch(s: &mut [u64], sh: Shape, b: u64)
     ensures words { s.new ≡ advance_w s.old sh b }
 {
-    let h = head::load(s, sh, b);
-    let t = head::age_local(h, head::next_epoch(h.epoch));
-    head::store_epoch(s, sh, b, t);
+    let mut h = head::load(s, sh, b);
+    h.age(head::next_epoch(h.epoch));
+    head::store_epoch(s, sh, b, h);
 }
 
 // It does so once where n pages were attached, and not for none.

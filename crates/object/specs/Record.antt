@@ -8,7 +8,7 @@ use Rattle.layout.specs.Values.{stage_active, stage_retired}
 
 -- another stage and count
 abbrev pub with_count : ObjectRecord → ℕ → ℕ → ObjectRecord
-with_count x g n = record { koid = x.koid; kind = x.kind; class = x.class; supported = x.supported; exportable = x.exportable; stage = g; count = n; limit = x.limit }
+with_count x g n = record x { stage = g; count = n }
 
 -- activation: "else count 1"
 abbrev pub activated_by : ObjectRecord → ObjectRecord
@@ -34,6 +34,10 @@ no_record = record { koid = record { 0 = 0 }; kind = 0; class = 0; supported = 0
 -- what a step makes of record i of a list; nothing past its end
 abbrev pub list_by : (ObjectRecord → ObjectRecord) → List ObjectRecord → ℕ → List ObjectRecord
 list_by f xs i = pick (ltb i (length xs)) (set xs i (f (get_or xs i no_record))) xs
+
+-- so for a step of which only its contract is known, a relation of the record before and after
+abbrev pub Stepped : (ObjectRecord → ObjectRecord → Type 0) → List ObjectRecord → List ObjectRecord → ℕ → Type 0
+Stepped P xs ys i = (f : ObjectRecord → ObjectRecord) → ((x y : ObjectRecord) → P x y → y ≡ f x) → ys ≡ list_by f xs i
 
 -- what it answers; 0 past the end
 abbrev pub answer_by : (ObjectRecord → ℕ) → List ObjectRecord → ℕ → ℕ

@@ -3,10 +3,12 @@
 
 ghost use Rattle.std.specs.Prelude.{◌≡◌};
 ghost use Rattle.layout.specs.Layout.{load as loadAt, writes};
-ghost use Rattle.object.specs.Record.{no_record, with_count, activated_by, raised_by, lowered_by, retired_by, count_in, list_by, answer_by};
-ghost use Rattle.object.specs.Words.{record_at, standing_at, record_p, activate_w, raise_w, lower_w, retire_w, raise_refusal};
+ghost use Rattle.format.specs.Refusals.{number_of};
+ghost use Rattle.object.specs.Record.{no_record, activated_by, raised_by, lowered_by, retired_by, count_in, list_by, answer_by, Stepped};
+ghost use Rattle.object.specs.Words.{record_at, standing_at, record_p, activate_w, raise_w, lower_w, retire_w, raise_refusal, WordsStepped};
 
 use codec::Koid;
+use format::refusal::Refusal;
 use layout::{Shape, field, value};
 
 // "Objects: koid, kind, class, supported rights, exportable or not, state, active count, limit".
@@ -38,199 +40,136 @@ fn no_record() -> ObjectRecord
     }
 }
 
-// The record with another stage and count.
-fn with_count(x: ObjectRecord, stage: u64, count: u64) -> ObjectRecord
-    ensures { result ≡ with_count x stage count }
-{
-    let koid = x.koid;
-    ObjectRecord {
-        koid: koid,
-        kind: x.kind,
-        class: x.class,
-        supported: x.supported,
-        exportable: x.exportable,
-        stage: stage,
-        count: count,
-        limit: x.limit,
+// The steps by value.
+impl ObjectRecord {
+    // Activation: "else count 1".
+    pub fn activated(self) -> ObjectRecord
+        ensures { result ≡ activated_by self }
+    {
+        ObjectRecord {
+            stage: value::STAGE_ACTIVE,
+            count: 1,
+            ..self
+        }
+    }
+
+    // One handle more.
+    pub fn raised(self) -> ObjectRecord
+        ensures { result ≡ raised_by self }
+    {
+        ObjectRecord {
+            count: self.count.saturating_add(1),
+            ..self
+        }
+    }
+
+    // One handle fewer: "Falling to count 0 retires the object".
+    pub fn lowered(self) -> ObjectRecord
+        ensures { result ≡ lowered_by self }
+    {
+        if 1 < self.count {
+            ObjectRecord {
+                count: self.count - 1,
+                ..self
+            }
+        } else {
+            ObjectRecord {
+                stage: value::STAGE_RETIRED,
+                count: 0,
+                ..self
+            }
+        }
+    }
+
+    // "Its owner may retire it by a request accepted in any state".
+    pub fn retired(self) -> ObjectRecord
+        ensures { result ≡ retired_by self }
+    {
+        ObjectRecord {
+            stage: value::STAGE_RETIRED,
+            ..self
+        }
     }
 }
 
-// Activation: "else count 1".
-pub fn activated(x: ObjectRecord) -> ObjectRecord
-    ensures { result ≡ activated_by x }
-{
-    with_count(x, value::STAGE_ACTIVE, 1)
-}
+// ---- a lent list
 
-// One handle more.
-pub fn raised(x: ObjectRecord) -> ObjectRecord
-    ensures { result ≡ raised_by x }
+// Does a step on record i and answers the count that it had; 0 past the end.
+fn step<F: FnOnce(ObjectRecord) -> ObjectRecord>(
+    objects: &mut [ObjectRecord],
+    i: usize,
+    f: F,
+) -> u64
+    requires { F.IsAlwaysCallable f }
+    ensures answer { result ≡ answer_by count_in objects.old i }
+    ensures record { Stepped (F.post f) objects.old objects.new i }
 {
-    let c = x.count;
-    with_count(x, x.stage, words::inc(c))
-}
-
-// One handle fewer: "Falling to count 0 retires the object".
-pub fn lowered(x: ObjectRecord) -> ObjectRecord
-    ensures { result ≡ lowered_by x }
-{
-    let c = x.count;
-    if 1 < c {
-        with_count(x, x.stage, c - 1)
+    if i < objects.len() {
+        let o = objects[i];
+        objects[i] = f(o);
+        o.count
     } else {
-        with_count(x, value::STAGE_RETIRED, 0)
+        0
     }
-}
-
-// "Its owner may retire it by a request accepted in any state".
-pub fn retired(x: ObjectRecord) -> ObjectRecord
-    ensures { result ≡ retired_by x }
-{
-    with_count(x, value::STAGE_RETIRED, x.count)
-}
-
-// The count that a record has.
-pub fn count_of(x: ObjectRecord) -> u64
-    ensures { result ≡ count_in x }
-{
-    x.count
 }
 
 // Activates record i and answers the count that it had; 0 past the end.
 pub fn activate(objects: &mut [ObjectRecord], i: usize) -> u64
     ensures { (result ≡ answer_by count_in objects.old i) × (objects.new ≡ list_by activated_by objects.old i) }
 {
-    if i < objects.len() {
-        let o = objects[i];
-        objects[i] = activated(o);
-        count_of(o)
-    } else {
-        0
-    }
+    step(objects, i, ObjectRecord::activated)
 }
 
 // Raises record i and answers the count that it had; 0 past the end.
 pub fn raise(objects: &mut [ObjectRecord], i: usize) -> u64
     ensures { (result ≡ answer_by count_in objects.old i) × (objects.new ≡ list_by raised_by objects.old i) }
 {
-    if i < objects.len() {
-        let o = objects[i];
-        objects[i] = raised(o);
-        count_of(o)
-    } else {
-        0
-    }
+    step(objects, i, ObjectRecord::raised)
 }
 
 // Lowers record i and answers the count that it had; 0 past the end.
 pub fn lower(objects: &mut [ObjectRecord], i: usize) -> u64
     ensures { (result ≡ answer_by count_in objects.old i) × (objects.new ≡ list_by lowered_by objects.old i) }
 {
-    if i < objects.len() {
-        let o = objects[i];
-        objects[i] = lowered(o);
-        count_of(o)
-    } else {
-        0
-    }
+    step(objects, i, ObjectRecord::lowered)
 }
 
 // Retires record i and answers the count that it had; 0 past the end.
 pub fn retire(objects: &mut [ObjectRecord], i: usize) -> u64
     ensures { (result ≡ answer_by count_in objects.old i) × (objects.new ≡ list_by retired_by objects.old i) }
 {
-    if i < objects.len() {
-        let o = objects[i];
-        objects[i] = retired(o);
-        count_of(o)
-    } else {
-        0
-    }
+    step(objects, i, ObjectRecord::retired)
 }
 
-// A record after a step, and the step's answer.
-#[derive(Clone, Copy)]
-pub struct RecordStep {
-    pub object: ObjectRecord,
-    pub answer: u64,
-}
-
-// Each step on a list of one record.
-pub fn activate_local(o: ObjectRecord) -> RecordStep
-    ensures { (result.answer ≡ count_in o) × (result.object ≡ activated_by o) }
-{
-    let mut a = [o];
-    let answer = activate(&mut a, 0);
-    RecordStep {
-        object: a[0],
-        answer: answer,
-    }
-}
-
-pub fn raise_local(o: ObjectRecord) -> RecordStep
-    ensures { (result.answer ≡ count_in o) × (result.object ≡ raised_by o) }
-{
-    let mut a = [o];
-    let answer = raise(&mut a, 0);
-    RecordStep {
-        object: a[0],
-        answer: answer,
-    }
-}
-
-pub fn lower_local(o: ObjectRecord) -> RecordStep
-    ensures { (result.answer ≡ count_in o) × (result.object ≡ lowered_by o) }
-{
-    let mut a = [o];
-    let answer = lower(&mut a, 0);
-    RecordStep {
-        object: a[0],
-        answer: answer,
-    }
-}
-
-pub fn retire_local(o: ObjectRecord) -> RecordStep
-    ensures { (result.answer ≡ count_in o) × (result.object ≡ retired_by o) }
-{
-    let mut a = [o];
-    let answer = retire(&mut a, 0);
-    RecordStep {
-        object: a[0],
-        answer: answer,
-    }
-}
+// ---- over the state's words
 
 // The record of object o.
+#[tactic(auto, unfolding(crate::specs::Words::record_at))]
 pub fn read_object(s: &[u64], sh: Shape, o: u64) -> ObjectRecord
     ensures { result ≡ record_at (loadAt s.now sh) o }
 {
-    let koid = layout::object_word(s, sh, o, field::OBJECT_KOID);
-    let kind = layout::object_word(s, sh, o, field::OBJECT_KIND);
-    let class = layout::object_word(s, sh, o, field::OBJECT_CLASS);
-    let supported = layout::object_word(s, sh, o, field::OBJECT_SUPPORTED);
-    let exportable = layout::object_word(s, sh, o, field::OBJECT_EXPORTABLE);
-    let stage = layout::object_word(s, sh, o, field::OBJECT_STAGE);
-    let count = layout::object_word(s, sh, o, field::OBJECT_ACTIVE);
-    let limit = layout::object_word(s, sh, o, field::OBJECT_LIMIT);
     ObjectRecord {
-        koid: Koid(koid),
-        kind: kind,
-        class: class,
-        supported: supported,
-        exportable: exportable,
-        stage: stage,
-        count: count,
-        limit: limit,
+        koid: Koid(layout::object_word(s, sh, o, field::OBJECT_KOID)),
+        kind: layout::object_word(s, sh, o, field::OBJECT_KIND),
+        class: layout::object_word(s, sh, o, field::OBJECT_CLASS),
+        supported: layout::object_word(s, sh, o, field::OBJECT_SUPPORTED),
+        exportable: layout::object_word(s, sh, o, field::OBJECT_EXPORTABLE),
+        stage: layout::object_word(s, sh, o, field::OBJECT_STAGE),
+        count: layout::object_word(s, sh, o, field::OBJECT_ACTIVE),
+        limit: layout::object_word(s, sh, o, field::OBJECT_LIMIT),
     }
 }
 
 // What a step reads of object o, its stage and its count, in the record of no object: the words that no step looks at are not loaded.
+#[tactic(auto, unfolding(crate::specs::Words::standing_at))]
 fn standing_of(s: &[u64], sh: Shape, o: u64) -> ObjectRecord
     ensures { result ≡ standing_at (loadAt s.now sh) o }
 {
-    let stage = layout::object_word(s, sh, o, field::OBJECT_STAGE);
-    let count = layout::object_word(s, sh, o, field::OBJECT_ACTIVE);
-    with_count(no_record(), stage, count)
+    ObjectRecord {
+        stage: layout::object_word(s, sh, o, field::OBJECT_STAGE),
+        count: layout::object_word(s, sh, o, field::OBJECT_ACTIVE),
+        ..no_record()
+    }
 }
 
 // Stores what a step changes: the stage and the count.
@@ -241,58 +180,57 @@ fn write_object(s: &mut [u64], sh: Shape, o: u64, x: ObjectRecord)
     layout::put_object(s, sh, o, field::OBJECT_ACTIVE, x.count);
 }
 
+// Does a step on object o.
+fn step_object<F: FnOnce(ObjectRecord) -> ObjectRecord>(s: &mut [u64], sh: Shape, o: u64, f: F)
+    requires { F.IsAlwaysCallable f }
+    ensures { WordsStepped (F.post f) s.old s.new sh o }
+{
+    let mut objects = [standing_of(s, sh, o)];
+    step(&mut objects, 0, f);
+    write_object(s, sh, o, objects[0]);
+}
+
 // Object o is active and has its first handle.
 pub fn activate_object(s: &mut [u64], sh: Shape, o: u64)
     ensures words { s.new ≡ activate_w s.old sh o }
 {
-    let x = standing_of(s, sh, o);
-    let step = activate_local(x);
-    let y = step.object;
-    write_object(s, sh, o, y);
+    step_object(s, sh, o, ObjectRecord::activated);
 }
 
 // Object o has one handle more.
 pub fn raise_object(s: &mut [u64], sh: Shape, o: u64)
     ensures words { s.new ≡ raise_w s.old sh o }
 {
-    let x = standing_of(s, sh, o);
-    let step = raise_local(x);
-    let y = step.object;
-    write_object(s, sh, o, y);
+    step_object(s, sh, o, ObjectRecord::raised);
 }
 
 // Object o has one handle fewer.
 pub fn lower_object(s: &mut [u64], sh: Shape, o: u64)
     ensures words { s.new ≡ lower_w s.old sh o }
 {
-    let x = standing_of(s, sh, o);
-    let step = lower_local(x);
-    let y = step.object;
-    write_object(s, sh, o, y);
+    step_object(s, sh, o, ObjectRecord::lowered);
 }
 
 // Object o is retired by its owner.
 pub fn retire_object(s: &mut [u64], sh: Shape, o: u64)
     ensures words { s.new ≡ retire_w s.old sh o }
 {
-    let x = standing_of(s, sh, o);
-    let step = retire_local(x);
-    let y = step.object;
-    write_object(s, sh, o, y);
+    step_object(s, sh, o, ObjectRecord::retired);
 }
 
-// "9, 11" of a copy: object o gets no handle more; 0 where it can.
-pub fn raise_refusal(s: &[u64], sh: Shape, o: u64) -> u64
-    ensures { result ≡ raise_refusal (loadAt s.now sh) o }
+// "9, 11" of a copy: whether object o can get one handle more.
+#[tactic(auto, unfolding(crate::specs::Words::raise_refusal, crate::specs::Words::record_at))]
+pub fn may_raise(s: &[u64], sh: Shape, o: u64) -> Result<(), Refusal>
+    ensures { number_of result ≡ raise_refusal (loadAt s.now sh) o }
 {
     let stage = layout::object_word(s, sh, o, field::OBJECT_STAGE);
-    if words::eq(stage, value::STAGE_RETIRED) {
-        return format::refusal::OBJECT_RETIRED;
+    if stage == value::STAGE_RETIRED {
+        return Err(Refusal::ObjectRetired);
     }
     let count = layout::object_word(s, sh, o, field::OBJECT_ACTIVE);
     let limit = layout::object_word(s, sh, o, field::OBJECT_LIMIT);
-    if words::eq(count, limit) {
-        return format::refusal::ACTIVE_HANDLE_LIMIT;
+    if count == limit {
+        return Err(Refusal::ActiveHandleLimit);
     }
-    format::refusal::DONE
+    Ok(())
 }

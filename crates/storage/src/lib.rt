@@ -165,10 +165,10 @@ pub fn link_page(s: &mut [u64], sh: Shape, e: u64, p: u64, x: u64)
     put_page(s, sh, e, p, field::ENTRY_PREVIOUS, 0);
 }
 
-// A busy slot of page p fell vacant with the generation g: the head then, where a page with none is the first of the empty pages' order.
-fn lower_busy(s: &mut [u64], sh: Shape, h: TableHead, p: u64, g: u64) -> TableHead
-    ensures words { s.new ≡ fewer_w s.old sh h p g }
-    ensures head { result ≡ fewer_by (loadAt s.old sh) h p }
+// A busy slot of page p fell vacant with the generation g. In the head a page with none is the first of the empty pages' order.
+fn lower_busy(s: &mut [u64], sh: Shape, h: &mut TableHead, p: u64, g: u64)
+    ensures words { s.new ≡ fewer_w s.old sh h.old p g }
+    ensures head { h.new ≡ fewer_by (loadAt s.old sh) h.old p }
 {
     let e = h.entry;
     let w = page_word(s, sh, e, p, field::ENTRY_BUSY);
@@ -176,16 +176,15 @@ fn lower_busy(s: &mut [u64], sh: Shape, h: TableHead, p: u64, g: u64) -> TableHe
     mark_page(s, sh, e, p, g, n);
     if n == 0 {
         link_page(s, sh, e, p, h.first_empty);
-        return head::empty_local(h, p.saturating_add(1));
+        h.empty(p.saturating_add(1));
     }
-    h
 }
 
 // Slot k falls vacant: its generation advances and it goes to the head of the free order.
 pub fn vacate(s: &mut [u64], sh: Shape, b: u64, k: u64)
     ensures words { s.new ≡ vacate_w s.old sh b k }
 {
-    let h = head::load(s, sh, b);
+    let mut h = head::load(s, sh, b);
     let x = h.first_free;
     let fr = frame_of(s, sh, h, k);
     let xf = link_frame(s, sh, h, x);
@@ -197,9 +196,9 @@ pub fn vacate(s: &mut [u64], sh: Shape, b: u64, k: u64)
         field::SLOT_GENERATION,
     ));
     publish_vacant_slot(s, sh, fr, k, g, xf, x);
-    let t = head::free_local(h, k.saturating_add(1));
-    let u = lower_busy(s, sh, t, k / size::PAGE_SIZE, g);
-    head::store_orders(s, sh, b, u);
+    h.free(k.saturating_add(1));
+    lower_busy(s, sh, &mut h, k / size::PAGE_SIZE, g);
+    head::store_orders(s, sh, b, h);
 }
 
 // The head of an order after a slot or a page left it: its next, if it was the first.
@@ -221,10 +220,10 @@ pub fn leave_order(s: &mut [u64], sh: Shape, e: u64, p: u64, x: u64) -> u64
     head_after(q, n, x)
 }
 
-// A slot of page p with the generation g got busy: the head then, where the page is not empty any more.
-fn raise_busy(s: &mut [u64], sh: Shape, h: TableHead, p: u64, g: u64) -> TableHead
-    ensures words { s.new ≡ more_w s.old sh h p g }
-    ensures head { result ≡ more_by s.old sh h p g }
+// A slot of page p with the generation g got busy. In the head the page is not among the empty ones any more.
+fn raise_busy(s: &mut [u64], sh: Shape, h: &mut TableHead, p: u64, g: u64)
+    ensures words { s.new ≡ more_w s.old sh h.old p g }
+    ensures head { h.new ≡ more_by s.old sh h.old p g }
 {
     let e = h.entry;
     let n = page_word(s, sh, e, p, field::ENTRY_BUSY);
@@ -232,9 +231,8 @@ fn raise_busy(s: &mut [u64], sh: Shape, h: TableHead, p: u64, g: u64) -> TableHe
     mark_page(s, sh, e, p, g, c);
     if n == 0 {
         let x = leave_order(s, sh, e, p, h.first_empty);
-        return head::empty_local(h, x);
+        h.empty(x);
     }
-    h
 }
 
 // Slot k, the head of the free order, in the frame fr, is Reserved by position j of the row in place r; the slot of the link n, in the frame nf, comes first then.
@@ -259,16 +257,16 @@ pub fn take_free(s: &mut [u64], sh: Shape, b: u64, r: u64, j: u64) -> u64
     ensures slot { result ≡ seen s.old sh b (hd head_first_free) - 1 }
     ensures words { s.new ≡ take_w s.old sh b result r j }
 {
-    let h = head::load(s, sh, b);
+    let mut h = head::load(s, sh, b);
     let k = h.first_free.saturating_sub(1);
     let fr = frame_of(s, sh, h, k);
     let g = frame_word(s, sh, fr, k % size::PAGE_SIZE, field::SLOT_GENERATION);
     let n = frame_word(s, sh, fr, k % size::PAGE_SIZE, field::SLOT_NEXT_FREE);
     let nf = link_frame(s, sh, h, n);
     reserve_free_slot(s, sh, fr, k, nf, n, r, j);
-    let t = head::take_local(h, n);
-    let u = raise_busy(s, sh, t, k / size::PAGE_SIZE, g);
-    head::store_orders(s, sh, b, u);
+    h.take(n);
+    raise_busy(s, sh, &mut h, k / size::PAGE_SIZE, g);
+    head::store_orders(s, sh, b, h);
     k
 }
 

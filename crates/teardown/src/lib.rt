@@ -55,18 +55,18 @@ fn remove_slot(s: &mut [u64], sh: Shape, b: u64, k: u64)
 fn put_tearing(s: &mut [u64], sh: Shape, b: u64, cursor: u64)
     ensures { s.new ≡ life_w s.old sh b life_tearing_down cursor }
 {
-    let h = head::load(s, sh, b);
-    let t = head::tear_local(h, cursor);
-    head::store_life(s, sh, b, t);
+    let mut h = head::load(s, sh, b);
+    h.tear(cursor);
+    head::store_life(s, sh, b, h);
 }
 
 // Table b is retired.
 fn put_retired(s: &mut [u64], sh: Shape, b: u64)
     ensures { s.new ≡ life_w s.old sh b life_retired 0 }
 {
-    let h = head::load(s, sh, b);
-    let t = head::retire_local(h, 0);
-    head::store_life(s, sh, b, t);
+    let mut h = head::load(s, sh, b);
+    h.retire(0);
+    head::store_life(s, sh, b, h);
 }
 
 // The rest of `remove_stopping_owner`, on an active table.

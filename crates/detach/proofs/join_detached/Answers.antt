@@ -3,4 +3,4 @@ use borrow.Author.Rules.{rules}
 use Rattle.detach.proofs.join_detached.Goals as goal
 
 pub returns : goal.returns
-returns c = record { words = join_is c.args.s.now c.args.sh c.args.b c.args.p _ _ _ _ _ _ _ _ _ c.load-h.ensures c.leave_order-x.ensures.words c.leave_order-x.ensures.first c.empty_local-t.ensures c.saturating_add.ensures c.detach_local-u.ensures c.put_page.ensures c.put_page-2.ensures c.store_detached.ensures }
+returns c = record { words = join_is c.args.s.now c.args.sh c.args.b c.args.p _ _ _ _ _ _ _ _ _ c.load-h.ensures c.leave_order-x.ensures.words c.leave_order-x.ensures.first c.empty.ensures c.saturating_add.ensures c.detach.ensures c.put_page.ensures c.put_page-2.ensures c.store_detached.ensures }

@@ -1,9 +1,8 @@
+use Rattle.std.proofs.Common.{refl}
 use Rattle.object.specs.Record.{retired_by}
-use Rattle.object.specs.Words.{record_at, standing_at, step_is}
-use mathlib.Core.Path.{refl}
-use borrow.Author.Rules.{rules}
+use Rattle.object.specs.Words.{record_at, standing_at}
 use Rattle.object.proofs.retire_object.Goals as goal
 
 pub returns : goal.returns
 unfolding record_at standing_at
-returns c = record { words = step_is retired_by c.args.s.now c.args.sh c.args.o _ _ _ refl c.standing_of-x.ensures c.retire_local-step.ensures.1 c.write_object.ensures }
+returns c = record { words = c.step_object.ensures retired_by (λ x y p. p.1) refl }

@@ -2,4 +2,4 @@ use Rattle.storage.proofs.Last.{take_is, free_first}
 use Rattle.storage.proofs.take_free.Goals as goal
 
 pub returns : goal.returns
-returns c = record { slot = free_first c.args.s.now c.args.sh c.args.b _ _ c.load-h.ensures c.saturating_sub-k.ensures; words = take_is c.args.s.now c.args.sh c.args.b _ c.args.r c.args.j _ _ _ _ _ _ _ _ _ _ c.load-h.ensures c.frame_of-fr.ensures c.frame_word-g.ensures c.frame_word-n.ensures c.link_frame-nf.ensures c.reserve_free_slot.ensures c.take_local-t.ensures c.raise_busy-u.ensures.words c.raise_busy-u.ensures.head c.store_orders.ensures }
+returns c = record { slot = free_first c.args.s.now c.args.sh c.args.b _ _ c.load-h.ensures c.saturating_sub-k.ensures; words = take_is c.args.s.now c.args.sh c.args.b _ c.args.r c.args.j _ _ _ _ _ _ _ _ _ _ c.load-h.ensures c.frame_of-fr.ensures c.frame_word-g.ensures c.frame_word-n.ensures c.link_frame-nf.ensures c.reserve_free_slot.ensures c.take.ensures c.raise_busy.ensures.words c.raise_busy.ensures.head c.store_orders.ensures }

@@ -1,4 +1,0 @@
-use Rattle.object.proofs.raised.Goals as goal
-
-pub returns : goal.returns
-returns c = cc
