@@ -4,13 +4,12 @@ use Rattle.std.proofs.Math.Path.{refl, sym, ap}
 use Rattle.std.proofs.Common.{◌∙◌, arith, eq-eqb, ne_eqb}
 use Rattle.std.proofs.Math.Dec.{eqb}
 use Rattle.words.specs.Pick.{pick, yes_is, no_is, pick_has}
-use Rattle.model.specs.State.{last_id}
 use Rattle.layout.specs.declared.Shape.{Shape}
 use Rattle.layout.specs.Layout.{Mem, root, index, rank, row, item, load, save}
 use Rattle.layout.specs.Fields.{root_next_id, root_used_rows, row_id, row_kind, row_table, row_length, item_slot}
 use Rattle.layout.specs.Sizes.{batch_max}
 use Rattle.storage.specs.Ops.{up, vacate_w}
-use Rattle.book.specs.Ops.{id_at, link_from, place_of, used_of, likely_rank, likely_link, row_link, kind_link, row_left, id_refusal, spare, open_p, open_w, shift_w, close_w, vacate_items_w}
+use Rattle.book.specs.Ops.{id_at, link_from, place_of, used_of, likely_rank, likely_link, row_link, kind_link, row_left, spare, open_p, open_w, shift_w, close_w, vacate_items_w}
 
 -- a link and the place that it names
 pub place_is : (l x : ℕ) → place_of l ≡ Some x → l ≡ suc x

@@ -1,5 +1,4 @@
 use Rattle.book.specs.Code.{close_is}
-use borrow.Author.Rules.{rules}
 use Rattle.book.proofs.close_row.Goals as goal
 
 pub returns : goal.returns

@@ -2,7 +2,6 @@ use Rattle.std.proofs.Common.{eq-eqb, ne_eqb, lt-ltb, le-ltb}
 use mathlib.Core.Path.{refl}
 use Rattle.book.specs.Code.{likely_out, likely_yes, likely_no}
 use Rattle.layout.specs.Layout.{load}
-use borrow.Author.Rules.{rules}
 use Rattle.book.proofs.likely_row.Goals as goal
 
 pub returns-then-row_word-id : goal.returns-then-row_word-id

@@ -1,5 +1,4 @@
-use Rattle.std.specs.Prelude.{Some}
-use Rattle.std.proofs.Common.{◌∙◌, ne_eqb, eq-eqb}
+use Rattle.std.proofs.Common.{◌∙◌}
 use Rattle.layout.specs.Layout.{load}
 use Rattle.book.specs.Code.{kind_missing, kind_other, kind_same}
 use Rattle.book.proofs.row_of_kind.Goals as goal

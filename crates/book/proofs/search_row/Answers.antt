@@ -1,10 +1,8 @@
 use Rattle.std.proofs.Common.{eq-eqb, ne_eqb, lt-ltb, le-ltb}
-use Rattle.book.specs.Ops.{link_from}
 use Rattle.book.specs.Code.{link_yes, link_above, link_below, link_end}
 use Rattle.layout.specs.Layout.{load}
 use native.Mathlib.Omega.{arith}
-use Prim.Native.Nat.{◌+◌, ◌≤◌}
-use mathlib.Core.Path.{◌≡◌, refl}
+use mathlib.Core.Path.{refl}
 use Rattle.book.proofs.search_row.Goals as goal
 
 pub loop-n-init : goal.loop-n-init

@@ -1,10 +1,7 @@
 use borrow.Author.Rules.{rules}
-use mathlib.Core.Path.{◌≡◌, refl}
-use Prim.Native.Nat.{◌-◌, ◌≤◌}
+use mathlib.Core.Path.{refl}
 use native.Mathlib.Omega.{arith}
-use lib.ListN.{length}
 use Rattle.book.specs.Code.{vacate_none, vacate_more, vacate_end}
-use Rattle.book.specs.Ops.{vacate_items_w}
 use Rattle.book.proofs.vacate_items.Goals as goal
 
 pub loop-j-init : goal.loop-j-init
