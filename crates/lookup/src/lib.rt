@@ -89,6 +89,7 @@ pub fn handle_at(s: &[u64], sh: Shape, b: u64, k: u64) -> PreparedHandle
 }
 
 // "18 Misuse: .. unknown table"; "16 TableRetired: not active".
+#[tactic(auto, unfolding(crate::specs::View::table_refusal))]
 pub fn active_table(s: &[u64], sh: Shape, b: u64) -> Result<(), Refusal>
     ensures { number_of result ≡ table_refusal (loadAt s.now sh) sh b }
 {
@@ -102,6 +103,7 @@ pub fn active_table(s: &[u64], sh: Shape, b: u64) -> Result<(), Refusal>
 }
 
 // As `storage::frame_link`, for `find_handle` alone: with one caller it is compiled in place, and it reads no more of the table's head than it needs.
+#[tactic(auto, unfolding(model::specs::State::max_slots))]
 fn slot_frame(s: &[u64], sh: Shape, b: u64, k: u64) -> u64
     ensures { result ≡ frame_of (loadAt s.now sh) b k }
 {
@@ -158,6 +160,7 @@ fn open_slot(k: u64, g: u64, w: CellWords) -> Result<PreparedHandle, Refusal>
 }
 
 // What a value names in table b, active or not: a handle, or why there is none.
+#[tactic(auto, unfolding(crate::specs::View::view_of, crate::specs::View::slot_view))]
 pub fn find_handle(s: &[u64], sh: Shape, b: u64, v: HandleValue) -> Result<PreparedHandle, Refusal>
     ensures { result ≡ view_result (view_of (loadAt s.now sh) b v.0) }
 {
@@ -171,6 +174,7 @@ pub fn find_handle(s: &[u64], sh: Shape, b: u64, v: HandleValue) -> Result<Prepa
 }
 
 // The handle that a value names in an active table.
+#[tactic(auto, unfolding(crate::specs::View::open_of))]
 pub fn open_handle(s: &[u64], sh: Shape, b: u64, v: HandleValue) -> Result<PreparedHandle, Refusal>
     ensures { opened result ≡ open_of (loadAt s.now sh) sh b v.0 }
 {
@@ -191,6 +195,7 @@ pub fn info_of(s: &[u64], sh: Shape, h: PreparedHandle) -> HandleInfo
 }
 
 // "`get_info`: 16, 2 or 3".
+#[tactic(auto, unfolding(crate::specs::Read::get_info_r))]
 pub fn get_info(s: &[u64], sh: Shape, b: u64, v: HandleValue) -> Result<HandleInfo, Refusal>
     ensures { Gives s.now (reply info_list result) (λ os base. get_info_r s.now os sh base b v.0) }
 {
@@ -199,6 +204,7 @@ pub fn get_info(s: &[u64], sh: Shape, b: u64, v: HandleValue) -> Result<HandleIn
 }
 
 // The rest of `resolve`, on the handle found.
+#[tactic(auto, unfolding(crate::specs::Read::resolved_r))]
 fn resolve_handle(
     s: &[u64],
     sh: Shape,
@@ -223,6 +229,7 @@ fn resolve_handle(
 }
 
 // "Resolve: 16, 2 or 3, 5, 4".
+#[tactic(auto, unfolding(crate::specs::Read::resolve_r))]
 pub fn resolve(
     s: &[u64],
     sh: Shape,
@@ -238,6 +245,7 @@ pub fn resolve(
 }
 
 // How many slots the pages have that table b has had, detached ones included.
+#[tactic(auto, unfolding(model::specs::State::max_slots))]
 pub fn table_length(s: &[u64], sh: Shape, b: u64) -> u64
     ensures { result ≡ length_at (loadAt s.now sh) b }
 {
@@ -352,6 +360,7 @@ pub fn scan(s: &[u64], sh: Shape, b: u64, cursor: u64) -> SnapshotPage
 }
 
 // Puts an entry's words, from word i of the answer on.
+#[tactic(auto, unfolding(request::specs::Answers::puts))]
 fn put_entry(out: &mut [u64], base: usize, i: usize, x: SnapshotEntry)
     requires { i < answer_words }
     ensures { out.new ≡ puts out.old base i (entry_words x) }
@@ -364,15 +373,18 @@ fn put_entry(out: &mut [u64], base: usize, i: usize, x: SnapshotEntry)
 }
 
 // Puts a page's entries, from word 5 of the answer on.
+#[tactic(auto, unfolding(request::specs::Answers::puts), using(crate::specs::Pages::entries_more))]
 fn put_entries(out: &mut [u64], base: usize, p: SnapshotPage)
     ensures { out.new ≡ puts out.old base 5 (entry_list (take p.len p.entries)) }
 {
-    for (k, entry) in p.entries.iter().take(p.len).enumerate() {
+    let entries = &p.entries[..p.len.min(format::size::SCAN_ENTRIES)];
+    for (k, entry) in entries.iter().enumerate() {
         put_entry(out, base, 5 + k * 5, *entry);
     }
 }
 
 // Answers a page.
+#[tactic(auto, unfolding(request::specs::Answers::puts))]
 fn say_page(out: &mut [u64], base: usize, p: SnapshotPage)
     ensures { out.new ≡ answered out.old base (0 ∷ page_list p) }
 {
@@ -390,6 +402,7 @@ fn say_page(out: &mut [u64], base: usize, p: SnapshotPage)
 }
 
 // "Unknown table, object or row first"; 16; else a page.
+#[tactic(auto, unfolding(crate::specs::Scan::scan_r))]
 pub fn scan_handles(s: &[u64], sh: Shape, b: u64, cursor: u64) -> Result<SnapshotPage, Refusal>
     ensures { Gives s.now (reply page_list result) (λ os base. scan_r s.now os sh base b cursor) }
 {
@@ -398,6 +411,7 @@ pub fn scan_handles(s: &[u64], sh: Shape, b: u64, cursor: u64) -> Result<Snapsho
 }
 
 // The request of a list at a place: its fields are read.
+#[tactic(auto, unfolding(request::specs::Place::three_at))]
 pub fn serve_get_info(s: &mut [u64], sh: Shape, rq: &[u64], at: usize, out: &mut [u64], base: usize)
     ensures { both s.new out.new ≡ get_info_r s.old out.old sh base (field_of rq.now at table_field) (field_of rq.now at value_field) }
 {
@@ -419,6 +433,7 @@ pub fn serve_get_info(s: &mut [u64], sh: Shape, rq: &[u64], at: usize, out: &mut
     }
 }
 
+#[tactic(auto, unfolding(request::specs::Place::three_at))]
 pub fn serve_resolve(s: &mut [u64], sh: Shape, rq: &[u64], at: usize, out: &mut [u64], base: usize)
     ensures { both s.new out.new ≡ resolve_r s.old out.old sh base (field_of rq.now at table_field) (field_of rq.now at value_field) (field_of rq.now at rights_field) (field_of rq.now at kind_field) }
 {
@@ -444,6 +459,7 @@ pub fn serve_resolve(s: &mut [u64], sh: Shape, rq: &[u64], at: usize, out: &mut 
     }
 }
 
+#[tactic(auto, unfolding(request::specs::Place::three_at))]
 pub fn serve_scan_handles(
     s: &mut [u64],
     sh: Shape,
