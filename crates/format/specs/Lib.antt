@@ -2,4 +2,3 @@ pub mod Fields
 pub mod Ops
 pub mod Format
 pub mod Refusals
-pub mod Kinds
