@@ -21,8 +21,8 @@ use Rattle.object.specs.Reps.{lower_held}
 use Rattle.answer.specs.Does.{Both, both, answered, refuse_r, Does, does_refused, does_accepted}
 use Rattle.lookup.specs.declared.PreparedHandle.{PreparedHandle}
 use Rattle.lookup.specs.declared.HandleInfo.{HandleInfo}
-use Rattle.lookup.specs.declared.Opened.{Opened}
-use Rattle.lookup.specs.declared.Opened.TheVariants.{Refused, Handle as Found}
+use Rattle.lookup.specs.View.{Opened}
+use Rattle.lookup.specs.View.{Opened.Refused, Opened.Handle as Found}
 use Rattle.lookup.specs.View.{open_of, handle_of}
 use Rattle.lookup.specs.Named.{Opens, open_refused_is, open_found_is}
 use Rattle.lookup.specs.Read.{on_opened, info_at, info_list, info_is, opened_known}

@@ -7,7 +7,6 @@ use Rattle.std.proofs.Math.Dec.{eqb}
 use borrow.Author.Tests.{lt-ltb, le-ltb}
 use Rattle.words.specs.Pick.{pick, bool, yes_is, no_is}
 use Rattle.codec.specs.declared.Decoded.{Decoded}
-use Rattle.codec.specs.declared.Decoded.TheVariants.{At, Invalid as NoSlot}
 use Rattle.authority.specs.Rights.{contains}
 use Rattle.codec.specs.declared.HandleValue.{HandleValue}
 use Rattle.codec.specs.Codec.{decode_of, encode}
@@ -23,13 +22,10 @@ use Rattle.layout.specs.Sizes.{page_size, pages_max, slots_max}
 use Rattle.representation.specs.Represents.{word_in, frame_of, slot_word}
 use Rattle.storage.specs.Cells.{cell_in, slot_at, cell_some}
 use Rattle.lookup.specs.declared.PreparedHandle.{PreparedHandle}
-use Rattle.lookup.specs.declared.View.{View}
-use Rattle.lookup.specs.declared.View.TheVariants.{Invalid, Busy, Holds}
-use Rattle.lookup.specs.declared.Opened.{Opened}
-use Rattle.lookup.specs.declared.Opened.TheVariants.{Refused, Handle as Found}
+use Rattle.lookup.specs.View.{View.Invalid, Opened, Opened.Refused, Opened.Handle as Found}
 use Rattle.lookup.specs.declared.HandleInfo.{HandleInfo}
 use Rattle.answer.specs.Does.{Both, both, answered, refuse_r}
-use Rattle.lookup.specs.View.{handle_by, handle_at, slot_refusal, slot_view, decoded_view, view_of, table_refusal, view_opened, open_of}
+use Rattle.lookup.specs.View.{handle_by, handle_at, slot_view, decoded_view, view_of, table_refusal, view_opened, open_of}
 use Rattle.lookup.specs.Read.{on_opened, info_at, info_list, get_info_r, resolved_r, resolve_r}
 use Rattle.lookup.specs.declared.SnapshotEntry.{SnapshotEntry}
 use Rattle.lookup.specs.declared.SnapshotPage.{SnapshotPage}
@@ -62,88 +58,18 @@ tag_by m fr j t h e = let z : suc (fr - 1) ≡ fr = omega arith in e ∙ ap (λ 
 pub words_of : (m : Mem) (b k fr : ℕ) (w : CellWords) → fr ≡ frame_of m b k → w ≡ cell_in m fr (k % page_size) → w ≡ slot_at m b k
 words_of m b k fr w e i = i ∙ ap (λ (x : ℕ). cell_in m x (k % page_size)) e
 
--- `open_slot`
-module _ (m : Mem) (b k g : ℕ) (w : CellWords) (n : ℕ) (e : w ≡ slot_at m b k) (d : n ≡ slot_refusal g w) where
-  number : n ≡ slot_refusal g (slot_at m b k)
-  number = d ∙ ap (slot_refusal g) e
-
-  open_by : view_opened (slot_view m b k g) ≡ pick (eqb (slot_refusal g (slot_at m b k)) 0) (Found (handle_at m b k)) (Refused (slot_refusal g (slot_at m b k)))
-  unfolding slot_view
-  open_by = bool (eqb g (slot_word m b k slot_generation))
-      (λ p. bool (eqb (slot_word m b k slot_tag) tag_occupied) (λ q. rw (p, q)) (λ q. bool (eqb (slot_word m b k slot_tag) tag_transfer_reserved) (λ r. rw (p, q, r)) (λ r. rw (p, q, r))))
-      (λ p. rw p)
-
-  module _ (t : Bool) (q : t ≡ eqb n 0) where
-    none : eqb (slot_refusal g (slot_at m b k)) 0 ≡ t
-    none = sym (q ∙ ap (λ (x : ℕ). eqb x 0) number)
-
-    held : (h : PreparedHandle) → h ≡ handle_by k w → h ≡ handle_at m b k
-    held h i = i ∙ ap (handle_by k) e
-
-    pub open_holds : (h : PreparedHandle) → t ≡ true → h ≡ handle_by k w → Found h ≡ view_opened (slot_view m b k g)
-    open_holds h y i = yes_is _ _ _ _ (none ∙ y) (ap Found (held h i)) ∙ sym open_by
-
-    pub open_not : t ≡ false → Refused n ≡ view_opened (slot_view m b k g)
-    open_not z = no_is _ _ _ _ (none ∙ z) (ap Refused number) ∙ sym open_by
-
--- `open_value`
-module _ (m : Mem) (b v mask : ℕ) (d : Decoded) (e : mask ≡ m (head b head_mask)) (q : d ≡ decode_of mask v) where
+-- `find_handle`
+module _ (m : Mem) (b v mask : ℕ) (d : Option Decoded) (e : mask ≡ m (head b head_mask)) (q : d ≡ decode_of mask v) where
   decoded : decode_of (m (head b head_mask)) v ≡ d
   decoded = sym (q ∙ ap (λ (x : ℕ). decode_of x v) e)
 
-  pub view_at : (k g : ℕ) → d ≡ At k g → slot_view m b k g ≡ view_of m b v
+  pub view_at : (x : Decoded) → d ≡ Some x → slot_view m b x.slot x.generation ≡ view_of m b v
   unfolding view_of
-  view_at k g p = sym (ap (decoded_view m b) (decoded ∙ p))
+  view_at x p = sym (ap (decoded_view m b) (decoded ∙ p))
 
-  pub view_at_none : d ≡ NoSlot → Invalid ≡ view_of m b v
+  pub view_at_none : d ≡ None → Invalid ≡ view_of m b v
   unfolding view_of
   view_at_none p = sym (ap (decoded_view m b) (decoded ∙ p))
-
--- `find_handle`: v is the view of which x is the opening
-pub view_found : (v : View) (x : Opened) (h : PreparedHandle) → x ≡ view_opened v → x ≡ Found h → Holds h ≡ v
-view_found Invalid x h e p = apart (cc)
-view_found Busy x h e p = apart (cc)
-view_found (Holds y) x h e p = let z : h ≡ y = cc in ap Holds z
-
-view_refused : (v : View) (x : Opened) (n : ℕ) → x ≡ view_opened v → x ≡ Refused n → pick (eqb n 3) Busy Invalid ≡ v
-view_refused Invalid x n e p = let z : n ≡ 2 = cc in rw z refl
-view_refused Busy x n e p = let z : n ≡ 3 = cc in rw z refl
-view_refused (Holds y) x n e p = apart (cc)
-
-module _ (v : View) (x : Opened) (n : ℕ) (e : x ≡ view_opened v) (p : x ≡ Refused n) (t : Bool) (q : t ≡ eqb n 3) where
-  pub view_busy : t ≡ true → Busy ≡ v
-  view_busy y = yes_is _ _ _ _ (sym q ∙ y) refl ∙ view_refused v x n e p
-
-  pub view_none : t ≡ false → Invalid ≡ v
-  view_none y = no_is _ _ _ _ (sym q ∙ y) refl ∙ view_refused v x n e p
-
--- `table_refusal`
-module _ (m : Mem) (sh : Shape) (b : ℕ) (t : Bool) (e : t ≡ ltb b sh.tables) where
-  pub table_unknown : t ≡ false → 18 ≡ table_refusal m sh b
-  unfolding table_refusal
-  table_unknown n = no_is _ _ _ _ (sym e ∙ n) refl
-
-  module _ (y : t ≡ true) (w : ℕ) (i : w ≡ m (head b head_lifecycle)) (t₂ : Bool) (e₂ : t₂ ≡ eqb w 0) where
-    pub table_active : t₂ ≡ true → 0 ≡ table_refusal m sh b
-    unfolding table_refusal
-    table_active z = yes_is _ _ _ _ (sym e ∙ y) (yes_is _ _ _ _ (ap (λ (x : ℕ). eqb x 0) (sym i) ∙ sym e₂ ∙ z) refl)
-
-    pub table_inactive : t₂ ≡ false → 16 ≡ table_refusal m sh b
-    unfolding table_refusal
-    table_inactive z = yes_is _ _ _ _ (sym e ∙ y) (no_is _ _ _ _ (ap (λ (x : ℕ). eqb x 0) (sym i) ∙ sym e₂ ∙ z) refl)
-
--- `open_handle`
-module _ (m : Mem) (sh : Shape) (b v n : ℕ) (e : n ≡ table_refusal m sh b) (t : Bool) (q : t ≡ eqb n 0) where
-  tested : eqb (table_refusal m sh b) 0 ≡ t
-  tested = sym (q ∙ ap (λ (x : ℕ). eqb x 0) e)
-
-  pub open_refused : t ≡ false → Refused n ≡ open_of m sh b v
-  unfolding open_of
-  open_refused z = no_is _ _ _ _ (tested ∙ z) (ap Refused e)
-
-  pub open_view : (r : Opened) → t ≡ true → r ≡ view_opened (view_of m b v) → r ≡ open_of m sh b v
-  unfolding open_of
-  open_view r z i = yes_is _ _ _ _ (tested ∙ z) i
 
 -- `info_of`
 pub info_by : (m : Mem) (h : PreparedHandle) (o k : ℕ) → o ≡ m (object h.object object_koid) → k ≡ m (object h.object object_kind)
@@ -223,16 +149,3 @@ unfolding max_slots
 frame_next m b k fr l e off =
     let z : (k + 1) / page_size ≡ k / page_size = omega arith in
     e ∙ rw (lt-ltb k slots_max (omega arith), lt-ltb (k + 1) slots_max l, z)
-
--- `next_cursor`
-module _ (stop long : ℕ) (t : Bool) (q : t ≡ ltb stop long) where
-  pub next_more : t ≡ true → Some stop ≡ next_at stop long
-  next_more y = yes_is _ _ _ _ (sym q ∙ y) refl
-
-  pub next_none : t ≡ false → None ≡ next_at stop long
-  next_none y = no_is _ _ _ _ (sym q ∙ y) refl
-
--- `ended`
-pub ended_by : (es : List SnapshotEntry) (len start stop long : ℕ) (n : Option ℕ) → n ≡ next_at stop long
-    → ◌≡◌ {A = SnapshotPage} (record { entries = es; len = len; next = n; examined = stop - start }) (ended_of es len start stop long)
-ended_by es len start stop long n e = rw e

@@ -14,8 +14,8 @@ use Rattle.object.specs.Words.{record_at, activate_w, raise_w, lower_w, retire_w
 use Rattle.book.specs.Ops.{row_left, id_refusal, spare, open_w, handle_w, close_w}
 use Rattle.answer.specs.Does.{both, answered}
 use Rattle.lookup.specs.declared.PreparedHandle.{PreparedHandle}
-use Rattle.lookup.specs.declared.Opened.{Opened}
-use Rattle.lookup.specs.declared.Opened.TheVariants.{Refused, Handle as Found}
+use Rattle.lookup.specs.View.{Opened}
+use Rattle.lookup.specs.View.{Opened.Refused, Opened.Handle as Found}
 use Rattle.lookup.specs.View.{table_refusal, open_of}
 use Rattle.lookup.specs.Code.{on_refused}
 use Rattle.parcel.specs.Ops.{retire_r, parcel_w, activation_refusal, row_refusal, new_refusal, new_object_r, copy_refusal, copied_r, duplicate_r, lowered_w, released_w}

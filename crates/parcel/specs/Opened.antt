@@ -35,8 +35,8 @@ use Rattle.book.specs.Swap.{spare_held}
 use Rattle.book.specs.Open.{open_held}
 use Rattle.answer.specs.Does.{refuse_r, Does, does_refused, does_accepted}
 use Rattle.lookup.specs.declared.PreparedHandle.{PreparedHandle}
-use Rattle.lookup.specs.declared.Opened.{Opened}
-use Rattle.lookup.specs.declared.Opened.TheVariants.{Refused, Handle as Found}
+use Rattle.lookup.specs.View.{Opened}
+use Rattle.lookup.specs.View.{Opened.Refused, Opened.Handle as Found}
 use Rattle.lookup.specs.View.{table_refusal, open_of}
 use Rattle.lookup.specs.Named.{Opens, Active, active_on, table_open, table_refused, open_refused_is, open_found_is}
 use Rattle.lookup.specs.Read.{on_opened, opened_known}

@@ -13,8 +13,8 @@ use Rattle.book.specs.Ops.{row_left, id_refusal, spare, open_w}
 use Rattle.answer.specs.Does.{both, answered}
 use Rattle.lookup.specs.declared.PreparedHandle.{PreparedHandle}
 use Rattle.lookup.specs.declared.HandleInfo.{HandleInfo}
-use Rattle.lookup.specs.declared.Opened.{Opened}
-use Rattle.lookup.specs.declared.Opened.TheVariants.{Refused, Handle as Found}
+use Rattle.lookup.specs.View.{Opened}
+use Rattle.lookup.specs.View.{Opened.Refused, Opened.Handle as Found}
 use Rattle.lookup.specs.View.{table_refusal, open_of}
 use Rattle.lookup.specs.Read.{info_at}
 use Rattle.lookup.specs.Code.{on_refused}

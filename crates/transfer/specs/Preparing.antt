@@ -16,8 +16,8 @@ use Rattle.object.specs.Words.{raise_w, lower_w, raise_refusal}
 use Rattle.book.specs.Ops.{spare, spend_w}
 use Rattle.answer.specs.Does.{Both, both, answered, refuse_r}
 use Rattle.lookup.specs.declared.PreparedHandle.{PreparedHandle}
-use Rattle.lookup.specs.declared.View.{View}
-use Rattle.lookup.specs.declared.View.TheVariants.{Invalid, Busy, Holds}
+use Rattle.lookup.specs.View.{View}
+use Rattle.lookup.specs.View.{View.Invalid, View.Busy, View.Holds}
 use Rattle.lookup.specs.View.{view_of}
 use Rattle.transfer.specs.Ops.{moved_w, claim_w}
 use Rattle.transfer.specs.Checks.{items_at, transfer_refusal, items_refusal}

@@ -29,7 +29,7 @@ use Rattle.object.specs.Words.{record_at, raise_w, lower_w, raise_refusal}
 use Rattle.book.specs.Ops.{row_left, id_refusal, spare, spend_w}
 use Rattle.answer.specs.Does.{Both, both, answered}
 use Rattle.lookup.specs.declared.PreparedHandle.{PreparedHandle}
-use Rattle.lookup.specs.declared.View.{View}
+use Rattle.lookup.specs.View.{View}
 use Rattle.lookup.specs.View.{view_of, table_refusal}
 use Rattle.transfer.specs.declared.HandleTransferRequest.{HandleTransferRequest}
 use Rattle.transfer.specs.declared.TransferRules.{TransferRules}

@@ -1,5 +1,5 @@
 use Rattle.transfer.specs.TransferCode.{link_view, link_moves}
-use Rattle.lookup.specs.declared.View.TheVariants.{Invalid, Busy}
+use Rattle.lookup.specs.View.{View.Invalid, View.Busy}
 use mathlib.Core.Path.{refl}
 use Rattle.layout.specs.Layout.{load}
 use borrow.Author.Rules.{rules}

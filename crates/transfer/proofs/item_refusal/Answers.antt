@@ -1,5 +1,5 @@
 use Rattle.transfer.specs.TransferCode.{item_twice, item_view}
-use Rattle.lookup.specs.declared.View.TheVariants.{Invalid, Busy}
+use Rattle.lookup.specs.View.{View.Invalid, View.Busy}
 use Rattle.transfer.specs.Checks.{as_option, earlier_at}
 use mathlib.Core.Path.{refl}
 use Rattle.layout.specs.Layout.{load}

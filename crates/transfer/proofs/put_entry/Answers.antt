@@ -1,5 +1,5 @@
 use Rattle.transfer.specs.TransferCode.{entry_view}
-use Rattle.lookup.specs.declared.View.TheVariants.{Invalid, Busy}
+use Rattle.lookup.specs.View.{View.Invalid, View.Busy}
 use mathlib.Core.Path.{refl}
 use borrow.Author.Rules.{rules}
 use Rattle.transfer.proofs.put_entry.Goals as goal
