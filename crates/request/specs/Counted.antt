@@ -1,6 +1,10 @@
 -- Where a field stands and where a record ends, by counting the bits of its map; which of its words are tested.
 -- Assumes nothing.
 use Rattle.std.specs.Prelude.{Option as CodeOption, Some, None}
+use Rattle.std.specs.Prelude.{map, take, drop, set, ◌++◌}
+use Rattle.std.proofs.Common.{length-append, length-take-le, length-drop}
+use Rattle.std.proofs.lemmas.List.{get_or_default, length-map}
+use Rattle.std.proofs.lemmas.List.Edits.{map_over_more}
 use Rattle.std.specs.Prelude.{◌≡◌, refl, Bool, true, false, ◌&&◌, List, [], ◌∷◌, ℕ, zero, suc, ◌+◌, ◌-◌, ◌*◌, ◌/◌, ◌%◌, ◌^◌, ◌≤◌, ◌<◌, min, length, get_or, eqb, ltb, leb}
 use Rattle.std.proofs.Common.{sym, ap₂, subst, ◌∙◌, arith, add-zero, mod-lt, add-one, shr-shr, shl_exact, pow_pos}
 use Rattle.std.proofs.Math.Path.{ap}
@@ -118,6 +122,14 @@ three_is fs i j k x y z p q r = rw (p, q, r)
 pub three_there : (ws : List ℕ) (at map a b c : ℕ) (r : Three) → get_or ws at 0 ≡ map → r ≡ three_at (fields_from field_count map ws (at + 1)) a b c → r ≡ three_at (fields_at ws at) a b c
 unfolding fields_at
 three_there ws at map a b c r q p = p ∙ ap₂ (λ (m k : ℕ). three_at (fields_from field_count m ws k) a b c) (sym q) (add-one at)
+
+-- fields read one after the other, each in the place of its bit
+pub words_more : (f : ℕ → ℕ) (bits ws : List ℕ) (i w : ℕ) → i < length bits → ws ≡ map f (take i bits) ++ drop i bits → w ≡ f (get_or ws i 0)
+    → set ws i w ≡ map f (take (i + 1) bits) ++ drop (i + 1) bits
+words_more f bits ws i w h e p =
+    let n : length ws ≡ length bits = omega (arith, ap length e, length-append (map f (take i bits)) (drop i bits), length-map (take i bits) f, length-take-le i bits (omega arith), length-drop i bits) in
+    let x : get_or ws i 0 ≡ get_or ws i (get_or ws i 0) = get_or_default ws i 0 (get_or ws i 0) (omega arith) in
+    ap (set ws i) p ∙ map_over_more f bits ws i (get_or ws i 0) h e x
 
 -- The place after a record
 
