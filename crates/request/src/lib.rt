@@ -190,6 +190,7 @@ pub fn record_end(rq: &[u64], at: usize) -> usize
 }
 
 // The place after `count` records in a row; a place past the end stays.
+#[tactic(auto, unfolding(crate::specs::Place::place_of), using(crate::specs::Laws::place_next, crate::specs::Lists::place_out))]
 pub fn records_end(rq: &[u64], at: usize, count: u64) -> usize
     ensures { result ≡ place_of count rq.now at }
 {
@@ -278,6 +279,7 @@ fn narrow_fit(rq: &[u64], at: usize, map: u64) -> bool
 }
 
 // "list ends inside a record"; "too wide or a koid of 0": the place after a record's fields, which begin at a place.
+#[tactic(auto, using(crate::specs::Counted::walk_is))]
 fn fields_end(rq: &[u64], at: usize, map: u64, first: FieldKind) -> Option<usize>
     requires { at ≤ length rq.now }
     ensures { result ≡ next_of (walk (kinds_of (kind_number first)) rq.now map at) }
@@ -310,6 +312,7 @@ pub fn record_ok(rq: &[u64], at: usize, first: FieldKind, must: u64, allowed: u6
 }
 
 // Checks `count` records in a row; it stops where the list ends.
+#[tactic(auto, unfolding(crate::specs::Place::many_end), using(crate::specs::Lists::many_more, crate::specs::Lists::many_stops))]
 pub fn records_ok(
     rq: &[u64],
     at: usize,
@@ -354,6 +357,7 @@ fn items_ok(rq: &[u64], at: usize, op: u64, count: u64) -> Option<usize>
 }
 
 // Checks the request at a place, with its items, and gives the place after it.
+#[tactic(auto, using(crate::specs::Lists::request_bad, crate::specs::Lists::request_goes, format::proofs::Laws::must_below, format::proofs::Laws::may_below))]
 pub fn request_ok(rq: &[u64], at: usize) -> Option<usize>
     ensures { result ≡ placed rq.now (read_request (drop at rq.now)) }
 {
@@ -366,6 +370,7 @@ pub fn request_ok(rq: &[u64], at: usize) -> Option<usize>
 }
 
 // "Order: .. list 19": how many requests a list has. "An empty list is accepted."
+#[tactic(auto, using(crate::specs::Lists::count_all, crate::specs::Lists::count_turn, crate::specs::Lists::count_bad, crate::specs::Lists::count_end, crate::specs::Lists::place_rises))]
 pub fn list_ok(rq: &[u64]) -> Option<u64>
     ensures { result ≡ listed (read_list rq.now) }
 {
@@ -395,6 +400,7 @@ pub fn answer_put(out: &mut [u64], base: usize, i: usize, v: u64)
 }
 
 // "Each request answers 72 words, unused ones 0": clears those that are there.
+#[tactic(auto, using(crate::specs::Answers::fill_is))]
 pub fn clear_answer(out: &mut [u64], base: usize)
     ensures { out.new ≡ cleared out.old base answer_words }
 {
