@@ -8,6 +8,7 @@ ghost use Rattle.answer.specs.Does.{answered};
 use format::refusal::{DONE, Refusal};
 
 // "The first of the 72 is the number; after a refusal the rest are 0".
+#[tactic(auto, unfolding(request::specs::Answers::puts))]
 pub fn refuse(out: &mut [u64], base: usize, refusal: Refusal)
     ensures { out.new ≡ answered out.old base (number refusal ∷ []) }
 {
@@ -15,6 +16,7 @@ pub fn refuse(out: &mut [u64], base: usize, refusal: Refusal)
 }
 
 // Done, with the words of what was done.
+#[tactic(auto, unfolding(request::specs::Answers::puts))]
 pub fn say(out: &mut [u64], base: usize, words: &[u64])
     ensures { out.new ≡ answered out.old base (0 ∷ words.now) }
 {
