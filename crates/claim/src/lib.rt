@@ -38,12 +38,12 @@ fn abort_row(s: &mut [u64], sh: Shape, x: u64)
     book::close_row(s, sh, x);
 }
 
-// "Closing, aborting, trimming and committing put slots at the head of the free order, one by one in list order". The shape is copied field by field, which is faster, as in
-// `book::vacate_items`.
-#[tactic(auto, unfolding(answer::specs::Does::on_row_r), using(book::specs::Code::place_is, book::specs::Code::no_place))]
+// "Closing, aborting, trimming and committing put slots at the head of the free order, one by one in list order".
+#[tactic(auto, unfolding(answer::specs::Does::on_row_r))]
 pub fn abort(s: &mut [u64], sh: Shape, id: ReservationId) -> Result<(), Refusal>
     ensures { Gives s.new (reply no_words result) (λ os base. abort_r s.old os sh base id.0) }
 {
+    // Field by field, for speed, as in `book::vacate_items`.
     let own = Shape {
         tables: sh.tables,
         pages: sh.pages,
@@ -68,7 +68,7 @@ fn trim_row(s: &mut [u64], sh: Shape, x: u64, n: u64)
 }
 
 // "trim to 0 or above the batch": 18.
-#[tactic(auto, unfolding(crate::specs::EndsOps::trim_r), using(book::specs::Code::place_is, book::specs::Code::no_place))]
+#[tactic(auto, unfolding(crate::specs::EndsOps::trim_r))]
 pub fn trim(s: &mut [u64], sh: Shape, id: ReservationId, n: u64) -> Result<(), Refusal>
     ensures { Gives s.new (reply no_words result) (λ os base. trim_r s.old os sh base id.0 n) }
 {
@@ -104,7 +104,7 @@ fn undo_entry(s: &mut [u64], sh: Shape, b: u64, x: u64, j: u64)
     }
 }
 
-// Its first n entries are.
+// Its first n entries are. This loop and the three below differ in the step: one function that took it would state what each call leaves, and be longer than they are.
 #[tactic(auto, unfolding(crate::specs::Ops::each), using(crate::proofs::Each::each_last))]
 fn undo_entries(s: &mut [u64], sh: Shape, b: u64, x: u64, n: u64)
     ensures words { s.new ≡ undone_w s.old sh b x n }
@@ -126,7 +126,7 @@ fn rollback_row(s: &mut [u64], sh: Shape, x: u64)
 }
 
 // A claim ends: its slots hold their handles again, its copies are released. "unknown .. open row of the kind named": 18.
-#[tactic(auto, unfolding(answer::specs::Does::on_row_r), using(book::specs::Code::place_is, book::specs::Code::no_place))]
+#[tactic(auto, unfolding(answer::specs::Does::on_row_r))]
 pub fn rollback(s: &mut [u64], sh: Shape, id: ReservationId) -> Result<(), Refusal>
     ensures { Gives s.new (reply no_words result) (λ os base. rollback_r s.old os sh base id.0) }
 {
@@ -202,7 +202,7 @@ fn commit_row(s: &mut [u64], sh: Shape, x: u64)
 }
 
 // "Commit turns a claim's row into a parcel of the same id."
-#[tactic(auto, unfolding(answer::specs::Does::on_row_r), using(book::specs::Code::place_is, book::specs::Code::no_place))]
+#[tactic(auto, unfolding(answer::specs::Does::on_row_r))]
 pub fn commit(s: &mut [u64], sh: Shape, id: ReservationId) -> Result<(), Refusal>
     ensures { Gives s.new (reply no_words result) (λ os base. commit_r s.old os sh base id.0) }
 {
@@ -213,7 +213,7 @@ pub fn commit(s: &mut [u64], sh: Shape, id: ReservationId) -> Result<(), Refusal
 
 // The rows of a claim and of a reservation. "unknown .. open row of the kind named .. lengths differ": 18.
 #[tactic(auto, unfolding(crate::specs::Ops::pair_of, crate::specs::Ops::paired))]
-fn paired(
+fn pair_of(
     s: &[u64],
     sh: Shape,
     id: ReservationId,
@@ -268,7 +268,7 @@ pub fn direct_commit(
 ) -> Result<(), Refusal>
     ensures { Gives s.new (reply no_words result) (λ os base. direct_commit_r s.old os sh base id.0 destination.0) }
 {
-    let rows = paired(s, sh, id, destination)?;
+    let rows = pair_of(s, sh, id, destination)?;
     direct_rows(s, sh, rows.from, rows.to);
     Ok(())
 }
@@ -283,7 +283,7 @@ pub fn direct_rollback(
 ) -> Result<(), Refusal>
     ensures { Gives s.new (reply no_words result) (λ os base. direct_rollback_r s.old os sh base id.0 destination.0) }
 {
-    let rows = paired(s, sh, id, destination)?;
+    let rows = pair_of(s, sh, id, destination)?;
     rollback_row(s, sh, rows.from);
     abort(s, sh, destination)
 }
@@ -301,7 +301,9 @@ pub fn serve_trim(s: &mut [u64], sh: Shape, rq: &[u64], at: usize, out: &mut [u6
         format::field::FIELD_COUNT,
         format::field::NO_FIELD,
     );
-    answer::outcome(out, base, trim(s, sh, ReservationId(f.a), f.b));
+    let id = ReservationId(f.a);
+    let count = f.b;
+    answer::outcome(out, base, trim(s, sh, id, count));
 }
 
 pub fn serve_abort(s: &mut [u64], sh: Shape, rq: &[u64], at: usize, out: &mut [u64], base: usize)
@@ -344,11 +346,9 @@ pub fn serve_direct_commit(
         format::field::FIELD_DESTINATION,
         format::field::NO_FIELD,
     );
-    answer::outcome(
-        out,
-        base,
-        direct_commit(s, sh, ReservationId(f.a), ReservationId(f.b)),
-    );
+    let id = ReservationId(f.a);
+    let destination = ReservationId(f.b);
+    answer::outcome(out, base, direct_commit(s, sh, id, destination));
 }
 
 #[tactic(auto, unfolding(request::specs::Place::three_at))]
@@ -370,9 +370,7 @@ pub fn serve_direct_rollback(
         format::field::FIELD_DESTINATION,
         format::field::NO_FIELD,
     );
-    answer::outcome(
-        out,
-        base,
-        direct_rollback(s, sh, ReservationId(f.a), ReservationId(f.b)),
-    );
+    let id = ReservationId(f.a);
+    let destination = ReservationId(f.b);
+    answer::outcome(out, base, direct_rollback(s, sh, id, destination));
 }
