@@ -1,10 +1,9 @@
 pub mod Ops
-pub mod Code
 pub mod Opened
 pub mod Found
 pub mod Released
 pub mod Publishing
+pub mod Code
 pub mod Plain
 pub mod Publish
 pub mod Published
-pub mod PublishCode
