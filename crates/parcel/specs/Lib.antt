@@ -3,7 +3,6 @@ pub mod Opened
 pub mod Found
 pub mod Released
 pub mod Publishing
-pub mod Code
 pub mod Plain
 pub mod Publish
 pub mod Published

@@ -49,7 +49,7 @@ fn known_flags(flags: u64) -> bool
 
 // "Activation refuses 6 not exportable, 9 retired, 10 active, 11 limit reached, in that order".
 #[tactic(auto, unfolding(crate::specs::Ops::activation_refusal))]
-pub fn check_activation(x: ObjectRecord) -> Result<(), Refusal>
+pub fn may_activate(x: ObjectRecord) -> Result<(), Refusal>
     ensures { number_of result ≡ activation_refusal x }
 {
     if x.exportable == 0 {
@@ -85,7 +85,7 @@ fn check_new(s: &[u64], sh: Shape, o: u64, rights: Rights, flags: u64) -> Result
     if !known_flags(flags) {
         return Err(Refusal::UnsupportedFlags);
     }
-    check_activation(x)?;
+    may_activate(x)?;
     book::id_left(s, sh)
 }
 
@@ -167,7 +167,7 @@ pub fn duplicate(
 }
 
 // The objects of the first n handles of the row in place x have one handle fewer each.
-#[tactic(auto, using(crate::specs::Code::lowered_none, crate::specs::Code::lowered_more))]
+#[tactic(auto, unfolding(crate::specs::Ops::lowered_w), using(crate::proofs::Steps::one_left))]
 fn lower_items(s: &mut [u64], sh: Shape, x: u64, n: u64)
     ensures words { s.new ≡ lowered_w s.old sh x 0 n }
 {
@@ -237,7 +237,7 @@ impl<'a> Iterator for ParcelIds<'a> {
 
     ghost remaining = { λ s. at_most s.count };
 
-    #[tactic(auto, using(crate::specs::Code::ids_none, crate::specs::Code::ids_more))]
+    #[tactic(auto, unfolding(crate::specs::Publishing::ids_at, request::specs::Place::places_from))]
     fn next(&mut self) -> Option<u64> {
         if self.count == 0 {
             return None;
@@ -269,20 +269,19 @@ fn parcels_fit(s: &[u64], sh: Shape, parcels: ParcelIds, n: u64) -> bool
 }
 
 // Whether an id is one of those.
-fn named(parcels: ParcelIds, id: u64) -> bool
+fn named(mut parcels: ParcelIds, id: u64) -> bool
     ensures { result ≡ member id (ids_left parcels.entry) }
 {
-    let mut rest = parcels;
-    rest.any(|other| id == other)
+    parcels.any(|other| id == other)
 }
 
 // Whether no parcel is named twice. A batch has at most 64 slots and a parcel at least one handle, so that no more than 64 items come here.
-fn distinct_ids(parcels: ParcelIds) -> bool
+fn distinct_ids(mut parcels: ParcelIds) -> bool
     ensures { result ≡ distinct (ids_left parcels.entry) }
 {
-    let mut rest = parcels;
-    while let Some(id) = rest.next() {
-        if named(rest, id) {
+    // Not a `for`: each id is looked for among those after it.
+    while let Some(id) = parcels.next() {
+        if named(parcels, id) {
             return false;
         }
     }
@@ -290,7 +289,7 @@ fn distinct_ids(parcels: ParcelIds) -> bool
 }
 
 // The n handles of the parcel in place y fill slots of the reservation in place x, of table b, from position p on.
-#[tactic(auto, using(crate::specs::Code::filled_none, crate::specs::Code::filled_more))]
+#[tactic(auto, unfolding(crate::specs::Publishing::filled_w), using(crate::proofs::Steps::one_left))]
 fn fill_from(s: &mut [u64], sh: Shape, b: u64, x: u64, p: u64, y: u64, n: u64)
     ensures words { s.new ≡ filled_w s.old sh b x p y 0 n }
 {

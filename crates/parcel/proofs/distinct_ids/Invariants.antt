@@ -4,4 +4,4 @@ use Rattle.parcel.specs.Publishing.{ids_left}
 use Rattle.parcel.proofs.distinct_ids.Given as goal
 
 abbrev pub invariant-loop-id : goal.invariant-loop-id
-invariant-loop-id l = distinct (ids_left l.parcels) ≡ distinct (ids_left l.rest)
+invariant-loop-id l = distinct (ids_left l.fn.parcels) ≡ distinct (ids_left l.parcels)
