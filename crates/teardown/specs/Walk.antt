@@ -4,7 +4,7 @@ use Rattle.std.specs.Prelude.{◌≡◌, refl, Bool, true, false, cond, Option, 
 use Rattle.std.specs.List.{find, range_with_len}
 use Rattle.std.proofs.Common.{sym, ap, ◌∙◌, arith, lt-ltb}
 use Rattle.std.proofs.Math.Path.{fun_ext}
-use Rattle.std.proofs.lemmas.Option.{none-some}
+use Rattle.std.proofs.lemmas.Option.{none-some, same_Some}
 use Rattle.std.proofs.lemmas.Bool.{ltb-true, ltb-false}
 use Rattle.words.specs.Pick.{bool}
 use Rattle.model.specs.Base.{pick}
@@ -51,6 +51,12 @@ module _ (f : ℕ → Slot) where
   found_within (suc d) k zero x l e = absurd (omega arith)
   found_within (suc d) k (suc n) x l e =
       bool (is_occupied (f k)) (λ q. rw q at e ∙ rw q) (λ q. rw q (found_within d (suc k) n x (omega arith) (rw q at e)))
+
+  found_range : (k n x : ℕ) → Some x ≡ found k n → (k ≤ x) × (x < k + n)
+  found_range k zero x e = absurd (none-some x (sym e))
+  found_range k (suc n) x e =
+      bool (is_occupied (f k)) (λ q. let z : x ≡ k = same_Some x k (rw q at e) in (omega (arith, z), omega (arith, z)))
+      (λ q. let h = found_range (suc k) n x (rw q at e) in (omega (arith, h.0), omega (arith, h.1)))
 
 -- ---- the table's slots
 
@@ -113,6 +119,11 @@ module _ (m : Mem) (b c long p k end : ℕ) (from : c / page_size ≤ p) (ek : k
       ∙ bool (ltb q long)
       (λ y. let w : k + (end - k) ≡ q = omega (arith, ltb-true q long y, from, ek, ee) in ap (λ (i : ℕ). found_in m b i (long - q)) w)
       (λ y. let w : long - q ≡ 0 = omega (arith, ltb-false q long y) in rw w)
+
+-- the slot found is one of the table's: its number fits with 1 added
+pub next_below : (m : Mem) (b c k : ℕ) (r : Option ℕ) → r ≡ place_of (next_link m b c) → r ≡ Some k → k < slots_max
+unfolding next_link max_slots
+next_below m b c k r e q = let h = found_range (slot_in m b) c (length_at m b - c) k (sym q ∙ e) in omega (arith, h.0, h.1)
 
 -- ---- in the model
 

@@ -83,7 +83,7 @@ fn put_retired(s: &mut [u64], sh: Shape, b: u64)
 }
 
 // The rest of `remove_stopping_owner`, on an active table.
-#[tactic(auto, unfolding(crate::specs::Ops::stopped_r))]
+#[tactic(auto, unfolding(crate::specs::Ops::stopped_r), using(crate::specs::Walk::next_below))]
 fn remove_stopping(s: &mut [u64], sh: Shape, b: u64, cursor: u64) -> Removed
     ensures { Gives s.new (0 ∷ removed_list result) (λ os base. stopped_r s.old os sh base b cursor) }
 {
@@ -168,7 +168,7 @@ fn is_tearing(s: &[u64], sh: Shape, b: u64) -> bool
 }
 
 // The rest of `remove_next`, on a table that is tearing down: "its cursor stands in the table's head".
-#[tactic(auto, unfolding(crate::specs::Ops::torn_r))]
+#[tactic(auto, unfolding(crate::specs::Ops::torn_r), using(crate::specs::Walk::next_below))]
 fn remove_tearing(s: &mut [u64], sh: Shape, b: u64) -> Option<HandleInfo>
     ensures { Gives s.new (0 ∷ closed_list result) (λ os base. torn_r s.old os sh base b) }
 {
