@@ -53,12 +53,12 @@ tearing m sh b = pick (ltb b sh.tables) (eqb (m (head b head_lifecycle)) life_te
 -- ---- the requests
 
 -- what was removed, in the answer's words: whether a handle was, the cursor as left, the handle's value and its info
-abbrev entry_list : ℕ → Option SnapshotEntry → List ℕ
-entry_list c None = 0 ∷ c ∷ []
-entry_list c (Some x) = 1 ∷ c ∷ entry_words x
+abbrev entry_told : ℕ → Option SnapshotEntry → List ℕ
+entry_told c None = 0 ∷ c ∷ []
+entry_told c (Some x) = 1 ∷ c ∷ entry_words x
 
 abbrev pub removed_list : Removed → List ℕ
-removed_list x = entry_list x.cursor x.entry
+removed_list x = entry_told x.cursor x.entry
 
 -- whether a handle was, and its info
 abbrev pub closed_list : Option HandleInfo → List ℕ

@@ -130,10 +130,8 @@ fn opens_in(s: &[u64], sh: Shape, b: u64, x: u64) -> bool
     ensures { result ≡ opens_at (loadAt s.now sh) b x }
 {
     let what = layout::row_word(s, sh, x, field::ROW_KIND);
-    if what != value::KIND_RESERVATION && what != value::KIND_CLAIM {
-        return false;
-    }
-    layout::row_word(s, sh, x, field::ROW_TABLE) == b
+    (what == value::KIND_RESERVATION || what == value::KIND_CLAIM)
+        && layout::row_word(s, sh, x, field::ROW_TABLE) == b
 }
 
 // Whether the book has an open reservation or claim of table b.
@@ -196,10 +194,7 @@ pub fn remove_next(s: &mut [u64], sh: Shape, b: u64) -> Result<Option<HandleInfo
 pub fn finish_teardown(s: &mut [u64], sh: Shape, b: u64) -> Result<(), Refusal>
     ensures { Gives s.new (reply no_words result) (λ os base. teardown_finish_r s.old os sh base b) }
 {
-    if !is_tearing(s, sh, b) {
-        return Err(Refusal::Misuse);
-    }
-    if next_occupied(s, sh, b, 0).is_some() {
+    if !is_tearing(s, sh, b) || next_occupied(s, sh, b, 0).is_some() {
         return Err(Refusal::Misuse);
     }
     put_retired(s, sh, b);

@@ -15,5 +15,8 @@ returns-in-Some c =
     ∙ sym c.loop-p.invariant.rest
 
 pub loop-p-preserved : goal.loop-p-preserved
-loop-p-preserved c = record { few = c.loop-p.invariant.few; rest = c.loop-p.invariant.rest
-    ∙ next_none (load c.args.s.now c.args.sh) c.args.b c.args.start c.table_length-length.result c.loop-p.p c.max-k.result c.min-end.result c.loop-p.auto.p c.max-k.ensures c.min-end.ensures c.occupied_on.result c.occupied_on.ensures c.in_default.is }
+loop-p-preserved c = record {
+  few = c.loop-p.invariant.few;
+  rest = c.loop-p.invariant.rest
+      ∙ next_none (load c.args.s.now c.args.sh) c.args.b c.args.start c.table_length-length.result c.loop-p.p c.max-k.result c.min-end.result c.loop-p.auto.p c.max-k.ensures c.min-end.ensures c.occupied_on.result c.occupied_on.ensures c.in_default.is;
+}
