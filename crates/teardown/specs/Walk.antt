@@ -1,12 +1,12 @@
 -- The walk to the next occupied slot: each turn keeps what is to be found, and a page without frame is passed over as a whole. It finds the
 -- model's slot. Assumes nothing.
-use Rattle.std.specs.Prelude.{◌≡◌, refl, Bool, true, false, cond, Option, Some, None, ℕ, zero, suc, ◌+◌, ◌-◌, ◌*◌, ◌/◌, ◌%◌, min, max, ◌≤◌, ◌<◌, eqb, ltb}
+use Rattle.std.specs.Prelude.{◌≡◌, refl, Bool, true, false, cond, Option, Some, None, is_some, ℕ, zero, suc, ◌+◌, ◌-◌, ◌*◌, ◌/◌, ◌%◌, min, max, ◌≤◌, ◌<◌, eqb, ltb}
 use Rattle.std.specs.List.{find, range_with_len}
 use Rattle.std.proofs.Common.{sym, ap, ◌∙◌, arith, lt-ltb}
 use Rattle.std.proofs.Math.Path.{fun_ext}
 use Rattle.std.proofs.lemmas.Option.{none-some, same_Some}
 use Rattle.std.proofs.lemmas.Bool.{ltb-true, ltb-false}
-use Rattle.words.specs.Pick.{bool}
+use Rattle.words.specs.Pick.{bool, clash}
 use Rattle.model.specs.Base.{pick}
 use Rattle.model.specs.State.{till, Slot, Table, is_occupied, max_slots}
 use Rattle.model.specs.Storage.{first_occupied}
@@ -102,20 +102,20 @@ pub next_end : (m : Mem) (b c long p : ℕ) → long ≤ p * page_size → None 
 next_end m b c long p l = let z : long - max c (p * page_size) ≡ 0 = omega arith in rw z
 
 -- page p's part of it, from slot k on and below slot `end`, where r is found
-module _ (m : Mem) (b c long p k end : ℕ) (from : c / page_size ≤ p) (ek : k ≡ max c (p * page_size)) (ee : end ≡ min long ((p + 1) * page_size)) (r : Option ℕ) (er : r ≡ found_in m b k (end - k)) where
-  abbrev q : ℕ
-  q = max c ((p + 1) * page_size)
-
+module _ (m : Mem) (b c long p k end : ℕ) (from : c / page_size ≤ p) (ek : k ≡ max c (p * page_size)) (ee : end ≡ min long ((p + 1) * page_size)) where
   here : rest_in m b c long p ≡ found_in m b k (long - k)
   here = ap (λ (i : ℕ). found_in m b i (long - i)) (sym ek)
 
-  pub next_some : (x : ℕ) → r ≡ Some x → Some x ≡ rest_in m b c long p
-  next_some x e = found_within (slot_in m b) (end - k) k (long - k) x (omega (arith, ee)) (sym e ∙ er) ∙ sym here
+  pub next_some : (r : Option ℕ) → r ≡ found_in m b k (end - k) → is_some r ≡ true → rest_in m b c long p ≡ r
+  next_some None er h = clash h refl
+  next_some (Some x) er h = here ∙ sym (found_within (slot_in m b) (end - k) k (long - k) x (omega (arith, ee)) er)
 
-  pub next_none : r ≡ None → rest_in m b c long p ≡ rest_in m b c long (p + 1)
-  next_none e =
+  pub next_none : (r : Option ℕ) → r ≡ found_in m b k (end - k) → is_some r ≡ false → rest_in m b c long p ≡ rest_in m b c long (p + 1)
+  next_none (Some x) er h = clash refl h
+  next_none None er h =
+      let q : ℕ = max c ((p + 1) * page_size) in
       let z : long - k - (end - k) ≡ long - q = omega (arith, from, ek, ee) in
-      here ∙ found_past (slot_in m b) (end - k) k (long - k) (omega (arith, ee)) (sym e ∙ er) ∙ ap (found_in m b (k + (end - k))) z
+      here ∙ found_past (slot_in m b) (end - k) k (long - k) (omega (arith, ee)) er ∙ ap (found_in m b (k + (end - k))) z
       ∙ bool (ltb q long)
       (λ y. let w : k + (end - k) ≡ q = omega (arith, ltb-true q long y, from, ek, ee) in ap (λ (i : ℕ). found_in m b i (long - q)) w)
       (λ y. let w : long - q ≡ 0 = omega (arith, ltb-false q long y) in rw w)

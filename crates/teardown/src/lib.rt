@@ -38,6 +38,7 @@ fn occupied_on(s: &[u64], sh: Shape, b: u64, k: u64, end: u64) -> Option<u64>
 }
 
 // The first occupied slot of table b from a slot on.
+#[tactic(auto, using(crate::specs::Walk::length_few, crate::specs::Walk::next_start, crate::specs::Walk::next_some, crate::specs::Walk::next_none, crate::specs::Walk::next_end))]
 pub fn next_occupied(s: &[u64], sh: Shape, b: u64, start: u64) -> Option<u64>
     ensures { result ≡ place_of (next_link (loadAt s.now sh) b start) }
 {
@@ -45,8 +46,9 @@ pub fn next_occupied(s: &[u64], sh: Shape, b: u64, start: u64) -> Option<u64>
     for p in start / size::PAGE_SIZE..length.div_ceil(size::PAGE_SIZE) {
         let k = start.max(p * size::PAGE_SIZE);
         let end = length.min((p + 1) * size::PAGE_SIZE);
-        if let Some(found) = occupied_on(s, sh, b, k, end) {
-            return Some(found);
+        let found = occupied_on(s, sh, b, k, end);
+        if found.is_some() {
+            return found;
         }
     }
     None
