@@ -7,15 +7,14 @@ use Rattle.std.proofs.Math.Path.{fun_ext}
 use Rattle.std.proofs.lemmas.Option.{none-some, same_Some}
 use Rattle.std.proofs.lemmas.Bool.{ltb-true, ltb-false}
 use Rattle.words.specs.Pick.{bool, clash}
-use Rattle.model.specs.Base.{pick}
 use Rattle.model.specs.State.{till, Slot, Table, is_occupied, max_slots}
 use Rattle.model.specs.Storage.{first_occupied}
 use Rattle.model.specs.Step.{next_occupied}
-use Rattle.layout.specs.Layout.{Mem, head, entry, cell}
-use Rattle.layout.specs.Fields.{head_pages, entry_frame, slot_tag}
+use Rattle.layout.specs.Layout.{Mem, cell}
+use Rattle.layout.specs.Fields.{slot_tag}
 use Rattle.layout.specs.Sizes.{page_size, slots_max}
 use Rattle.layout.specs.Values.{tag_occupied}
-use Rattle.representation.specs.Represents.{entry_at, link_of, word_in, frame_of, slot_from, slot_in, TableIs}
+use Rattle.representation.specs.Represents.{link_of, word_in, frame_of, slot_from, slot_in, TableIs}
 use Rattle.lookup.specs.Named.{slot_tells}
 use Rattle.lookup.specs.Scan.{length_at}
 use Rattle.book.specs.Ops.{place_of}

@@ -1,5 +1,5 @@
-use Rattle.std.specs.Prelude.{◌≡◌, refl, ◌-◌, ◌%◌, suc, eqb}
-use Rattle.std.proofs.Common.{sym, ap, ◌∙◌, arith, rules}
+use Rattle.std.specs.Prelude.{refl, ◌-◌, ◌%◌, eqb}
+use Rattle.std.proofs.Common.{sym, ◌∙◌, arith, rules}
 use borrow.Author.Tests.{tests}
 use Rattle.std.proofs.lemmas.Iterator.{YieldsList-from_range}
 use Rattle.std.proofs.lemmas.Iterator.Adapters.{option_map_id}
@@ -8,8 +8,6 @@ use Rattle.layout.specs.Layout.{load, cell}
 use Rattle.layout.specs.Fields.{slot_tag}
 use Rattle.layout.specs.Sizes.{page_size}
 use Rattle.layout.specs.Values.{tag_occupied}
-use Rattle.representation.specs.Represents.{frame_of}
-use Rattle.book.specs.Code.{place_is, no_place, place_by}
 use Rattle.teardown.specs.Walk.{page_none, page_by}
 use Rattle.teardown.proofs.occupied_on.Goals as goal
 
