@@ -134,15 +134,11 @@ module _ (m : Mem) (b route : ℕ) (bo bk : Option ℕ) (rq : List ℕ) (at : �
     checked_last l = let z : n - i ≡ 0 = omega arith in rw (z, items_none rq place)
 
     module _ (l : i < n) where
-      checked_step : items_refusal m b route bo bk (earlier_at rq at i) (items_at rq place (n - i))
+      pub checked_step : items_refusal m b route bo bk (earlier_at rq at i) (items_at rq place (n - i))
           ≡ pick (eqb (item_refusal m b route bo bk (earlier_at rq at i) (item_at rq place)) 0)
           (items_refusal m b route bo bk (earlier_at rq at (i + 1)) (items_at rq (end_at rq place) (n - (i + 1)))) (item_refusal m b route bo bk (earlier_at rq at i) (item_at rq place))
       unfolding items_refusal earlier_at
       checked_step = let z : i + 1 ≡ suc i = omega arith in let w : n - i - 1 ≡ n - suc i = omega arith in rw (items_first rq place (n - i) (omega arith), z, w, p)
-
-      pub checked_refused : (e : Refusal) → number e ≡ item_refusal m b route bo bk (earlier_at rq at i) (item_at rq place)
-          → items_refusal m b route bo bk (earlier_at rq at i) (items_at rq place (n - i)) ≡ number e
-      checked_refused e d = checked_step ∙ rw (← d, number_some e)
 
       pub checked_next : 0 ≡ item_refusal m b route bo bk (earlier_at rq at i) (item_at rq place)
           → items_refusal m b route bo bk (earlier_at rq at i) (items_at rq place (n - i)) ≡ items_refusal m b route bo bk (earlier_at rq at (i + 1)) (items_at rq (end_at rq place) (n - (i + 1)))

@@ -437,7 +437,7 @@ fn check_item(
 }
 
 // "item by item": the first refusal of the items, `count` records from `at` on.
-#[tactic(auto, using(crate::specs::Code::place_first, request::specs::Laws::place_next))]
+#[tactic(auto, using(crate::specs::Code::checked_step, crate::specs::Code::number_some))]
 fn check_items(
     s: &[u64],
     sh: Shape,
