@@ -134,7 +134,7 @@ fn consume_handle(
 }
 
 // "Consumption: 16, 1, 2 or 3, 5, 4, 2, 12": the handle is the one entry of a claim, with all its rights.
-#[tactic(auto, unfolding(crate::specs::Ops::consumption_r))]
+#[tactic(auto, unfolding(crate::specs::Ops::consumption_r, lookup::specs::View::open_of))]
 pub fn prepare_consumption(
     s: &mut [u64],
     sh: Shape,
@@ -150,7 +150,7 @@ pub fn prepare_consumption(
     if !book::row_left(s, sh) {
         return Err(Refusal::Allocation);
     }
-    let h = lookup::open_handle(s, sh, b, v)?;
+    let h = lookup::find_handle(s, sh, b, v)?;
     consume_handle(s, sh, b, h, required, kind, koid)
 }
 
@@ -183,7 +183,6 @@ impl HandleTransferRequest {
 }
 
 // What the transfer whose record stands at a place bars.
-#[tactic(auto, using(crate::specs::Code::as_found))]
 fn read_rules(rq: &[u64], at: usize) -> TransferRules
     ensures { RulesAt rq.now at result }
 {
@@ -380,7 +379,7 @@ fn listed(rq: &[u64], at: usize, n: u64, v: u64) -> bool
 }
 
 // Bits of a word.
-const WORD_BITS: u64 = 64;
+const WORD_BITS: u64 = u64::BITS as u64;
 
 // A set of values by their remainders: a bit that does not stand tells that no value of that remainder is in it.
 #[derive(Clone, Copy)]
@@ -399,8 +398,7 @@ impl SeenValues {
     fn with(self, v: u64) -> SeenValues
         ensures { result.0 ≡ bit_or self.0 (2 ^ (v % 64)) }
     {
-        let one: u64 = 1;
-        SeenValues(self.0 | (one << (v % WORD_BITS)))
+        SeenValues(self.0 | 1 << (v % WORD_BITS))
     }
 }
 

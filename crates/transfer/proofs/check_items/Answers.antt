@@ -17,4 +17,3 @@ loop-i-preserved c = record {
 
 pub returns : goal.returns
 returns c = sym (c.loop-i.invariant.left ∙ checked_last _ _ _ _ _ _ _ _ _ _ c.loop-i.invariant.stands c.loop-i-test.false)
-
