@@ -3,11 +3,12 @@
 
 ghost use Rattle.std.specs.Prelude.{◌≡◌, [], ◌∷◌};
 ghost use Rattle.format.specs.Refusals.{number};
-ghost use Rattle.answer.specs.Does.{answered};
+ghost use Rattle.answer.specs.Does.{answered, reply, no_words};
 
 use format::refusal::{DONE, Refusal};
 
 // "The first of the 72 is the number; after a refusal the rest are 0".
+#[tactic(auto, unfolding(request::specs::Answers::puts))]
 pub fn refuse(out: &mut [u64], base: usize, refusal: Refusal)
     ensures { out.new ≡ answered out.old base (number refusal ∷ []) }
 {
@@ -15,6 +16,7 @@ pub fn refuse(out: &mut [u64], base: usize, refusal: Refusal)
 }
 
 // Done, with the words of what was done.
+#[tactic(auto, unfolding(request::specs::Answers::puts))]
 pub fn say(out: &mut [u64], base: usize, words: &[u64])
     ensures { out.new ≡ answered out.old base (0 ∷ words.now) }
 {
@@ -22,4 +24,12 @@ pub fn say(out: &mut [u64], base: usize, words: &[u64])
     for (i, word) in words.iter().enumerate() {
         request::answer_put(out, base, i + 1, *word);
     }
+}
+
+// The number alone: a refusal's, or 0 where a request says no more than that it is done.
+#[tactic(auto, unfolding(request::specs::Answers::puts), using(crate::specs::Code::number_alone))]
+pub fn outcome(out: &mut [u64], base: usize, outcome: Result<(), Refusal>)
+    ensures { out.new ≡ answered out.old base (reply no_words outcome) }
+{
+    request::answer_put(out, base, 0, format::refusal::number_of(outcome));
 }

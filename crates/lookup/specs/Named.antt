@@ -1,17 +1,16 @@
 -- What a value names, in the model: the view and the opening of a represented table. Assumes nothing.
 use Rattle.std.proofs.Math.Path.{◌≡◌, sym, ap}
-use Rattle.std.specs.Prelude.{refl, true, ℕ, zero, suc, ◌%◌, ◌<◌, eqb, ltb}
+use Rattle.std.specs.Prelude.{Option, Some, None, refl, true, ℕ, zero, suc, ◌%◌, ◌<◌, eqb, ltb}
 use Rattle.std.proofs.Common.{◌∙◌, arith}
 use Rattle.std.proofs.Math.Bool.{false}
 use borrow.Author.Tests.{ne_eqb, eqb-true, eqb-false, lt-ltb, ltb-true, ltb-false, le-ltb}
 use Rattle.words.specs.Pick.{bool}
 use Rattle.codec.specs.declared.Decoded.{Decoded}
-use Rattle.codec.specs.declared.Decoded.TheVariants.{At, Invalid as NoSlot}
 use Rattle.codec.specs.Codec.{decodes, slot_in as slot_named, generation_in, decode_of}
-use Rattle.model.specs.State.{Handle, Slot.occupied, Lifecycle.active, Table, State, is_active, is_occupied}
+use Rattle.model.specs.State.{Handle, Slot.occupied, Table, State, is_active, is_occupied}
 use Rattle.model.specs.Lookup.{View as Named, view_slot, lookup, on_view}
 pub use Rattle.model.proofs.Decided.{on_active, on_handle}
-use Rattle.model.specs.Decision.{Decision, Decision.refusal, unless◌refuse◌then◌}
+use Rattle.model.specs.Decision.{Decision, Decision.refusal}
 use Rattle.layout.specs.declared.Shape.{Shape}
 use Rattle.layout.specs.Layout.{Mem, head, cell}
 use Rattle.layout.specs.Fields.{head_mask, head_lifecycle, head_cursor, slot_tag, slot_generation, slot_object, slot_rights, slot_flags}
@@ -20,9 +19,7 @@ use Rattle.layout.specs.Sizes.{page_size}
 use Rattle.representation.specs.Represents.{word_in, frame_of, slot_word, tagged, slot_from, slot_in, TableIs, Represents}
 use Rattle.representation.specs.Told.{life_tells}
 use Rattle.lookup.specs.declared.PreparedHandle.{PreparedHandle}
-use Rattle.lookup.specs.declared.View.{View}
-use Rattle.lookup.specs.declared.View.TheVariants.{Invalid, Busy, Holds}
-use Rattle.lookup.specs.declared.Opened.TheVariants.{Refused, Handle as Found}
+use Rattle.lookup.specs.View.{View, View.Invalid, View.Busy, View.Holds, Opened.Refused, Opened.Handle as Found}
 use Rattle.lookup.specs.View.{handle_at, shown, slot_view, decoded_view, view_of, table_refusal, view_opened, open_of, handle_of, named}
 
 -- ---- slots
@@ -107,9 +104,9 @@ module _ (m : Mem) (b : ℕ) (t : Table) (i : TableIs m b t) where
           (λ q. bool (eqb (slot_word m b k slot_tag) tag_transfer_reserved) (λ r. moving (rw (p, q, r) at z)) (λ r. nothing (rw (p, q, r) at z))))
           (λ p. nothing (rw p at z))
 
-      decoded_found : (d : Decoded) → decoded_view m b d ≡ Holds h → slot_in m b h.slot ≡ occupied h.generation (handle_of h)
-      decoded_found (At k g) z = slot_found k g z
-      decoded_found NoSlot z = nothing z
+      decoded_found : (d : Option Decoded) → decoded_view m b d ≡ Holds h → slot_in m b h.slot ≡ occupied h.generation (handle_of h)
+      decoded_found (Some d) z = slot_found d.slot d.generation z
+      decoded_found None z = nothing z
 
 -- ---- openings
 

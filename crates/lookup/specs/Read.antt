@@ -20,8 +20,8 @@ use Rattle.representation.specs.Represents.{Represents, Rep}
 use Rattle.answer.specs.Does.{Both, both, answered, refuse_r, Does, does_refused, does_accepted}
 use Rattle.lookup.specs.declared.PreparedHandle.{PreparedHandle}
 use Rattle.lookup.specs.declared.HandleInfo.{HandleInfo}
-use Rattle.lookup.specs.declared.Opened.{Opened}
-use Rattle.lookup.specs.declared.Opened.TheVariants.{Refused, Handle as Found}
+use Rattle.lookup.specs.declared.Resolved.{Resolved}
+use Rattle.lookup.specs.View.{Opened, Opened.Refused, Opened.Handle as Found}
 use Rattle.lookup.specs.View.{open_of, handle_of}
 use Rattle.lookup.specs.Named.{Opens, open_refused_is, open_found_is}
 
@@ -37,6 +37,10 @@ info_at m h = record { koid = record { 0 = m (object h.object object_koid) }; ki
 -- "get_info, close: 1 koid, 2 kind, 3 rights, 4 flags"
 abbrev pub info_list : HandleInfo → List ℕ
 info_list i = i.koid.0 ∷ i.kind ∷ i.rights ∷ i.flags ∷ []
+
+-- "1 the object's number, 2 koid, 3 rights"
+abbrev pub resolved_list : Resolved → List ℕ
+resolved_list r = r.object ∷ r.koid.0 ∷ r.rights ∷ []
 
 unfoldable pub get_info_r : List ℕ → List ℕ → Shape → ℕ → ℕ → ℕ → Both
 get_info_r ws os sh base b v =

@@ -154,10 +154,11 @@ module _ (m : Mem) (b start n : ℕ) (es : List SnapshotEntry) (len at left : �
         rw z (scan_hit h l (tells ∙ q))
 
   -- the loop's end: no slot left, or the array full
-  scan_end : (c long : ℕ) (r : SnapshotPage) → start ≡ start_at m b c → long ≡ length_at m b → n ≡ min 256 (long - start) → (0 < left → 8 ≤ len)
-      → r ≡ ended_of es len start at long → r ≡ scan_of m b c
+  pub scan_end : (c long : ℕ) (r : SnapshotPage) → long ≡ length_at m b → start ≡ min c long → n ≡ min 256 (long - start) → r ≡ ended_of es len start at long → (0 < left → 8 ≤ len)
+      → r ≡ scan_of m b c
   unfolding scan_of
-  scan_end c long r e₁ e₂ e₃ full q =
+  scan_end c long r e₂ e e₃ q full =
+      let e₁ : start ≡ start_at m b c = e ∙ ap (min c) e₂ in
       let w = walk_end (slot_in m b) at left (8 - length i.slots) (λ h. omega (arith, full h, i.count, i.room)) in
       let found : (walk (slot_in m b) start n 8).found ≡ i.slots = i.found ∙ ap (λ (x : List ℕ). i.slots ++ x) w.0 ∙ append-nil i.slots in
       let z : ended_of es len start at long ≡ page_of m b start (walk (slot_in m b) start n 8) long = parts start long es _ len _ at _
@@ -174,8 +175,3 @@ unfolding scan_of
 examined_few m b c =
     let w = walk_bounds (slot_in m b) (start_at m b c) (min 256 (length_at m b - start_at m b c)) 8 in
     omega (arith, w.0)
-
-pub scan_done : (m : Mem) (b start n : ℕ) (es : List SnapshotEntry) (len at left : ℕ) → Scanning m b start n es len at left → (c long : ℕ) (r : SnapshotPage)
-    → long ≡ length_at m b → start ≡ min c long → n ≡ min 256 (long - start) → r ≡ ended_of es len start at long → (0 < left → 8 ≤ len) → (r ≡ scan_of m b c) × (r.examined ≤ 256)
-scan_done m b start n es len at left i c long r e₁ e₂ e₃ q h =
-    let z : r ≡ scan_of m b c = scan_end m b start n es len at left i c long r (e₂ ∙ ap (min c) e₁) e₁ e₃ h q in (z, rw z (examined_few m b c))

@@ -12,15 +12,17 @@ ghost use Rattle.representation.specs.Represents.{word_in, frame_of};
 ghost use Rattle.storage.specs.Cells.{cell_in};
 ghost use Rattle.format.specs.Format.{answer_words};
 ghost use Rattle.request.specs.Answers.{puts};
-ghost use Rattle.answer.specs.Does.{both, answered};
-ghost use Rattle.lookup.specs.View.{handle_by, handle_at, slot_refusal, slot_view, view_of, table_refusal, view_opened, open_of};
-ghost use Rattle.lookup.specs.Read.{info_at, get_info_r, resolved_r, resolve_r};
-ghost use Rattle.lookup.specs.Scan.{length_at, entry_by, entry_of, no_entry, FrameFor, next_at, ended_of, scan_of, has_next, next_word, entry_words, entry_list, page_list, scan_r};
+ghost use Rattle.format.specs.Refusals.{number_of};
+ghost use Rattle.answer.specs.Does.{both, answered, reply, Gives};
+ghost use Rattle.lookup.specs.View.{handle_by, handle_at, shown, view_of, view_result, table_refusal, opened, open_of};
+ghost use Rattle.lookup.specs.Read.{info_at, info_list, get_info_r, resolved_list, resolved_r, resolve_r};
+ghost use Rattle.lookup.specs.Scan.{length_at, entry_by, entry_of, no_entry, FrameFor, ended_of, scan_of, entry_words, entry_list, page_list, scan_r};
 ghost use Rattle.format.specs.Fields.{table_field, value_field, rights_field, kind_field, cursor_field};
 ghost use Rattle.request.specs.Place.{field_of};
 
 use authority::Rights;
-use codec::{Decoded, HandleCodec, HandleValue, Koid};
+use codec::{HandleCodec, HandleValue, Koid};
+use format::refusal::Refusal;
 use layout::{CellWords, Shape, field, size, value};
 
 // A handle in its slot, by value.
@@ -42,19 +44,12 @@ pub struct HandleInfo {
     pub flags: u64,
 }
 
-// What a value names: nothing (2), a TransferReserved slot of equal generation (3), or a handle.
+// What is told of a handle that may be used: the object's number, its koid and the rights held.
 #[derive(Clone, Copy)]
-pub enum View {
-    Invalid,
-    Busy,
-    Holds(PreparedHandle),
-}
-
-// A handle of an active table, or the number of the refusal.
-#[derive(Clone, Copy)]
-pub enum Opened {
-    Refused(u64),
-    Handle(PreparedHandle),
+pub struct Resolved {
+    pub object: u64,
+    pub koid: Koid,
+    pub rights: u64,
 }
 
 // An occupied slot, as a scan shows it.
@@ -64,19 +59,12 @@ pub struct SnapshotEntry {
     pub info: HandleInfo,
 }
 
-// Where the next scan goes on, if slots are left.
-#[derive(Clone, Copy)]
-pub enum NextCursor {
-    At(u64),
-    End,
-}
-
 // "A snapshot page holds 8 entries, a length and an optional next cursor. We add `examined`, the number of slots looked at".
 #[derive(Clone, Copy)]
 pub struct SnapshotPage {
     pub entries: [SnapshotEntry; format::size::SCAN_ENTRIES],
     pub len: usize,
-    pub next: NextCursor,
+    pub next: Option<u64>,
     pub examined: u64,
 }
 
@@ -100,36 +88,22 @@ pub fn handle_at(s: &[u64], sh: Shape, b: u64, k: u64) -> PreparedHandle
     prepared(k, storage::slot_at(s, sh, b, k))
 }
 
-// 0 where a slot's words show a handle to a value of generation g, else the number of the refusal.
-fn slot_refusal(g: u64, w: CellWords) -> u64
-    ensures { result ≡ slot_refusal g w }
+// "18 Misuse: .. unknown table"; "16 TableRetired: not active".
+#[tactic(auto, unfolding(crate::specs::View::table_refusal))]
+pub fn active_table(s: &[u64], sh: Shape, b: u64) -> Result<(), Refusal>
+    ensures { number_of result ≡ table_refusal (loadAt s.now sh) sh b }
 {
-    if g == w.generation {
-        if w.tag == value::TAG_OCCUPIED {
-            return format::refusal::DONE;
-        }
-        if w.tag == value::TAG_TRANSFER_RESERVED {
-            return format::refusal::BUSY;
-        }
-        return format::refusal::INVALID_HANDLE;
+    if sh.tables as u64 <= b {
+        return Err(Refusal::Misuse);
     }
-    format::refusal::INVALID_HANDLE
+    if layout::head_word(s, sh, b, field::HEAD_LIFECYCLE) != value::LIFE_ACTIVE {
+        return Err(Refusal::TableRetired);
+    }
+    Ok(())
 }
 
-// 18 for a table that is unknown, 16 for one that is not active, else 0.
-pub fn table_refusal(s: &[u64], sh: Shape, b: u64) -> u64
-    ensures { result ≡ table_refusal (loadAt s.now sh) sh b }
-{
-    if b < sh.tables as u64 {
-        if layout::head_word(s, sh, b, field::HEAD_LIFECYCLE) == value::LIFE_ACTIVE {
-            return format::refusal::DONE;
-        }
-        return format::refusal::TABLE_RETIRED;
-    }
-    format::refusal::MISUSE
-}
-
-// As `storage::frame_link`, for `open_slot` alone: with one caller it is compiled in place, and it reads no more of the table's head than it needs.
+// As `storage::frame_link`, for `find_handle` alone: with one caller it is compiled in place, and it reads no more of the table's head than it needs.
+#[tactic(auto, unfolding(model::specs::State::max_slots))]
 fn slot_frame(s: &[u64], sh: Shape, b: u64, k: u64) -> u64
     ensures { result ≡ frame_of (loadAt s.now sh) b k }
 {
@@ -144,7 +118,7 @@ fn slot_frame(s: &[u64], sh: Shape, b: u64, k: u64) -> u64
     storage::page_word(s, sh, e, k / size::PAGE_SIZE, field::ENTRY_FRAME)
 }
 
-// As `storage::cell_in`, for `open_slot` alone, so that the words stay in registers.
+// As `storage::cell_in`, for `find_handle` alone, so that the words stay in registers.
 fn slot_words(s: &[u64], sh: Shape, fr: u64, j: u64) -> CellWords
     ensures { result ≡ cell_in (loadAt s.now sh) fr j }
 {
@@ -169,56 +143,43 @@ fn slot_words(s: &[u64], sh: Shape, fr: u64, j: u64) -> CellWords
     }
 }
 
-// What slot k shows to a value of generation g, as an opening.
-fn open_slot(s: &[u64], sh: Shape, b: u64, k: u64, g: u64) -> Opened
-    ensures { result ≡ view_opened (slot_view (loadAt s.now sh) b k g) }
+// What slot k, whose words are given, shows to a value of generation g: a slot of equal generation that is TransferReserved is Busy.
+fn open_slot(k: u64, g: u64, w: CellWords) -> Result<PreparedHandle, Refusal>
+    ensures { result ≡ view_result (shown g w.tag (handle_by k w)) }
 {
-    let fr = slot_frame(s, sh, b, k);
-    let w = slot_words(s, sh, fr, k % size::PAGE_SIZE);
-    let n = slot_refusal(g, w);
-    if n == format::refusal::DONE {
-        return Opened::Handle(prepared(k, w));
+    if g != w.generation {
+        return Err(Refusal::InvalidHandle);
     }
-    Opened::Refused(n)
+    if w.tag == value::TAG_OCCUPIED {
+        return Ok(prepared(k, w));
+    }
+    if w.tag == value::TAG_TRANSFER_RESERVED {
+        return Err(Refusal::Busy);
+    }
+    Err(Refusal::InvalidHandle)
 }
 
-// The handle that a value names in table b, active or not.
-fn open_value(s: &[u64], sh: Shape, b: u64, v: HandleValue) -> Opened
-    ensures { result ≡ view_opened (view_of (loadAt s.now sh) b v.0) }
+// What a value names in table b, active or not: a handle, or why there is none.
+#[tactic(auto, unfolding(crate::specs::View::view_of, crate::specs::View::slot_view))]
+pub fn find_handle(s: &[u64], sh: Shape, b: u64, v: HandleValue) -> Result<PreparedHandle, Refusal>
+    ensures { result ≡ view_result (view_of (loadAt s.now sh) b v.0) }
 {
     let codec = HandleCodec {
         mask: layout::head_word(s, sh, b, field::HEAD_MASK),
     };
-    match codec.decode(v) {
-        Decoded::At { slot, generation } => open_slot(s, sh, b, slot, generation),
-        Decoded::Invalid => Opened::Refused(format::refusal::INVALID_HANDLE),
-    }
-}
-
-// What a value names in table b.
-pub fn find_handle(s: &[u64], sh: Shape, b: u64, v: HandleValue) -> View
-    ensures { result ≡ view_of (loadAt s.now sh) b v.0 }
-{
-    match open_value(s, sh, b, v) {
-        Opened::Refused(n) => {
-            if n == format::refusal::BUSY {
-                return View::Busy;
-            }
-            View::Invalid
-        }
-        Opened::Handle(h) => View::Holds(h),
-    }
+    let named = codec.decode(v).ok_or(Refusal::InvalidHandle)?;
+    let fr = slot_frame(s, sh, b, named.slot);
+    let w = slot_words(s, sh, fr, named.slot % size::PAGE_SIZE);
+    open_slot(named.slot, named.generation, w)
 }
 
 // The handle that a value names in an active table.
-pub fn open_handle(s: &[u64], sh: Shape, b: u64, v: HandleValue) -> Opened
-    ensures { result ≡ open_of (loadAt s.now sh) sh b v.0 }
+#[tactic(auto, unfolding(crate::specs::View::open_of))]
+pub fn open_handle(s: &[u64], sh: Shape, b: u64, v: HandleValue) -> Result<PreparedHandle, Refusal>
+    ensures { opened result ≡ open_of (loadAt s.now sh) sh b v.0 }
 {
-    let n = table_refusal(s, sh, b);
-    if n == 0 {
-        return open_value(s, sh, b, v);
-    }
-    Opened::Refused(n)
+    active_table(s, sh, b)?;
+    find_handle(s, sh, b, v)
 }
 
 // The info of a handle.
@@ -234,46 +195,41 @@ pub fn info_of(s: &[u64], sh: Shape, h: PreparedHandle) -> HandleInfo
 }
 
 // "`get_info`: 16, 2 or 3".
-pub fn get_info(s: &[u64], sh: Shape, b: u64, v: HandleValue, out: &mut [u64], base: usize)
-    ensures { both s.now out.new ≡ get_info_r s.now out.old sh base b v.0 }
+#[tactic(auto, unfolding(crate::specs::Read::get_info_r))]
+pub fn get_info(s: &[u64], sh: Shape, b: u64, v: HandleValue) -> Result<HandleInfo, Refusal>
+    ensures { Gives s.now (reply info_list result) (λ os base. get_info_r s.now os sh base b v.0) }
 {
-    match open_handle(s, sh, b, v) {
-        Opened::Refused(n) => {
-            answer::refuse(out, base, n);
-        }
-        Opened::Handle(h) => {
-            let info = info_of(s, sh, h);
-            answer::say4(out, base, info.koid.0, info.kind, info.rights, info.flags);
-        }
-    }
+    let h = open_handle(s, sh, b, v)?;
+    Ok(info_of(s, sh, h))
 }
 
 // The rest of `resolve`, on the handle found.
+#[tactic(auto, unfolding(crate::specs::Read::resolved_r))]
 fn resolve_handle(
     s: &[u64],
     sh: Shape,
     h: PreparedHandle,
     required: Rights,
     kind: u64,
-    out: &mut [u64],
-    base: usize,
-)
-    ensures { both s.now out.new ≡ resolved_r s.now out.old sh base required.0 kind h }
+) -> Result<Resolved, Refusal>
+    ensures { Gives s.now (reply resolved_list result) (λ os base. resolved_r s.now os sh base required.0 kind h) }
 {
-    let held = Rights(h.rights);
-    if held.contains(required) {
-        let info = info_of(s, sh, h);
-        if info.kind == kind {
-            answer::say3(out, base, h.object, info.koid.0, h.rights);
-            return;
-        }
-        answer::refuse(out, base, format::refusal::WRONG_OBJECT_TYPE);
-        return;
+    if !Rights(h.rights).contains(required) {
+        return Err(Refusal::AccessDenied);
     }
-    answer::refuse(out, base, format::refusal::ACCESS_DENIED);
+    let info = info_of(s, sh, h);
+    if info.kind != kind {
+        return Err(Refusal::WrongObjectType);
+    }
+    Ok(Resolved {
+        object: h.object,
+        koid: info.koid,
+        rights: h.rights,
+    })
 }
 
 // "Resolve: 16, 2 or 3, 5, 4".
+#[tactic(auto, unfolding(crate::specs::Read::resolve_r))]
 pub fn resolve(
     s: &[u64],
     sh: Shape,
@@ -281,22 +237,15 @@ pub fn resolve(
     v: HandleValue,
     required: Rights,
     kind: u64,
-    out: &mut [u64],
-    base: usize,
-)
-    ensures { both s.now out.new ≡ resolve_r s.now out.old sh base b v.0 required.0 kind }
+) -> Result<Resolved, Refusal>
+    ensures { Gives s.now (reply resolved_list result) (λ os base. resolve_r s.now os sh base b v.0 required.0 kind) }
 {
-    match open_handle(s, sh, b, v) {
-        Opened::Refused(n) => {
-            answer::refuse(out, base, n);
-        }
-        Opened::Handle(h) => {
-            resolve_handle(s, sh, h, required, kind, out, base);
-        }
-    }
+    let h = open_handle(s, sh, b, v)?;
+    resolve_handle(s, sh, h, required, kind)
 }
 
 // How many slots the pages have that table b has had, detached ones included.
+#[tactic(auto, unfolding(model::specs::State::max_slots))]
 pub fn table_length(s: &[u64], sh: Shape, b: u64) -> u64
     ensures { result ≡ length_at (loadAt s.now sh) b }
 {
@@ -363,17 +312,7 @@ fn tag_in(s: &[u64], sh: Shape, fr: u64, j: u64) -> u64
     layout::cell_word(s, sh, fr - 1, j, field::SLOT_TAG)
 }
 
-// Where the next scan goes on after one that stopped.
-fn next_cursor(stop: u64, length: u64) -> NextCursor
-    ensures { result ≡ next_at stop length }
-{
-    if stop < length {
-        return NextCursor::At(stop);
-    }
-    NextCursor::End
-}
-
-// The page of a scan that started and stopped at two slots.
+// The page of a scan that started and stopped at two slots: the next one goes on where slots are left.
 fn ended(
     entries: [SnapshotEntry; format::size::SCAN_ENTRIES],
     len: usize,
@@ -384,10 +323,11 @@ fn ended(
     requires { start ≤ stop }
     ensures { result ≡ ended_of entries len start stop length }
 {
+    let next = if stop < length { Some(stop) } else { None };
     SnapshotPage {
-        entries: entries,
-        len: len,
-        next: next_cursor(stop, length),
+        entries,
+        len,
+        next,
         examined: stop - start,
     }
 }
@@ -399,53 +339,28 @@ pub fn scan(s: &[u64], sh: Shape, b: u64, cursor: u64) -> SnapshotPage
 {
     let length = table_length(s, sh, b);
     let start = cursor.min(length);
+    let stop = length.min(start + format::size::SCAN_SLOTS);
     let mask = layout::head_word(s, sh, b, field::HEAD_MASK);
-    let none = no_entry();
-    let mut entries = [none; format::size::SCAN_ENTRIES];
+    let mut entries = [no_entry(); format::size::SCAN_ENTRIES];
     let mut len: usize = 0;
     let mut fr = storage::frame_link(s, sh, b, start);
-    let mut at = start;
-    let mut left = format::size::SCAN_SLOTS.min(length - start);
-    while 0 < left {
+    for at in start..stop {
         if format::size::SCAN_ENTRIES <= len {
             return ended(entries, len, start, at, length);
         }
         fr = frame_on(s, sh, b, at, fr);
-        if tag_in(s, sh, fr, at % size::PAGE_SIZE) == value::TAG_OCCUPIED {
-            let w = storage::cell_in(s, sh, fr, at % size::PAGE_SIZE);
-            entries[len] = snapshot_by(s, sh, mask, at, w);
-            len += 1;
-            at += 1;
-            left -= 1;
+        if tag_in(s, sh, fr, at % size::PAGE_SIZE) != value::TAG_OCCUPIED {
             continue;
         }
-        at += 1;
-        left -= 1;
+        let w = storage::cell_in(s, sh, fr, at % size::PAGE_SIZE);
+        entries[len] = snapshot_by(s, sh, mask, at, w);
+        len += 1;
     }
-    ended(entries, len, start, at, length)
-}
-
-// 1 where there is a next cursor, else 0.
-fn has_next(next: NextCursor) -> u64
-    ensures { result ≡ has_next next }
-{
-    match next {
-        NextCursor::At(_) => 1,
-        NextCursor::End => 0,
-    }
-}
-
-// The next cursor; 0 where there is none.
-fn next_word(next: NextCursor) -> u64
-    ensures { result ≡ next_word next }
-{
-    match next {
-        NextCursor::At(k) => k,
-        NextCursor::End => 0,
-    }
+    ended(entries, len, start, stop, length)
 }
 
 // Puts an entry's words, from word i of the answer on.
+#[tactic(auto, unfolding(request::specs::Answers::puts))]
 fn put_entry(out: &mut [u64], base: usize, i: usize, x: SnapshotEntry)
     requires { i < answer_words }
     ensures { out.new ≡ puts out.old base i (entry_words x) }
@@ -458,43 +373,45 @@ fn put_entry(out: &mut [u64], base: usize, i: usize, x: SnapshotEntry)
 }
 
 // Puts a page's entries, from word 5 of the answer on.
+#[tactic(auto, unfolding(request::specs::Answers::puts), using(crate::specs::Pages::entries_more))]
 fn put_entries(out: &mut [u64], base: usize, p: SnapshotPage)
     ensures { out.new ≡ puts out.old base 5 (entry_list (take p.len p.entries)) }
 {
-    let entries = p.entries;
-    let len = p.len;
-    for k in 0..format::size::SCAN_ENTRIES {
-        if len <= k {
-            return;
-        }
-        let x = entries[k];
-        put_entry(out, base, 5 + k * 5, x);
+    let entries = &p.entries[..p.len.min(format::size::SCAN_ENTRIES)];
+    for (k, entry) in entries.iter().enumerate() {
+        put_entry(out, base, 5 + k * 5, *entry);
     }
 }
 
 // Answers a page.
+#[tactic(auto, unfolding(request::specs::Answers::puts))]
 fn say_page(out: &mut [u64], base: usize, p: SnapshotPage)
     ensures { out.new ≡ answered out.old base (0 ∷ page_list p) }
 {
-    let next = p.next;
-    let len = p.len as u64;
-    answer::say4(out, base, len, has_next(next), next_word(next), p.examined);
+    answer::say(
+        out,
+        base,
+        &[
+            p.len as u64,
+            p.next.is_some() as u64,
+            p.next.unwrap_or(0),
+            p.examined,
+        ],
+    );
     put_entries(out, base, p);
 }
 
 // "Unknown table, object or row first"; 16; else a page.
-pub fn scan_handles(s: &[u64], sh: Shape, b: u64, cursor: u64, out: &mut [u64], base: usize)
-    ensures { both s.now out.new ≡ scan_r s.now out.old sh base b cursor }
+#[tactic(auto, unfolding(crate::specs::Scan::scan_r))]
+pub fn scan_handles(s: &[u64], sh: Shape, b: u64, cursor: u64) -> Result<SnapshotPage, Refusal>
+    ensures { Gives s.now (reply page_list result) (λ os base. scan_r s.now os sh base b cursor) }
 {
-    let n = table_refusal(s, sh, b);
-    if n == 0 {
-        say_page(out, base, scan(s, sh, b, cursor));
-        return;
-    }
-    answer::refuse(out, base, n);
+    active_table(s, sh, b)?;
+    Ok(scan(s, sh, b, cursor))
 }
 
 // The request of a list at a place: its fields are read.
+#[tactic(auto, unfolding(request::specs::Place::three_at))]
 pub fn serve_get_info(s: &mut [u64], sh: Shape, rq: &[u64], at: usize, out: &mut [u64], base: usize)
     ensures { both s.new out.new ≡ get_info_r s.old out.old sh base (field_of rq.now at table_field) (field_of rq.now at value_field) }
 {
@@ -506,11 +423,17 @@ pub fn serve_get_info(s: &mut [u64], sh: Shape, rq: &[u64], at: usize, out: &mut
         format::field::FIELD_VALUE,
         format::field::NO_FIELD,
     );
-    let table = f.a;
-    let value = f.b;
-    get_info(s, sh, table, HandleValue(value), out, base);
+    match get_info(s, sh, f.a, HandleValue(f.b)) {
+        Ok(info) => answer::say(
+            out,
+            base,
+            &[info.koid.0, info.kind, info.rights, info.flags],
+        ),
+        Err(refusal) => answer::refuse(out, base, refusal),
+    }
 }
 
+#[tactic(auto, unfolding(request::specs::Place::three_at))]
 pub fn serve_resolve(s: &mut [u64], sh: Shape, rq: &[u64], at: usize, out: &mut [u64], base: usize)
     ensures { both s.new out.new ≡ resolve_r s.old out.old sh base (field_of rq.now at table_field) (field_of rq.now at value_field) (field_of rq.now at rights_field) (field_of rq.now at kind_field) }
 {
@@ -530,22 +453,13 @@ pub fn serve_resolve(s: &mut [u64], sh: Shape, rq: &[u64], at: usize, out: &mut 
         format::field::NO_FIELD,
         format::field::NO_FIELD,
     );
-    let table = f.a;
-    let value = f.b;
-    let rights = f.c;
-    let kind = g.a;
-    resolve(
-        s,
-        sh,
-        table,
-        HandleValue(value),
-        Rights(rights),
-        kind,
-        out,
-        base,
-    );
+    match resolve(s, sh, f.a, HandleValue(f.b), Rights(f.c), g.a) {
+        Ok(found) => answer::say(out, base, &[found.object, found.koid.0, found.rights]),
+        Err(refusal) => answer::refuse(out, base, refusal),
+    }
 }
 
+#[tactic(auto, unfolding(request::specs::Place::three_at))]
 pub fn serve_scan_handles(
     s: &mut [u64],
     sh: Shape,
@@ -564,7 +478,8 @@ pub fn serve_scan_handles(
         format::field::FIELD_CURSOR,
         format::field::NO_FIELD,
     );
-    let table = f.a;
-    let cursor = f.b;
-    scan_handles(s, sh, table, cursor, out, base);
+    match scan_handles(s, sh, f.a, f.b) {
+        Ok(page) => say_page(out, base, page),
+        Err(refusal) => answer::refuse(out, base, refusal),
+    }
 }

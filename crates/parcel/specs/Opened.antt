@@ -20,7 +20,7 @@ use Rattle.model.proofs.Decided.{on_handle}
 use Rattle.model.specs.Step.{new_object_of, duplicate_of, retire_object_of, decide}
 use Rattle.model.specs.Words.{used_words}
 use Rattle.layout.specs.declared.Shape.{Shape}
-use Rattle.layout.specs.Layout.{Mem, root, index, object, item, load, Write.at, load_writes, in_item}
+use Rattle.layout.specs.Layout.{Mem, root, index, item, load, Write.at, load_writes, in_item}
 use Rattle.layout.specs.Fields.{root_used_rows, index_place, item_object, item_rights, item_flags}
 use Rattle.layout.specs.Values.{kind_parcel, stage_active}
 use Rattle.layout.specs.RegionNames.{region_root, region_index}
@@ -35,8 +35,8 @@ use Rattle.book.specs.Swap.{spare_held}
 use Rattle.book.specs.Open.{open_held}
 use Rattle.answer.specs.Does.{refuse_r, Does, does_refused, does_accepted}
 use Rattle.lookup.specs.declared.PreparedHandle.{PreparedHandle}
-use Rattle.lookup.specs.declared.Opened.{Opened}
-use Rattle.lookup.specs.declared.Opened.TheVariants.{Refused, Handle as Found}
+use Rattle.lookup.specs.View.{Opened}
+use Rattle.lookup.specs.View.{Opened.Refused, Opened.Handle as Found}
 use Rattle.lookup.specs.View.{table_refusal, open_of}
 use Rattle.lookup.specs.Named.{Opens, Active, active_on, table_open, table_refused, open_refused_is, open_found_is}
 use Rattle.lookup.specs.Read.{on_opened, opened_known}

@@ -25,8 +25,8 @@ use Rattle.storage.specs.Reps.{Held, held_of}
 use Rattle.book.specs.Ops.{spare}
 use Rattle.answer.specs.Does.{refuse_r, Does, does_refused, does_accepted}
 use Rattle.lookup.specs.declared.PreparedHandle.{PreparedHandle}
-use Rattle.lookup.specs.declared.Opened.{Opened}
-use Rattle.lookup.specs.declared.Opened.TheVariants.{Refused, Handle as Found}
+use Rattle.lookup.specs.View.{Opened}
+use Rattle.lookup.specs.View.{Opened.Refused, Opened.Handle as Found}
 use Rattle.lookup.specs.View.{table_refusal, open_of, handle_of}
 use Rattle.lookup.specs.Named.{Opens, Active, active_on, table_open, table_refused, open_refused_is, open_found_is}
 use Rattle.lookup.specs.Read.{on_opened, opened_known}

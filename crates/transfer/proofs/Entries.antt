@@ -19,7 +19,7 @@ use Rattle.storage.specs.Reps.{Held}
 use Rattle.book.specs.Ops.{spare, Fills, fills_none, fills_then}
 use Rattle.book.specs.Swap.{spare_held}
 use Rattle.lookup.specs.declared.PreparedHandle.{PreparedHandle}
-use Rattle.lookup.specs.declared.View.TheVariants.{Holds}
+use Rattle.lookup.specs.View.{View.Holds}
 use Rattle.lookup.specs.View.{view_of, handle_of}
 use Rattle.book.specs.Decided.{spare_low}
 use Rattle.transfer.specs.Ops.{moved_w}

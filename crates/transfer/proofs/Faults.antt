@@ -23,8 +23,8 @@ use Rattle.representation.specs.Represents.{class_word, ObjectIs, Represents}
 use Rattle.representation.specs.Told.{retired_tells}
 use Rattle.object.specs.Words.{record_at, raise_refusal}
 use Rattle.lookup.specs.declared.PreparedHandle.{PreparedHandle}
-use Rattle.lookup.specs.declared.View.{View}
-use Rattle.lookup.specs.declared.View.TheVariants.{Invalid, Busy, Holds}
+use Rattle.lookup.specs.View.{View}
+use Rattle.lookup.specs.View.{View.Invalid, View.Busy, View.Holds}
 use Rattle.lookup.specs.View.{view_of, handle_of, named}
 use Rattle.lookup.specs.Named.{view_is, view_found}
 use Rattle.lookup.specs.Read.{object_known}

@@ -32,8 +32,8 @@ use Rattle.object.specs.Words.{record_at, record_p, step_w, raise_w, lower_w, ra
 use Rattle.object.specs.Record.{raised_by, lowered_by}
 use Rattle.object.specs.Reps.{step_length, step_only, raise_held, lower_held, limit_room}
 use Rattle.lookup.specs.declared.PreparedHandle.{PreparedHandle}
-use Rattle.lookup.specs.declared.View.{View}
-use Rattle.lookup.specs.declared.View.TheVariants.{Invalid, Busy, Holds}
+use Rattle.lookup.specs.View.{View}
+use Rattle.lookup.specs.View.{View.Invalid, View.Busy, View.Holds}
 use Rattle.lookup.specs.View.{view_of, handle_of, named}
 use Rattle.lookup.specs.Named.{view_is}
 use Rattle.lookup.specs.Read.{object_known}

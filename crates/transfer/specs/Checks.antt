@@ -19,8 +19,8 @@ use Rattle.request.specs.Place.{fields_at, places_from, place_of, item_at}
 use Rattle.object.specs.declared.ObjectRecord.{ObjectRecord}
 use Rattle.object.specs.Words.{record_at}
 use Rattle.lookup.specs.declared.PreparedHandle.{PreparedHandle}
-use Rattle.lookup.specs.declared.View.{View}
-use Rattle.lookup.specs.declared.View.TheVariants.{Invalid, Busy, Holds}
+use Rattle.lookup.specs.View.{View}
+use Rattle.lookup.specs.View.{View.Invalid, View.Busy, View.Holds}
 use Rattle.lookup.specs.View.{view_of, table_refusal}
 use Rattle.book.specs.Ops.{row_left, id_refusal}
 use Rattle.transfer.specs.declared.HandleTransferRequest.{HandleTransferRequest}
