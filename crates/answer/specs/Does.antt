@@ -37,6 +37,10 @@ abbrev pub reply : {A : Type 0} → (A → List ℕ) → Result A Refusal → Li
 reply words_of (Ok a) = 0 ∷ words_of a
 reply words_of (Err e) = number e ∷ []
 
+-- the words of what was done, where nothing is to be said of it
+abbrev pub no_words : Unit {0} → List ℕ
+no_words u = []
+
 -- what a request does whose answer has the words vs and after which the state has the words ws: the same wherever that answer is put
 abbrev pub Gives : List ℕ → List ℕ → (List ℕ → ℕ → Both) → Type 0
 Gives ws vs does = (os : List ℕ) (base : ℕ) → both ws (answered os base vs) ≡ does os base

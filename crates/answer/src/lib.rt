@@ -3,7 +3,7 @@
 
 ghost use Rattle.std.specs.Prelude.{◌≡◌, [], ◌∷◌};
 ghost use Rattle.format.specs.Refusals.{number};
-ghost use Rattle.answer.specs.Does.{answered};
+ghost use Rattle.answer.specs.Does.{answered, reply, no_words};
 
 use format::refusal::{DONE, Refusal};
 
@@ -24,4 +24,12 @@ pub fn say(out: &mut [u64], base: usize, words: &[u64])
     for (i, word) in words.iter().enumerate() {
         request::answer_put(out, base, i + 1, *word);
     }
+}
+
+// The number alone: a refusal's, or 0 where a request says no more than that it is done.
+#[tactic(auto, unfolding(request::specs::Answers::puts), using(crate::specs::Code::number_alone))]
+pub fn outcome(out: &mut [u64], base: usize, outcome: Result<(), Refusal>)
+    ensures { out.new ≡ answered out.old base (reply no_words outcome) }
+{
+    request::answer_put(out, base, 0, format::refusal::number_of(outcome));
 }

@@ -1,45 +1,58 @@
 -- What the code's loops and stores say, in the terms of the definitions. Assumes nothing.
-use Rattle.std.specs.Prelude.{◌≡◌, Bool, true, false, List, ℕ, zero, suc, ◌+◌, ◌-◌, ◌/◌, ◌≤◌, ◌<◌, min, ltb}
+use Rattle.std.specs.Prelude.{◌≡◌, Bool, true, false, List, ℕ, zero, suc, ◌+◌, ◌-◌, ◌/◌, ◌≤◌, ◌<◌, min, ltb, Option, Some, None, SomeIff}
 use Rattle.std.proofs.Math.Path.{refl, sym, ap}
-use Rattle.std.proofs.Common.{◌∙◌, arith}
+use Rattle.std.proofs.Common.{◌∙◌, arith, eq-eqb, ne_eqb}
 use Rattle.std.proofs.Math.Dec.{eqb}
-use Rattle.words.specs.Pick.{pick, yes_is, no_is}
-use Rattle.model.specs.State.{last_id}
+use Rattle.words.specs.Pick.{pick, yes_is, no_is, pick_has}
 use Rattle.layout.specs.declared.Shape.{Shape}
 use Rattle.layout.specs.Layout.{Mem, root, index, rank, row, item, load, save}
 use Rattle.layout.specs.Fields.{root_next_id, root_used_rows, row_id, row_kind, row_table, row_length, item_slot}
 use Rattle.layout.specs.Sizes.{batch_max}
 use Rattle.storage.specs.Ops.{up, vacate_w}
-use Rattle.book.specs.Ops.{id_at, link_from, used_of, likely_rank, likely_link, row_link, kind_link, row_left, id_refusal, spare, open_p, open_w, shift_w, close_w, vacate_items_w}
+use Rattle.book.specs.Ops.{id_at, link_from, place_of, used_of, likely_rank, likely_link, row_link, kind_link, row_left, spare, open_p, open_w, shift_w, close_w, vacate_items_w}
+
+-- a link and the place that it names
+pub place_is : (l x : ℕ) → place_of l ≡ Some x → l ≡ suc x
+place_is zero x e = absurd (let z : ◌≡◌ {A = ℕ} 0 1 = cc in omega arith)
+place_is (suc y) x e = cc
+
+pub no_place : (l : ℕ) → place_of l ≡ None → l ≡ 0
+no_place zero e = refl
+no_place (suc y) e = absurd (let z : ◌≡◌ {A = ℕ} 0 1 = cc in omega arith)
+
+-- `checked_sub` of 1
+pub place_by : (l : ℕ) (r : Option ℕ) → SomeIff r (1 ≤ l) (l - 1) → r ≡ place_of l
+place_by zero None f = refl
+place_by zero (Some x) f = absurd (omega (arith, f.0))
+place_by (suc y) None f = absurd (f (omega arith))
+place_by (suc y) (Some x) f = let z : suc y - 1 ≡ y = omega arith in ap Some (f.1 ∙ z)
 
 -- the row of a kind with an id
-module _ (what : ℕ) (m : Mem) (sh : Shape) (i l x w : ℕ) (t : Bool) (e₁ : l ≡ row_link m sh i) (e₂ : x ≡ l - 1) (e₃ : w ≡ m (row x row_kind)) (e₄ : t ≡ eqb w what) where
-  tested : eqb (m (row (row_link m sh i - 1) row_kind)) what ≡ t
-  tested = rw (e₄, e₃, e₂, e₁)
-
-  pub kind_yes : t ≡ true → l ≡ kind_link what m sh i
+module _ (what : ℕ) (m : Mem) (sh : Shape) (i : ℕ) (r : Option ℕ) (e : r ≡ place_of (row_link m sh i)) where
+  pub kind_missing : r ≡ None → None ≡ place_of (kind_link what m sh i)
   unfolding kind_link
-  kind_yes y = yes_is _ _ _ _ (tested ∙ y) e₁
+  kind_missing d =
+      let z : row_link m sh i ≡ 0 = no_place (row_link m sh i) (sym e ∙ d) in
+      rw z (pick_has (λ (l : ℕ). None ≡ place_of l) (eqb (m (row (0 - 1) row_kind)) what) 0 0 (λ y. refl) (λ y. refl))
 
-  pub kind_no : t ≡ false → 0 ≡ kind_link what m sh i
-  unfolding kind_link
-  kind_no y = no_is _ _ _ _ (tested ∙ y) refl
+  module _ (x : ℕ) (d : r ≡ Some x) (w : ℕ) (g : w ≡ m (row x row_kind)) where
+    row_here : row_link m sh i ≡ suc x
+    row_here = place_is (row_link m sh i) x (sym e ∙ d)
+
+    kind_here : m (row (row_link m sh i - 1) row_kind) ≡ w
+    kind_here = let z : row_link m sh i - 1 ≡ x = omega (arith, row_here) in rw z (sym g)
+
+    pub kind_same : w ≡ what → Some x ≡ place_of (kind_link what m sh i)
+    unfolding kind_link
+    kind_same y = ap place_of (yes_is _ _ _ _ (eq-eqb _ _ (kind_here ∙ y)) (sym row_here))
+
+    pub kind_other : (w ≡ what → ⊥) → None ≡ place_of (kind_link what m sh i)
+    unfolding kind_link
+    kind_other n = ap place_of (no_is (eqb (m (row (row_link m sh i - 1) row_kind)) what) 0 (row_link m sh i) 0 (ne_eqb _ _ (λ y. n (sym kind_here ∙ y))) refl)
 
 -- `row_left`
 pub row_left_law : (m : Mem) (sh : Shape) (w : ℕ) (t : Bool) → w ≡ m (root root_used_rows) → t ≡ ltb w sh.rows → t ≡ row_left m sh
 row_left_law m sh w t e q = q ∙ ap (λ (n : ℕ). ltb n sh.rows) e
-
--- `id_refusal`
-module _ (m : Mem) (w : ℕ) (t : Bool) (e : w ≡ m (root root_next_id)) (q : t ≡ eqb w 18446744073709551615) where
-  last_id_law : eqb (m (root root_next_id)) last_id ≡ t
-  unfolding last_id
-  last_id_law = sym (q ∙ ap (λ (n : ℕ). eqb n 18446744073709551615) e)
-
-  pub id_spent : t ≡ true → 12 ≡ id_refusal m
-  id_spent y = yes_is _ _ _ _ (last_id_law ∙ y) refl
-
-  pub id_left_law : t ≡ false → 0 ≡ id_refusal m
-  id_left_law y = no_is _ _ _ _ (last_id_law ∙ y) refl
 
 -- ---- `search_row`
 

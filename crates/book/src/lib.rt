@@ -5,33 +5,32 @@
 ghost use Rattle.std.specs.Prelude.{◌≡◌, ℕ, ◌-◌, min};
 ghost use Rattle.layout.specs.Layout.{load as loadAt};
 ghost use Rattle.layout.specs.Sizes.{batch_max};
-ghost use Rattle.book.specs.Ops.{link_from, likely_link, row_link, kind_link, reservation_link, plan_link, row_left, id_refusal, spare, open_w, handle_w, shift_w, close_w, shrink_w, vacate_items_w, spend_w};
+ghost use Rattle.format.specs.Refusals.{number_of};
+ghost use Rattle.book.specs.Ops.{link_from, likely_link, place_of, row_link, kind_link, row_left, id_refusal, spare, open_w, handle_w, shift_w, close_w, shrink_w, vacate_items_w, spend_w};
 
 use codec::ReservationId;
-use layout::{Shape, field, size, value};
+use format::refusal::Refusal;
+use layout::{Shape, field, size};
 
 // The id that is never given out.
 pub const LAST_ID: u64 = 0xffff_ffff_ffff_ffff;
 
-// The place of the row of the likely rank among n, plus 1, if that row has the id; else 0. Where no row that opened after it has left, a row stands as far from the ranks' end
+// The link of the row of the likely rank among n, if that row has the id; else 0. A link is a place plus 1, as the definitions write it: the largest word stays, which an Option could not tell. Where no row that opened after it has left, a row stands as far from the ranks' end
 // as its id is from the next one.
 fn likely_row(s: &[u64], sh: Shape, id: u64, n: u64) -> u64
     ensures { result ≡ likely_link (loadAt s.now sh) id n }
 {
-    let i = words::left(
-        n,
-        words::left(layout::root_word(s, sh, field::ROOT_NEXT_ID), id),
-    );
-    if words::lt(i, n) {
+    let i = n.saturating_sub(layout::root_word(s, sh, field::ROOT_NEXT_ID).saturating_sub(id));
+    if i < n {
         let x = layout::index_word(s, sh, i);
-        if words::eq(layout::row_word(s, sh, x, field::ROW_ID), id) {
-            return words::inc(x);
+        if layout::row_word(s, sh, x, field::ROW_ID) == id {
+            return x.saturating_add(1);
         }
     }
     0
 }
 
-// The place of the row with an id among the first count ranks, plus 1; 0 if there is none. Ids rise with rank, so that each look leaves half of the ranks.
+// The link of the row with an id among the first count ranks; 0 if there is none. Ids rise with rank, so that each look leaves half of the ranks.
 fn search_row(s: &[u64], sh: Shape, id: u64, count: u64) -> u64
     ensures { result ≡ link_from (loadAt s.now sh) id count 0 count }
 {
@@ -41,10 +40,10 @@ fn search_row(s: &[u64], sh: Shape, id: u64, count: u64) -> u64
         let half = n / 2;
         let x = layout::index_word(s, sh, i + half);
         let w = layout::row_word(s, sh, x, field::ROW_ID);
-        if words::eq(w, id) {
-            return words::inc(x);
+        if w == id {
+            return x.saturating_add(1);
         }
-        if words::lt(w, id) {
+        if w < id {
             i = i + half + 1;
             n = n - half - 1;
             continue;
@@ -54,65 +53,47 @@ fn search_row(s: &[u64], sh: Shape, id: u64, count: u64) -> u64
     0
 }
 
-// The place of the row in use with an id, plus 1; 0 if there is none. The likely rank first, then a search.
-pub fn row_of(s: &[u64], sh: Shape, id: u64) -> u64
-    ensures { result ≡ row_link (loadAt s.now sh) sh id }
+// The place of the row in use with an id. The likely rank first, then a search.
+pub fn row_of(s: &[u64], sh: Shape, id: u64) -> Option<u64>
+    ensures { result ≡ place_of (row_link (loadAt s.now sh) sh id) }
 {
     let rows = sh.rows as u64;
-    let n = words::smaller(layout::root_word(s, sh, field::ROOT_USED_ROWS), rows);
+    let n = layout::root_word(s, sh, field::ROOT_USED_ROWS).min(rows);
     let link = likely_row(s, sh, id, n);
-    if words::eq(link, 0) {
-        return search_row(s, sh, id, n);
+    if link == 0 {
+        return search_row(s, sh, id, n).checked_sub(1);
     }
-    link
+    link.checked_sub(1)
 }
 
-// The place of the row of a kind with an id, plus 1; 0 if there is none.
-fn kind_of(s: &[u64], sh: Shape, id: ReservationId, what: u64) -> u64
-    ensures { result ≡ kind_link what (loadAt s.now sh) sh id.0 }
+// The place of the row of a kind with an id.
+pub fn row_of_kind(s: &[u64], sh: Shape, id: ReservationId, what: u64) -> Option<u64>
+    ensures { result ≡ place_of (kind_link what (loadAt s.now sh) sh id.0) }
 {
-    let link = row_of(s, sh, id.0);
-    if words::eq(
-        layout::row_word(s, sh, words::dec(link), field::ROW_KIND),
-        what,
-    ) {
-        return link;
+    let x = row_of(s, sh, id.0)?;
+    if layout::row_word(s, sh, x, field::ROW_KIND) == what {
+        Some(x)
+    } else {
+        None
     }
-    0
-}
-
-// So of the open reservation with an id.
-pub fn reservation_of(s: &[u64], sh: Shape, id: ReservationId) -> u64
-    ensures { result ≡ reservation_link (loadAt s.now sh) sh id.0 }
-{
-    kind_of(s, sh, id, value::KIND_RESERVATION)
-}
-
-// And of the plan with an id.
-pub fn plan_of(s: &[u64], sh: Shape, id: ReservationId) -> u64
-    ensures { result ≡ plan_link (loadAt s.now sh) sh id.0 }
-{
-    kind_of(s, sh, id, value::KIND_PLAN)
 }
 
 // Whether a row is left.
 pub fn row_left(s: &[u64], sh: Shape) -> bool
     ensures { result ≡ row_left (loadAt s.now sh) sh }
 {
-    words::lt(
-        layout::root_word(s, sh, field::ROOT_USED_ROWS),
-        sh.rows as u64,
-    )
+    layout::root_word(s, sh, field::ROOT_USED_ROWS) < sh.rows as u64
 }
 
-// "ReservationIdExhausted: next id is 2^64 - 1": 12, else 0.
-pub fn id_refusal(s: &[u64], sh: Shape) -> u64
-    ensures { result ≡ id_refusal (loadAt s.now sh) }
+// "ReservationIdExhausted: next id is 2^64 - 1": 12.
+#[tactic(auto, unfolding(model::specs::State::last_id))]
+pub fn id_left(s: &[u64], sh: Shape) -> Result<(), Refusal>
+    ensures { number_of result ≡ id_refusal (loadAt s.now sh) }
 {
-    if words::eq(layout::root_word(s, sh, field::ROOT_NEXT_ID), LAST_ID) {
-        return format::refusal::RESERVATION_ID_EXHAUSTED;
+    if layout::root_word(s, sh, field::ROOT_NEXT_ID) == LAST_ID {
+        return Err(Refusal::ReservationIdExhausted);
     }
-    format::refusal::DONE
+    Ok(())
 }
 
 // The place of the next row to open.
@@ -130,8 +111,8 @@ pub fn open_row(s: &mut [u64], sh: Shape, what: u64, b: u64, n: u64)
     let x = spare_place(s, sh);
     let id = layout::root_word(s, sh, field::ROOT_NEXT_ID);
     let used = layout::root_word(s, sh, field::ROOT_USED_ROWS);
-    let next = words::inc(id);
-    let more = words::inc(used);
+    let next = id.saturating_add(1);
+    let more = used.saturating_add(1);
     layout::put_row(s, sh, x, field::ROW_ID, id);
     layout::put_row(s, sh, x, field::ROW_KIND, what);
     layout::put_row(s, sh, x, field::ROW_TABLE, b);
@@ -153,12 +134,10 @@ pub fn put_handle(s: &mut [u64], sh: Shape, x: u64, j: u64, object: u64, rights:
 fn shift_down(s: &mut [u64], sh: Shape, r: u64, last: u64)
     ensures words { s.new ≡ shift_w s.old sh r (last - r) }
 {
-    let mut i: u64 = r;
-    while i < last {
+    for i in r..last {
         let y = layout::index_word(s, sh, i + 1);
         layout::put_index(s, sh, i, y);
         layout::put_rank(s, sh, y, i);
-        i += 1;
     }
 }
 
@@ -168,8 +147,8 @@ pub fn close_row(s: &mut [u64], sh: Shape, x: u64)
 {
     let rows = sh.rows as u64;
     let r = layout::rank_word(s, sh, x);
-    let n = words::smaller(layout::root_word(s, sh, field::ROOT_USED_ROWS), rows);
-    let last = words::dec(n);
+    let n = layout::root_word(s, sh, field::ROOT_USED_ROWS).min(rows);
+    let last = n.saturating_sub(1);
     shift_down(s, sh, r, last);
     layout::put_index(s, sh, last, x);
     layout::put_rank(s, sh, x, last);
@@ -183,12 +162,12 @@ pub fn shrink_row(s: &mut [u64], sh: Shape, x: u64, n: u64)
     layout::put_row(s, sh, x, field::ROW_LENGTH, n);
 }
 
-// The slots that the items of a reservation of table b name, from one item up to another, fall vacant; the row stands in place x. The shape is copied field by field: the copy
-// of it in one go, which the calls would make, waits until the caller's stores of its fields are in the cache.
+// The slots that the items of a reservation of table b name, from one item up to another, fall vacant; the row stands in place x.
 pub fn vacate_items(s: &mut [u64], sh: Shape, b: u64, x: u64, from: u64, to: u64)
     ensures words { s.new ≡ vacate_items_w s.old sh b x from (min to batch_max - from) }
 {
-    let end = words::smaller(to, size::BATCH_MAX);
+    let end = to.min(size::BATCH_MAX);
+    // Field by field, for speed: a copy in one go, which the calls would make, waits until the caller's stores of the fields are in the cache.
     let own = Shape {
         tables: sh.tables,
         pages: sh.pages,
@@ -196,11 +175,9 @@ pub fn vacate_items(s: &mut [u64], sh: Shape, b: u64, x: u64, from: u64, to: u64
         objects: sh.objects,
         rows: sh.rows,
     };
-    let mut j: u64 = from;
-    while j < end {
+    for j in from..end {
         let k = layout::item_word(s, own, x, j, field::ITEM_SLOT);
         storage::vacate(s, own, b, k);
-        j += 1;
     }
 }
 
@@ -208,6 +185,6 @@ pub fn vacate_items(s: &mut [u64], sh: Shape, b: u64, x: u64, from: u64, to: u64
 pub fn spend_id(s: &mut [u64], sh: Shape)
     ensures words { s.new ≡ spend_w s.old sh }
 {
-    let next = words::inc(layout::root_word(s, sh, field::ROOT_NEXT_ID));
+    let next = layout::root_word(s, sh, field::ROOT_NEXT_ID).saturating_add(1);
     layout::put_root(s, sh, field::ROOT_NEXT_ID, next);
 }

@@ -1,7 +1,7 @@
 -- Closing a handle: what its function does to the words, and that it is the model's step. Assumes nothing.
 use Rattle.std.specs.Prelude.{◌≡◌, true, List, [], ◌∷◌}
 use Rattle.std.proofs.Math.Path.{refl}
-use Rattle.std.proofs.Common.{sym, ap, ◌∙◌}
+use Rattle.std.proofs.Common.{ap}
 use Prim.Native.Nat.{ℕ}
 use Rattle.model.specs.State.{till, Handle, Table, State, is_busy}
 use Rattle.model.specs.Storage.{vacate}
@@ -20,7 +20,6 @@ use Rattle.object.specs.Words.{lower_w}
 use Rattle.object.specs.Reps.{lower_held}
 use Rattle.answer.specs.Does.{Both, both, answered, refuse_r, Does, does_refused, does_accepted}
 use Rattle.lookup.specs.declared.PreparedHandle.{PreparedHandle}
-use Rattle.lookup.specs.declared.HandleInfo.{HandleInfo}
 use Rattle.lookup.specs.View.{Opened}
 use Rattle.lookup.specs.View.{Opened.Refused, Opened.Handle as Found}
 use Rattle.lookup.specs.View.{open_of, handle_of}
@@ -55,19 +54,3 @@ module _ (ws : List ℕ) (sh : Shape) (s : State) (i : Rep ws sh s) (b v : ℕ) 
       go (Found h) e = let o = open_found_is sh (load ws sh) s i.reps.memory b v h e in
           rw (info_is sh (load ws sh) s i.reps.memory h (opened_known ws sh s i b v h o))
           (does_accepted os sh base s (close b v) (lower_w (vacate_w ws sh b h.slot) sh h.object) _ (info_of (info_for s (handle_of h))) (closed_held h o).reps (o.handle rest))
-
--- ---- what the code's branches say
-
-pub closed_by : (ws ws₁ ws₂ os os' : List ℕ) (sh : Shape) (base b : ℕ) (h : PreparedHandle) (x : HandleInfo) → x ≡ info_at (load ws sh) h → ws₁ ≡ vacate_w ws sh b h.slot → ws₂ ≡ lower_w ws₁ sh h.object
-    → os' ≡ answered os base (0 ∷ info_list x) → both ws₂ os' ≡ closed_r ws os sh base b h
-unfolding closed_r
-closed_by ws ws₁ ws₂ os os' sh base b h x e p q r = rw (r, q, p, e)
-
-module _ (ws ws' os os' : List ℕ) (sh : Shape) (base b v : ℕ) (x : Opened) (e : x ≡ open_of (load ws sh) sh b v) where
-  pub close_refused : (n : ℕ) → x ≡ Refused n → ws' ≡ ws → os' ≡ answered os base (n ∷ []) → both ws' os' ≡ close_r ws os sh base b v
-  unfolding close_r
-  close_refused n p q r = rw (sym e ∙ p, q, r)
-
-  pub close_found : (h : PreparedHandle) → x ≡ Found h → both ws' os' ≡ closed_r ws os sh base b h → both ws' os' ≡ close_r ws os sh base b v
-  unfolding close_r
-  close_found h p q = rw (sym e ∙ p) q

@@ -4,13 +4,13 @@ use Rattle.std.specs.Prelude.{◌≡◌, true, false, eqb}
 use Rattle.std.proofs.Math.Path.{refl, sym, ap}
 use Rattle.std.proofs.Common.{◌∙◌}
 use mathlib.Core.List.{List, [], ◌∷◌}
-use Prim.Native.Nat.{ℕ, zero, suc, ◌+◌, ◌/◌, ◌%◌, ◌≤◌, ◌<◌, max}
+use Prim.Native.Nat.{ℕ, zero, suc, ◌+◌, ◌/◌, ◌≤◌, ◌<◌, max}
 use native.Mathlib.Omega.{arith}
 use borrow.Author.Tests.{eqb-true, eqb-false, eq-eqb, ne_eqb}
 use Rattle.words.specs.Pick.{bool, clash}
 use Rattle.codec.specs.Codec.{generation_limit}
 use Rattle.model.specs.Base.{occurs, is_some}
-use Rattle.model.specs.State.{till, Handle, Slot, Slot.occupied, Table, State, generation, is_busy, is_vacant, is_occupied}
+use Rattle.model.specs.State.{till, Handle, Slot, Slot.occupied, Table, State, is_busy, is_vacant, is_occupied}
 use Rattle.model.specs.Storage.{place}
 use Rattle.model.specs.Change.{with_table}
 use Rattle.model.specs.Objects.{with_rights}
@@ -19,12 +19,12 @@ use Rattle.invariant.proofs.Pointwise.{place_alike, place_slots}
 use Rattle.invariant.proofs.Pages.{till_sane, busy_there, busy_vacant, busy_same}
 use Rattle.invariant.proofs.Orders.{Sound, attached_below, attached_of, place_good}
 use Rattle.layout.specs.declared.Shape.{Shape}
-use Rattle.layout.specs.Layout.{Mem, head, entry, load, save, writes}
+use Rattle.layout.specs.Layout.{Mem, head, entry, load, save}
 use Rattle.layout.specs.Fields.{head_pages, head_first_free, head_first_entry, entry_high, slot_tag, slot_generation, slot_next_free, slot_previous_free, slot_object, slot_rights, slot_flags, row_id}
 use Rattle.layout.specs.Sizes.{page_size}
 use Rattle.representation.specs.Represents.{link_of, frame_of, tagged, is_marked}
 use Rattle.storage.specs.Order.{chain_frame}
-use Rattle.storage.specs.Sight.{Spot, Spot.hd, Spot.pg, Spot.sl, look, Put.to_page, Put.to_slot, puts, cell_p, Moves, moves, moves_then, moves_fit, moves_size, still_only, still_frame}
+use Rattle.storage.specs.Sight.{Spot, Spot.hd, Spot.pg, Spot.sl, look, Put.to_page, Put.to_slot, puts, Moves, moves, moves_then, moves_fit, moves_size, still_only, still_frame}
 use Rattle.storage.specs.Slots.{frame_v, framed, Seen, see, unsee, slot_there, free_vacant}
 use Rattle.storage.specs.Ops.{done, seen}
 use Rattle.storage.specs.Turns.{Turns, Ready, rows_only}
@@ -177,8 +177,3 @@ pub high_is : (ws w₁ : List ℕ) (sh : Shape) (b p g e n y : ℕ) → e ≡ lo
     → w₁ ≡ high_w ws sh b p g
 unfolding high_w look
 high_is ws w₁ sh b p g e n y e₁ e₂ e₃ a = rw (a, e₃, e₂, e₁)
-
-pub renew_is : (ws w₁ w₂ w₃ : List ℕ) (sh : Shape) (b k g r : ℕ) → w₁ ≡ writes ws sh (cell_p (frame_of (load ws sh) b k) (k % page_size) slot_generation g)
-    → w₂ ≡ writes w₁ sh (cell_p (frame_of (load w₁ sh) b k) (k % page_size) slot_rights r) → w₃ ≡ high_w w₂ sh b (k / page_size) g → w₃ ≡ renew_w ws sh b k g r
-unfolding renew_w
-renew_is ws w₁ w₂ w₃ sh b k g r a₁ a₂ a₃ = rw (a₃, a₂, a₁)

@@ -1,10 +1,11 @@
 -- Replacing a handle by one with fewer rights: what its function does to the words, and that it is the model's step. Assumes nothing.
-use Rattle.std.specs.Prelude.{◌≡◌, Bool, true, false, List, [], ◌∷◌}
+use Rattle.std.specs.Prelude.{◌≡◌, List, [], ◌∷◌}
 use Rattle.std.proofs.Math.Path.{refl}
-use Rattle.std.proofs.Common.{sym, ap, ◌∙◌}
+use Rattle.std.proofs.Common.{ap, ◌∙◌}
 use Prim.Native.Nat.{ℕ}
-use Rattle.words.specs.Pick.{pick, bool, yes_is, no_is}
+use Rattle.words.specs.Pick.{pick, bool}
 use Rattle.authority.specs.Rights.{contains}
+use Rattle.codec.specs.declared.HandleValue.{HandleValue}
 use Rattle.codec.specs.Codec.{encode, next_generation}
 use Rattle.codec.proofs.Laws.{next_range}
 use Rattle.model.specs.State.{till, Handle, Slot.occupied, Table, State, generation}
@@ -29,6 +30,10 @@ use Rattle.lookup.specs.View.{open_of, handle_of}
 use Rattle.lookup.specs.Named.{Opens, open_refused_is, open_found_is}
 use Rattle.lookup.specs.Read.{on_opened}
 use Rattle.close.specs.Renew.{renew_w, renew_held}
+
+-- "1 the new value"
+abbrev pub value_list : HandleValue → List ℕ
+value_list v = v.0 ∷ []
 
 -- "5 AccessDenied" unless the handle has the rights; else the slot gets them and the next generation, and the new value is answered
 unfoldable pub replaced_r : List ℕ → List ℕ → Shape → ℕ → ℕ → ℕ → PreparedHandle → Both
@@ -67,24 +72,3 @@ module _ (ws : List ℕ) (sh : Shape) (s : State) (i : Rep ws sh s) (b v : ℕ) 
           (λ p. rw p (does_accepted os sh base s (replace b v r) (renew_w ws sh b h.slot (next_generation h.generation) r) _
           (renewed (encode (s.tables b).mask h.slot (next_generation h.generation))) (replaced_held h o r).reps (d ∙ rw (p, ap generation o.slot))))
           (λ p. rw p (does_refused os sh base s (replace b v r) ws 5 i.reps (d ∙ rw p))))
-
--- ---- what the code's branches say
-
-module _ (ws ws' os os' : List ℕ) (sh : Shape) (base b r : ℕ) (h : PreparedHandle) (t : Bool) (e : t ≡ contains h.rights r) where
-  pub replace_denied : t ≡ false → ws' ≡ ws → os' ≡ answered os base (5 ∷ []) → both ws' os' ≡ replaced_r ws os sh base b r h
-  unfolding replaced_r
-  replace_denied z p q = no_is _ _ _ _ (sym e ∙ z) (rw (p, q))
-
-  pub replace_said : (g mask value : ℕ) → t ≡ true → g ≡ next_generation h.generation → mask ≡ load ws sh (head b head_mask) → value ≡ encode mask h.slot g
-      → ws' ≡ renew_w ws sh b h.slot g r → os' ≡ answered os base (0 ∷ value ∷ []) → both ws' os' ≡ replaced_r ws os sh base b r h
-  unfolding replaced_r
-  replace_said g mask value z e₁ e₂ e₃ p q = yes_is _ _ _ _ (sym e ∙ z) (rw (p, q, e₃, e₂, e₁))
-
-module _ (ws ws' os os' : List ℕ) (sh : Shape) (base b v r : ℕ) (x : Opened) (e : x ≡ open_of (load ws sh) sh b v) where
-  pub replace_refused : (n : ℕ) → x ≡ Refused n → ws' ≡ ws → os' ≡ answered os base (n ∷ []) → both ws' os' ≡ replace_r ws os sh base b v r
-  unfolding replace_r
-  replace_refused n p q d = rw (sym e ∙ p, q, d)
-
-  pub replace_found : (h : PreparedHandle) → x ≡ Found h → both ws' os' ≡ replaced_r ws os sh base b r h → both ws' os' ≡ replace_r ws os sh base b v r
-  unfolding replace_r
-  replace_found h p q = rw (sym e ∙ p) q

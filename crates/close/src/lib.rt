@@ -5,41 +5,41 @@
 // Closing a handle, and replacing one by another with fewer rights: mod.rs `remove_active`, `replace`.
 #![tactic(auto)]
 
-ghost use Rattle.std.specs.Prelude.{◌≡◌};
-ghost use Rattle.answer.specs.Does.{both};
+ghost use Rattle.std.specs.Prelude.{◌≡◌, ◌∷◌};
+ghost use Rattle.answer.specs.Does.{both, reply, Gives};
+ghost use Rattle.lookup.specs.Read.{info_list};
 ghost use Rattle.close.specs.Close.{closed_r, close_r};
 ghost use Rattle.close.specs.Renew.{high_w, renew_w};
-ghost use Rattle.close.specs.Replace.{replaced_r, replace_r};
+ghost use Rattle.close.specs.Replace.{value_list, replaced_r, replace_r};
 ghost use Rattle.format.specs.Fields.{table_field, value_field, rights_field};
 ghost use Rattle.request.specs.Place.{field_of};
 
 use authority::Rights;
 use codec::{HandleCodec, HandleValue};
+use format::field::{FIELD_RIGHTS, FIELD_TABLE, FIELD_VALUE};
+use format::op;
+use format::refusal::Refusal;
 use layout::{Shape, field, size};
-use lookup::{Opened, PreparedHandle};
+use lookup::{HandleInfo, PreparedHandle};
 
-// The handle found: its info is answered, its slot falls vacant and its count is released.
-fn close_handle(s: &mut [u64], sh: Shape, b: u64, h: PreparedHandle, out: &mut [u64], base: usize)
-    ensures { both s.new out.new ≡ closed_r s.old out.old sh base b h }
+// The handle found: its slot falls vacant and its count is released. Its info is told.
+#[tactic(auto, unfolding(crate::specs::Close::closed_r))]
+fn close_handle(s: &mut [u64], sh: Shape, b: u64, h: PreparedHandle) -> HandleInfo
+    ensures { Gives s.new (0 ∷ info_list result) (λ os base. closed_r s.old os sh base b h) }
 {
     let info = lookup::info_of(s, sh, h);
     storage::vacate(s, sh, b, h.slot);
     object::lower_object(s, sh, h.object);
-    answer::say4(out, base, info.koid.0, info.kind, info.rights, info.flags);
+    info
 }
 
 // "`get_info`, close, `replace`: 16, 2 or 3".
-pub fn close(s: &mut [u64], sh: Shape, b: u64, v: HandleValue, out: &mut [u64], base: usize)
-    ensures { both s.new out.new ≡ close_r s.old out.old sh base b v.0 }
+#[tactic(auto, unfolding(crate::specs::Close::close_r))]
+pub fn close(s: &mut [u64], sh: Shape, b: u64, v: HandleValue) -> Result<HandleInfo, Refusal>
+    ensures { Gives s.new (reply info_list result) (λ os base. close_r s.old os sh base b v.0) }
 {
-    match lookup::open_handle(s, sh, b, v) {
-        Opened::Refused(n) => {
-            answer::refuse(out, base, n);
-        }
-        Opened::Handle(h) => {
-            close_handle(s, sh, b, h, out, base);
-        }
-    }
+    let h = lookup::open_handle(s, sh, b, v)?;
+    Ok(close_handle(s, sh, b, h))
 }
 
 // Page p has had the generation g.
@@ -48,11 +48,11 @@ fn raise_mark(s: &mut [u64], sh: Shape, b: u64, p: u64, g: u64)
 {
     let e = layout::head_word(s, sh, b, field::HEAD_FIRST_ENTRY);
     let high = storage::page_word(s, sh, e, p, field::ENTRY_HIGH);
-    let mark = high.max(g);
-    storage::put_page(s, sh, e, p, field::ENTRY_HIGH, mark);
+    storage::put_page(s, sh, e, p, field::ENTRY_HIGH, high.max(g));
 }
 
 // Slot k, which is occupied, keeps its object and its flags and gets the generation g and other rights; its page's high mark rises to g.
+#[tactic(auto, unfolding(crate::specs::Renew::renew_w))]
 pub fn renew(s: &mut [u64], sh: Shape, b: u64, k: u64, g: u64, rights: u64)
     ensures { s.new ≡ renew_w s.old sh b k g rights }
 {
@@ -61,84 +61,70 @@ pub fn renew(s: &mut [u64], sh: Shape, b: u64, k: u64, g: u64, rights: u64)
     raise_mark(s, sh, b, k / size::PAGE_SIZE, g);
 }
 
-// The handle found: with fewer rights, of the next generation; its new value is answered.
+// The handle found: with fewer rights, of the next generation. Its new value is told.
+#[tactic(auto, unfolding(crate::specs::Replace::replaced_r))]
 fn replace_handle(
     s: &mut [u64],
     sh: Shape,
     b: u64,
     h: PreparedHandle,
     rights: Rights,
-    out: &mut [u64],
-    base: usize,
-)
-    ensures { both s.new out.new ≡ replaced_r s.old out.old sh base b rights.0 h }
+) -> Result<HandleValue, Refusal>
+    ensures { Gives s.new (reply value_list result) (λ os base. replaced_r s.old os sh base b rights.0 h) }
 {
-    let held = Rights(h.rights);
-    if held.contains(rights) {
-        let g = codec::next_generation(h.generation);
-        let codec = HandleCodec {
-            mask: layout::head_word(s, sh, b, field::HEAD_MASK),
-        };
-        let value = codec.encode(h.slot, g);
-        renew(s, sh, b, h.slot, g, rights.0);
-        answer::say1(out, base, value.0);
-        return;
+    if !Rights(h.rights).contains(rights) {
+        return Err(Refusal::AccessDenied);
     }
-    answer::refuse(out, base, format::refusal::ACCESS_DENIED);
+    let g = codec::next_generation(h.generation);
+    let codec = HandleCodec {
+        mask: layout::head_word(s, sh, b, field::HEAD_MASK),
+    };
+    let value = codec.encode(h.slot, g);
+    renew(s, sh, b, h.slot, g, rights.0);
+    Ok(value)
 }
 
 // "`get_info`, close, `replace`: 16, 2 or 3, then 5 (`replace`)".
+#[tactic(auto, unfolding(crate::specs::Replace::replace_r))]
 pub fn replace(
     s: &mut [u64],
     sh: Shape,
     b: u64,
     v: HandleValue,
     rights: Rights,
-    out: &mut [u64],
-    base: usize,
-)
-    ensures { both s.new out.new ≡ replace_r s.old out.old sh base b v.0 rights.0 }
+) -> Result<HandleValue, Refusal>
+    ensures { Gives s.new (reply value_list result) (λ os base. replace_r s.old os sh base b v.0 rights.0) }
 {
-    match lookup::open_handle(s, sh, b, v) {
-        Opened::Refused(n) => {
-            answer::refuse(out, base, n);
-        }
-        Opened::Handle(h) => {
-            replace_handle(s, sh, b, h, rights, out, base);
-        }
-    }
+    let h = lookup::open_handle(s, sh, b, v)?;
+    replace_handle(s, sh, b, h, rights)
 }
 
 // The request of a list at a place: its fields are read.
 pub fn serve_replace(s: &mut [u64], sh: Shape, rq: &[u64], at: usize, out: &mut [u64], base: usize)
     ensures { both s.new out.new ≡ replace_r s.old out.old sh base (field_of rq.now at table_field) (field_of rq.now at value_field) (field_of rq.now at rights_field) }
 {
-    let f = request::read_three(
+    let [table, value, rights] = request::read_fields(
         rq,
         at,
-        format::op::OP_REPLACE,
-        format::field::FIELD_TABLE,
-        format::field::FIELD_VALUE,
-        format::field::FIELD_RIGHTS,
+        op::OP_REPLACE,
+        [FIELD_TABLE, FIELD_VALUE, FIELD_RIGHTS],
     );
-    let table = f.a;
-    let value = f.b;
-    let rights = f.c;
-    replace(s, sh, table, HandleValue(value), Rights(rights), out, base);
+    match replace(s, sh, table, HandleValue(value), Rights(rights)) {
+        Ok(value) => answer::say(out, base, &[value.0]),
+        Err(refusal) => answer::refuse(out, base, refusal),
+    }
 }
 
 pub fn serve_close(s: &mut [u64], sh: Shape, rq: &[u64], at: usize, out: &mut [u64], base: usize)
     ensures { both s.new out.new ≡ close_r s.old out.old sh base (field_of rq.now at table_field) (field_of rq.now at value_field) }
 {
-    let f = request::read_three(
-        rq,
-        at,
-        format::op::OP_CLOSE,
-        format::field::FIELD_TABLE,
-        format::field::FIELD_VALUE,
-        format::field::NO_FIELD,
-    );
-    let table = f.a;
-    let value = f.b;
-    close(s, sh, table, HandleValue(value), out, base);
+    let [table, value] = request::read_fields(rq, at, op::OP_CLOSE, [FIELD_TABLE, FIELD_VALUE]);
+    match close(s, sh, table, HandleValue(value)) {
+        Ok(info) => answer::say(
+            out,
+            base,
+            &[info.koid.0, info.kind, info.rights, info.flags],
+        ),
+        Err(refusal) => answer::refuse(out, base, refusal),
+    }
 }

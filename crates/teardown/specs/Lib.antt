@@ -2,5 +2,4 @@ pub mod Ops
 pub mod Walk
 pub mod Life
 pub mod Open
-pub mod Code
 pub mod Teardown

@@ -1,6 +1,7 @@
 -- The walk over the rows finds an open reservation or claim of a table where the book has one. Assumes nothing.
-use Rattle.std.specs.Prelude.{◌≡◌, refl, Bool, true, false, ◌||◌, List, [], ◌∷◌, ℕ, suc, length}
-use Rattle.std.proofs.Common.{ap, ◌∙◌, arith}
+use Rattle.std.specs.Prelude.{◌≡◌, refl, Bool, true, false, ◌||◌, List, [], ◌∷◌, ℕ, zero, suc, ◌+◌, length}
+use Rattle.std.specs.List.{list_any, range_with_len}
+use Rattle.std.proofs.Common.{sym, ap, ◌∙◌, arith}
 use Rattle.words.specs.Pick.{pick}
 use Rattle.model.specs.State.{Body, Body.reservation, Body.claim, Body.parcel, Body.plan, Row, State}
 use Rattle.model.specs.Book.{opens_in, any_open}
@@ -22,6 +23,12 @@ body_tells m b x (plan c n w fs) i = rw i.kind
 or_is : (p q : Bool) → pick p true q ≡ (p || q)
 or_is true q = refl
 or_is false q = refl
+
+-- the walk, as a test of each of n ranks
+pub any_by : (m : Mem) (b i n : ℕ) → list_any (λ j. opens_at m b (m (index j))) (range_with_len i n) ≡ open_from m b i n
+any_by m b i zero = refl
+any_by m b i (suc n) = let z : i + 1 ≡ suc i = omega arith in
+    rw z (ap (λ (p : Bool). opens_at m b (m (index i)) || p) (any_by m b (suc i) n) ∙ sym (or_is (opens_at m b (m (index i))) (open_from m b (suc i) n)))
 
 rows_tell : (m : Mem) (b i : ℕ) (rs : List Row) → RowsAre m i rs → open_from m b i (length rs) ≡ any_open b rs
 rows_tell m b i [] q = refl

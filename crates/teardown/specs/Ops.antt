@@ -1,5 +1,5 @@
 -- What the functions do to the words, and what they answer. Assumes nothing.
-use Rattle.std.specs.Prelude.{Bool, true, false, List, [], ◌∷◌, ℕ, zero, suc, ◌-◌, eqb, ltb}
+use Rattle.std.specs.Prelude.{Bool, true, false, Option, Some, None, List, [], ◌∷◌, ℕ, zero, suc, ◌-◌, eqb, ltb}
 use Rattle.words.specs.Pick.{pick}
 use Rattle.model.specs.Storage.{first_occupied}
 use Rattle.layout.specs.declared.Shape.{Shape}
@@ -9,15 +9,22 @@ use Rattle.layout.specs.Values.{kind_reservation, kind_claim, life_active, life_
 use Rattle.representation.specs.Represents.{link_of, slot_word, slot_in}
 use Rattle.storage.specs.Ops.{vacate_w}
 use Rattle.object.specs.Words.{lower_w}
-use Rattle.book.specs.Ops.{used_of}
+use Rattle.book.specs.Ops.{place_of, used_of}
 use Rattle.answer.specs.Does.{Both, both, answered, refuse_r}
+use Rattle.lookup.specs.declared.HandleInfo.{HandleInfo}
+use Rattle.lookup.specs.declared.SnapshotEntry.{SnapshotEntry}
 use Rattle.lookup.specs.View.{handle_at, table_refusal}
 use Rattle.lookup.specs.Read.{info_at, info_list}
 use Rattle.lookup.specs.Scan.{length_at, entry_of, entry_words}
+use Rattle.teardown.specs.declared.Removed.{Removed}
 
 -- the first occupied slot of table b from slot c on, as a link
 unfoldable pub next_link : Mem → ℕ → ℕ → ℕ
 next_link m b c = link_of (first_occupied (slot_in m b) c (length_at m b - c))
+
+-- the first of n slots of table b from slot k on that is occupied
+abbrev pub found_in : Mem → ℕ → ℕ → ℕ → Option ℕ
+found_in m b k n = place_of (link_of (first_occupied (slot_in m b) k n))
 
 -- a handle goes as closing does: its slot falls vacant, its count is released
 unfoldable pub remove_w : List ℕ → Shape → ℕ → ℕ → List ℕ
@@ -44,6 +51,19 @@ unfoldable pub tearing : Mem → Shape → ℕ → Bool
 tearing m sh b = pick (ltb b sh.tables) (eqb (m (head b head_lifecycle)) life_tearing_down) false
 
 -- ---- the requests
+
+-- what was removed, in the answer's words: whether a handle was, the cursor as left, the handle's value and its info
+abbrev entry_told : ℕ → Option SnapshotEntry → List ℕ
+entry_told c None = 0 ∷ c ∷ []
+entry_told c (Some x) = 1 ∷ c ∷ entry_words x
+
+abbrev pub removed_list : Removed → List ℕ
+removed_list x = entry_told x.cursor x.entry
+
+-- whether a handle was, and its info
+abbrev pub closed_list : Option HandleInfo → List ℕ
+closed_list None = 0 ∷ []
+closed_list (Some x) = 1 ∷ info_list x
 
 -- of an active table: 0 and the cursor 0 at the walk's end; else 1, the cursor as left, the handle's value and its info
 unfoldable pub stopped_r : List ℕ → List ℕ → Shape → ℕ → ℕ → ℕ → Both

@@ -1,62 +1,86 @@
 -- The walk to the next occupied slot: each turn keeps what is to be found, and a page without frame is passed over as a whole. It finds the
 -- model's slot. Assumes nothing.
-use Rattle.std.specs.Prelude.{◌≡◌, Bool, true, false, ℕ, zero, suc, ◌+◌, ◌-◌, ◌*◌, ◌/◌, ◌%◌, min, ◌≤◌, ◌<◌, eqb, ltb}
-use Rattle.std.proofs.Common.{sym, ap, ◌∙◌, arith, eqb-true, lt-ltb}
+use Rattle.std.specs.Prelude.{◌≡◌, refl, Bool, true, false, cond, Option, Some, None, is_some, ℕ, zero, suc, ◌+◌, ◌-◌, ◌*◌, ◌/◌, ◌%◌, min, max, ◌≤◌, ◌<◌, eqb, ltb}
+use Rattle.std.specs.List.{find, range_with_len}
+use Rattle.std.proofs.Common.{sym, ap, ◌∙◌, arith, lt-ltb}
 use Rattle.std.proofs.Math.Path.{fun_ext}
-use Rattle.std.proofs.Math.Option.{none, some}
-use Rattle.std.proofs.lemmas.Bool.{eqb-false}
-use Rattle.words.specs.Pick.{bool}
-use Rattle.model.specs.Base.{pick}
+use Rattle.std.proofs.lemmas.Option.{none-some, same_Some}
+use Rattle.std.proofs.lemmas.Bool.{ltb-true, ltb-false}
+use Rattle.words.specs.Pick.{bool, clash}
 use Rattle.model.specs.State.{till, Slot, Table, is_occupied, max_slots}
 use Rattle.model.specs.Storage.{first_occupied}
 use Rattle.model.specs.Step.{next_occupied}
-use Rattle.layout.specs.Layout.{Mem, head, entry, cell}
-use Rattle.layout.specs.Fields.{head_pages, entry_frame, slot_tag}
+use Rattle.layout.specs.Layout.{Mem, cell}
+use Rattle.layout.specs.Fields.{slot_tag}
 use Rattle.layout.specs.Sizes.{page_size, slots_max}
 use Rattle.layout.specs.Values.{tag_occupied}
-use Rattle.representation.specs.Represents.{entry_at, link_of, word_in, frame_of, slot_from, slot_in, TableIs}
+use Rattle.representation.specs.Represents.{link_of, word_in, frame_of, slot_from, slot_in, TableIs}
 use Rattle.lookup.specs.Named.{slot_tells}
 use Rattle.lookup.specs.Scan.{length_at}
-use Rattle.teardown.specs.Ops.{next_link}
+use Rattle.book.specs.Ops.{place_of}
+use Rattle.teardown.specs.Ops.{found_in, next_link}
 
 -- ---- walks over any slots
 
 module _ (f : ℕ → Slot) where
-  walk_hit : (k n : ℕ) → 0 < n → is_occupied (f k) ≡ true → first_occupied f k n ≡ some k
-  walk_hit k zero h q = absurd (omega arith)
-  walk_hit k (suc n) h q = rw q
+  abbrev found : ℕ → ℕ → Option ℕ
+  found k n = place_of (link_of (first_occupied f k n))
 
-  walk_miss : (k n : ℕ) → 0 < n → is_occupied (f k) ≡ false → first_occupied f k n ≡ first_occupied f (suc k) (n - 1)
-  walk_miss k zero h q = absurd (omega arith)
-  walk_miss k (suc n) h q = let z : suc n - 1 ≡ n = omega arith in rw (q, z)
+  found_none : (k n : ℕ) → ((j : ℕ) → k ≤ j → j < k + n → is_occupied (f j) ≡ false) → None ≡ found k n
+  found_none k zero h = refl
+  found_none k (suc n) h = rw (h k (omega arith) (omega arith)) (found_none (suc k) n (λ j l u. h j (omega arith) (omega arith)))
 
-  walk_end : (k n : ℕ) → n ≡ 0 → first_occupied f k n ≡ none
-  walk_end k n e = rw e
+  -- as a search by a test of the slots' numbers
+  found_by : (test : ℕ → Bool) (k n : ℕ) → ((j : ℕ) → k ≤ j → j < k + n → is_occupied (f j) ≡ test j) → find test (range_with_len k n) ≡ found k n
+  found_by test k zero h = refl
+  found_by test k (suc n) h = let z : k + 1 ≡ suc k = omega arith in
+      rw (h k (omega arith) (omega arith), z) (ap (λ (o : Option ℕ). cond (test k) (Some k) o) (found_by test (suc k) n (λ j l u. h j (omega arith) (omega arith)))
+      ∙ bool (test k) (λ e. rw e) (λ e. rw e))
 
-  -- d slots of which none is occupied
-  walk_skip : (d k n : ℕ) → ((j : ℕ) → k ≤ j → j < k + d → is_occupied (f j) ≡ false) → first_occupied f k n ≡ first_occupied f (k + d) (n - d)
-  walk_skip zero k n h = let a : k + 0 ≡ k = omega arith in let c : n - 0 ≡ n = omega arith in rw (a, c)
-  walk_skip (suc d) k zero h = sym (walk_end (k + suc d) (0 - suc d) (omega arith))
-  walk_skip (suc d) k (suc n) h =
-      let a : suc k + d ≡ k + suc d = omega arith in let c : n - d ≡ suc n - suc d = omega arith in
-      rw (h k (omega arith) (omega arith)) (walk_skip d (suc k) n (λ j l u. h j (omega arith) (omega arith)) ∙ rw (a, c))
+  -- d slots in which there is none, and in which there is one
+  found_past : (d k n : ℕ) → d ≤ n → None ≡ found k d → found k n ≡ found (k + d) (n - d)
+  found_past zero k n l e = let a : k + 0 ≡ k = omega arith in let c : n - 0 ≡ n = omega arith in rw (a, c)
+  found_past (suc d) k zero l e = absurd (omega arith)
+  found_past (suc d) k (suc n) l e =
+      let a : k + suc d ≡ suc k + d = omega arith in let c : suc n - suc d ≡ n - d = omega arith in
+      bool (is_occupied (f k)) (λ q. absurd (none-some k (rw q at e))) (λ q. rw (q, a, c) (found_past d (suc k) n (omega arith) (rw q at e)))
+
+  found_within : (d k n x : ℕ) → d ≤ n → Some x ≡ found k d → Some x ≡ found k n
+  found_within zero k n x l e = absurd (none-some x (sym e))
+  found_within (suc d) k zero x l e = absurd (omega arith)
+  found_within (suc d) k (suc n) x l e =
+      bool (is_occupied (f k)) (λ q. rw q at e ∙ rw q) (λ q. rw q (found_within d (suc k) n x (omega arith) (rw q at e)))
+
+  found_range : (k n x : ℕ) → Some x ≡ found k n → (k ≤ x) × (x < k + n)
+  found_range k zero x e = absurd (none-some x (sym e))
+  found_range k (suc n) x e =
+      bool (is_occupied (f k)) (λ q. let z : x ≡ k = same_Some x k (rw q at e) in (omega (arith, z), omega (arith, z)))
+      (λ q. let h = found_range (suc k) n x (rw q at e) in (omega (arith, h.0), omega (arith, h.1)))
 
 -- ---- the table's slots
 
--- slots of one page, below the last slot: one without frame, all without
-page_empty : (m : Mem) (b k j : ℕ) → k < max_slots → frame_of m b k ≡ 0 → j / page_size ≡ k / page_size → frame_of m b j ≡ 0
-page_empty m b k j l e q =
-    let z : pick (ltb (k / page_size) (m (head b head_pages))) (m (entry (entry_at m b (k / page_size)) entry_frame)) 0 ≡ 0 = rw (lt-ltb k max_slots l) at e in
-    rw q (bool (ltb j max_slots) (λ p. rw p z) (λ p. rw p))
+-- slots of one page, below the last slot, have one frame
+frame_same : (m : Mem) (b k j : ℕ) → k < max_slots → j < max_slots → j / page_size ≡ k / page_size → frame_of m b j ≡ frame_of m b k
+frame_same m b k j l h q = rw (lt-ltb k max_slots l, lt-ltb j max_slots h, q)
 
 -- a slot without frame is not occupied
 no_frame : (m : Mem) (b k : ℕ) → frame_of m b k ≡ 0 → is_occupied (slot_in m b k) ≡ false
 no_frame m b k e = ap (λ (fr : ℕ). is_occupied (slot_from m fr (k % page_size))) e
 
--- the tag in a frame that there is
-frame_word : (m : Mem) (j x fr g tag : ℕ) → fr ≡ x → (fr ≡ 0 → ⊥) → g ≡ fr - 1 → tag ≡ m (cell g j slot_tag) → tag ≡ word_in m x j slot_tag
-frame_word m j zero fr g tag e n d q = absurd (n e)
-frame_word m j (suc f) fr g tag e n d q = let z : g ≡ f = omega arith in q ∙ ap (λ (y : ℕ). m (cell y j slot_tag)) z
+-- slots from k on and below `end`, all on the page of slot k
+module _ (m : Mem) (b k end : ℕ) (page : end ≤ (k / page_size + 1) * page_size) (few : end ≤ slots_max) where
+  same : (j : ℕ) → k ≤ j → j < k + (end - k) → frame_of m b j ≡ frame_of m b k
+  unfolding max_slots
+  same j l h = frame_same m b k j (omega arith) (omega arith) (omega arith)
+
+  -- the page has no frame
+  pub page_none : frame_of m b k ≡ 0 → None ≡ found_in m b k (end - k)
+  page_none e = found_none (slot_in m b) k (end - k) (λ j l h. no_frame m b j (same j l h ∙ e))
+
+  -- it has one: the slots' tags tell
+  pub page_by : (fr : ℕ) → frame_of m b k ≡ suc fr → find (λ j. eqb (m (cell fr (j % page_size) slot_tag)) tag_occupied) (range_with_len k (end - k)) ≡ found_in m b k (end - k)
+  page_by fr e = found_by (slot_in m b) (λ j. eqb (m (cell fr (j % page_size) slot_tag)) tag_occupied) k (end - k)
+      (λ j l h. sym (slot_tells m b j) ∙ ap (λ (x : ℕ). eqb (word_in m x (j % page_size) slot_tag) tag_occupied) (same j l h ∙ e))
 
 -- ---- the loop of `next_occupied`
 
@@ -65,38 +89,40 @@ pub length_few : (m : Mem) (b long : ℕ) → long ≡ length_at m b → long �
 unfolding max_slots
 length_few m b long e = omega arith
 
-pub next_start : (m : Mem) (b c long : ℕ) → long ≡ length_at m b → next_link m b c ≡ link_of (first_occupied (slot_in m b) c (long - c))
+-- what is left to look at from page p on
+abbrev pub rest_in : Mem → ℕ → ℕ → ℕ → ℕ → Option ℕ
+rest_in m b c long p = found_in m b (max c (p * page_size)) (long - max c (p * page_size))
+
+pub next_start : (m : Mem) (b c long : ℕ) → long ≡ length_at m b → place_of (next_link m b c) ≡ rest_in m b c long (c / page_size)
 unfolding next_link
-next_start m b c long e = rw e
+next_start m b c long e = let z : max c (c / page_size * page_size) ≡ c = omega arith in rw (z, e)
 
-module _ (m : Mem) (b c k long : ℕ) (inv : next_link m b c ≡ link_of (first_occupied (slot_in m b) k (long - k))) where
-  pub next_end : long ≤ k → 0 ≡ next_link m b c
-  next_end l = sym (inv ∙ ap link_of (walk_end (slot_in m b) k (long - k) (omega arith)))
+pub next_end : (m : Mem) (b c long p : ℕ) → long ≤ p * page_size → None ≡ rest_in m b c long p
+next_end m b c long p l = let z : long - max c (p * page_size) ≡ 0 = omega arith in rw z
 
-  module _ (l : k < long) (fr : ℕ) (t : Bool) (ef : fr ≡ frame_of m b k) (et : t ≡ eqb fr 0) where
-    -- the page has no frame
-    pub next_page : long ≡ length_at m b → t ≡ true → next_link m b c ≡ link_of (first_occupied (slot_in m b) ((k / page_size + 1) * page_size) (long - (k / page_size + 1) * page_size))
-    next_page e y =
-        let bare : frame_of m b k ≡ 0 = sym ef ∙ eqb-true fr 0 (sym et ∙ y) in
-        let n : ℕ = (k / page_size + 1) * page_size - k in
-        let a : k + n ≡ (k / page_size + 1) * page_size = omega arith in
-        let z : long - k - n ≡ long - (k / page_size + 1) * page_size = omega arith in
-        let w : first_occupied (slot_in m b) k (long - k) ≡ first_occupied (slot_in m b) ((k / page_size + 1) * page_size) (long - (k / page_size + 1) * page_size)
-        = rw (a, z) at (walk_skip (slot_in m b) n k (long - k) (λ j p u. no_frame m b j (page_empty m b k j (omega (arith, e)) bare (omega arith)))) in
-        inv ∙ ap link_of w
+-- page p's part of it, from slot k on and below slot `end`, where r is found
+module _ (m : Mem) (b c long p k end : ℕ) (from : c / page_size ≤ p) (ek : k ≡ max c (p * page_size)) (ee : end ≡ min long ((p + 1) * page_size)) where
+  here : rest_in m b c long p ≡ found_in m b k (long - k)
+  here = ap (λ (i : ℕ). found_in m b i (long - i)) (sym ek)
 
-    -- it has one: the slot's tag tells
-    module _ (framed : t ≡ false) (g tag : ℕ) (u : Bool) (eg : g ≡ fr - 1) (ew : tag ≡ m (cell g (k % page_size) slot_tag)) (eu : u ≡ eqb tag tag_occupied) where
-      tag_tells : is_occupied (slot_in m b k) ≡ u
-      tag_tells = sym (slot_tells m b k) ∙ ap (λ (x : ℕ). eqb x tag_occupied) (sym (frame_word m (k % page_size) (frame_of m b k) fr g tag ef (eqb-false fr 0 (sym et ∙ framed)) eg ew)) ∙ sym eu
+  pub next_some : (r : Option ℕ) → r ≡ found_in m b k (end - k) → is_some r ≡ true → rest_in m b c long p ≡ r
+  next_some None er h = clash h refl
+  next_some (Some x) er h = here ∙ sym (found_within (slot_in m b) (end - k) k (long - k) x (omega (arith, ee)) er)
 
-      pub next_hit : u ≡ true → k + 1 ≡ next_link m b c
-      next_hit y = let z : k + 1 ≡ suc k = omega arith in
-          z ∙ sym (inv ∙ ap link_of (walk_hit (slot_in m b) k (long - k) (omega arith) (tag_tells ∙ y)))
+  pub next_none : (r : Option ℕ) → r ≡ found_in m b k (end - k) → is_some r ≡ false → rest_in m b c long p ≡ rest_in m b c long (p + 1)
+  next_none (Some x) er h = clash refl h
+  next_none None er h =
+      let q : ℕ = max c ((p + 1) * page_size) in
+      let z : long - k - (end - k) ≡ long - q = omega (arith, from, ek, ee) in
+      here ∙ found_past (slot_in m b) (end - k) k (long - k) (omega (arith, ee)) er ∙ ap (found_in m b (k + (end - k))) z
+      ∙ bool (ltb q long)
+      (λ y. let w : k + (end - k) ≡ q = omega (arith, ltb-true q long y, from, ek, ee) in ap (λ (i : ℕ). found_in m b i (long - q)) w)
+      (λ y. let w : long - q ≡ 0 = omega (arith, ltb-false q long y) in rw w)
 
-      pub next_miss : u ≡ false → next_link m b c ≡ link_of (first_occupied (slot_in m b) (k + 1) (long - (k + 1)))
-      next_miss y = let a : k + 1 ≡ suc k = omega arith in let z : long - suc k ≡ long - k - 1 = omega arith in
-          inv ∙ ap link_of (walk_miss (slot_in m b) k (long - k) (omega arith) (tag_tells ∙ y)) ∙ rw (a, z)
+-- the slot found is one of the table's: its number fits with 1 added
+pub next_below : (m : Mem) (b c k : ℕ) (r : Option ℕ) → r ≡ place_of (next_link m b c) → r ≡ Some k → k < slots_max
+unfolding next_link max_slots
+next_below m b c k r e q = let h = found_range (slot_in m b) c (length_at m b - c) k (sym q ∙ e) in omega (arith, h.0, h.1)
 
 -- ---- in the model
 

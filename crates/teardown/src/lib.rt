@@ -5,44 +5,57 @@
 // The end of a table: a stopping owner's handles one by one, and teardown, which takes a table from active to retired.
 #![tactic(auto)]
 
-ghost use Rattle.std.specs.Prelude.{◌≡◌};
+ghost use Rattle.std.specs.Prelude.{◌≡◌, ◌∷◌, ◌+◌, ◌-◌, ◌*◌, ◌/◌, ◌≤◌};
 ghost use Rattle.layout.specs.Layout.{load as loadAt};
+ghost use Rattle.layout.specs.Sizes.{page_size, slots_max};
 ghost use Rattle.layout.specs.Values.{life_tearing_down, life_retired};
-ghost use Rattle.answer.specs.Does.{both};
-ghost use Rattle.teardown.specs.Ops.{next_link, remove_w, life_w, opens_at, open_in, tearing, stopped_r, stopping_r, teardown_start_r, torn_r, teardown_step_r, teardown_finish_r};
+ghost use Rattle.book.specs.Ops.{place_of};
+ghost use Rattle.answer.specs.Does.{both, reply, no_words, Gives};
+ghost use Rattle.teardown.specs.Ops.{found_in, next_link, remove_w, life_w, opens_at, open_in, tearing, removed_list, closed_list, stopped_r, stopping_r, teardown_start_r, torn_r, teardown_step_r, teardown_finish_r};
 ghost use Rattle.format.specs.Fields.{table_field, cursor_field};
 ghost use Rattle.request.specs.Place.{field_of};
 
+use format::refusal::Refusal;
 use layout::{Shape, field, size, value};
+use lookup::{HandleInfo, SnapshotEntry};
 
-// The first occupied slot of table b from a slot on, plus 1; 0 for none. A page without frame is passed over as a whole.
-pub fn next_occupied(s: &[u64], sh: Shape, b: u64, start: u64) -> u64
-    ensures { result ≡ next_link (loadAt s.now sh) b start }
+// What a turn of `remove_stopping_owner` removed, if anything, and the cursor as left.
+#[derive(Clone, Copy)]
+pub struct Removed {
+    pub entry: Option<SnapshotEntry>,
+    pub cursor: u64,
+}
+
+// The first occupied slot of table b from slot k on and below slot `end`, all on one page. A page without frame is passed over as a whole.
+fn occupied_on(s: &[u64], sh: Shape, b: u64, k: u64, end: u64) -> Option<u64>
+    requires page { end ≤ (k / page_size + 1) * page_size }
+    requires few { end ≤ slots_max }
+    ensures { result ≡ found_in (loadAt s.now sh) b k (end - k) }
+{
+    let fr = storage::frame_link(s, sh, b, k).checked_sub(1)?;
+    (k..end).find(|j| layout::cell_word(s, sh, fr, *j % size::PAGE_SIZE, field::SLOT_TAG)
+        == value::TAG_OCCUPIED)
+}
+
+// The first occupied slot of table b from a slot on.
+#[tactic(auto, using(crate::specs::Walk::length_few, crate::specs::Walk::next_start, crate::specs::Walk::next_some, crate::specs::Walk::next_none, crate::specs::Walk::next_end))]
+pub fn next_occupied(s: &[u64], sh: Shape, b: u64, start: u64) -> Option<u64>
+    ensures { result ≡ place_of (next_link (loadAt s.now sh) b start) }
 {
     let length = lookup::table_length(s, sh, b);
-    let mut k = start;
-    while k < length {
-        let fr = storage::frame_link(s, sh, b, k);
-        if fr == 0 {
-            k = (k / size::PAGE_SIZE + 1) * size::PAGE_SIZE;
-            continue;
+    for p in start / size::PAGE_SIZE..length.div_ceil(size::PAGE_SIZE) {
+        let k = start.max(p * size::PAGE_SIZE);
+        let end = length.min((p + 1) * size::PAGE_SIZE);
+        let found = occupied_on(s, sh, b, k, end);
+        if found.is_some() {
+            return found;
         }
-        let tag = layout::cell_word(
-            s,
-            sh,
-            fr.saturating_sub(1),
-            k % size::PAGE_SIZE,
-            field::SLOT_TAG,
-        );
-        if tag == value::TAG_OCCUPIED {
-            return k + 1;
-        }
-        k += 1;
     }
-    0
+    None
 }
 
 // Slot k, which is occupied, falls vacant and its handle's count is released.
+#[tactic(auto, unfolding(crate::specs::Ops::remove_w))]
 fn remove_slot(s: &mut [u64], sh: Shape, b: u64, k: u64)
     ensures { s.new ≡ remove_w s.old sh b k }
 {
@@ -52,6 +65,7 @@ fn remove_slot(s: &mut [u64], sh: Shape, b: u64, k: u64)
 }
 
 // Table b is tearing down, from a cursor on.
+#[tactic(auto, unfolding(crate::specs::Ops::life_w))]
 fn put_tearing(s: &mut [u64], sh: Shape, b: u64, cursor: u64)
     ensures { s.new ≡ life_w s.old sh b life_tearing_down cursor }
 {
@@ -60,7 +74,8 @@ fn put_tearing(s: &mut [u64], sh: Shape, b: u64, cursor: u64)
     head::store_life(s, sh, b, h);
 }
 
-// Table b is retired.
+// Table b is retired. Beside `put_tearing`: each is one step of the head, and a function that takes the lifecycle would go past these steps.
+#[tactic(auto, unfolding(crate::specs::Ops::life_w))]
 fn put_retired(s: &mut [u64], sh: Shape, b: u64)
     ensures { s.new ≡ life_w s.old sh b life_retired 0 }
 {
@@ -70,164 +85,126 @@ fn put_retired(s: &mut [u64], sh: Shape, b: u64)
 }
 
 // The rest of `remove_stopping_owner`, on an active table.
-fn remove_stopping(s: &mut [u64], sh: Shape, b: u64, cursor: u64, out: &mut [u64], base: usize)
-    ensures { both s.new out.new ≡ stopped_r s.old out.old sh base b cursor }
+#[tactic(auto, unfolding(crate::specs::Ops::stopped_r), using(crate::specs::Walk::next_below))]
+fn remove_stopping(s: &mut [u64], sh: Shape, b: u64, cursor: u64) -> Removed
+    ensures { Gives s.new (0 ∷ removed_list result) (λ os base. stopped_r s.old os sh base b cursor) }
 {
-    let next = next_occupied(s, sh, b, cursor);
-    if next == 0 {
-        answer::say2(out, base, 0, 0);
-        return;
-    }
-    let k = next.saturating_sub(1);
-    let x = lookup::snapshot_at(s, sh, b, k);
+    let Some(k) = next_occupied(s, sh, b, cursor) else {
+        return Removed {
+            entry: None,
+            cursor: 0,
+        };
+    };
+    let entry = lookup::snapshot_at(s, sh, b, k);
     remove_slot(s, sh, b, k);
-    answer::say7(
-        out,
-        base,
-        1,
-        next,
-        x.value.0,
-        x.info.koid.0,
-        x.info.kind,
-        x.info.rights,
-        x.info.flags,
-    );
+    Removed {
+        entry: Some(entry),
+        cursor: k + 1,
+    }
 }
 
 // "On an inactive table `remove_stopping_owner` and `take_empty_page` answer "none", not a refusal; so do the end of a walk ..". "The
 // cursor of `remove_stopping_owner` is a request field, and the answer gives it as left".
+#[tactic(auto, unfolding(crate::specs::Ops::stopping_r))]
 pub fn remove_stopping_owner(
     s: &mut [u64],
     sh: Shape,
     b: u64,
     cursor: u64,
-    out: &mut [u64],
-    base: usize,
-)
-    ensures { both s.new out.new ≡ stopping_r s.old out.old sh base b cursor }
+) -> Result<Removed, Refusal>
+    ensures { Gives s.new (reply removed_list result) (λ os base. stopping_r s.old os sh base b cursor) }
 {
-    if b < sh.tables as u64 {
-        if layout::head_word(s, sh, b, field::HEAD_LIFECYCLE) == value::LIFE_ACTIVE {
-            remove_stopping(s, sh, b, cursor, out, base);
-            return;
-        }
-        answer::say2(out, base, 0, cursor);
-        return;
+    if sh.tables as u64 <= b {
+        return Err(Refusal::Misuse);
     }
-    answer::refuse(out, base, format::refusal::MISUSE);
+    if layout::head_word(s, sh, b, field::HEAD_LIFECYCLE) != value::LIFE_ACTIVE {
+        return Ok(Removed {
+            entry: None,
+            cursor,
+        });
+    }
+    Ok(remove_stopping(s, sh, b, cursor))
 }
 
 // Whether the row in place x is an open reservation or claim of table b.
+#[tactic(auto, unfolding(crate::specs::Ops::opens_at))]
 fn opens_in(s: &[u64], sh: Shape, b: u64, x: u64) -> bool
     ensures { result ≡ opens_at (loadAt s.now sh) b x }
 {
     let what = layout::row_word(s, sh, x, field::ROW_KIND);
-    let table = layout::row_word(s, sh, x, field::ROW_TABLE);
-    if what == value::KIND_RESERVATION {
-        return b == table;
-    }
-    if what == value::KIND_CLAIM {
-        return b == table;
-    }
-    false
+    (what == value::KIND_RESERVATION || what == value::KIND_CLAIM)
+        && layout::row_word(s, sh, x, field::ROW_TABLE) == b
 }
 
 // Whether the book has an open reservation or claim of table b.
+#[tactic(auto, unfolding(crate::specs::Ops::open_in))]
 fn any_open(s: &[u64], sh: Shape, b: u64) -> bool
     ensures { result ≡ open_in (loadAt s.now sh) sh b }
 {
-    let rows = sh.rows as u64;
-    let n = layout::root_word(s, sh, field::ROOT_USED_ROWS).min(rows);
-    for i in 0..n {
-        let x = layout::index_word(s, sh, i);
-        if opens_in(s, sh, b, x) {
-            return true;
-        }
-    }
-    false
+    let n = layout::root_word(s, sh, field::ROOT_USED_ROWS).min(sh.rows as u64);
+    (0..n).any(|i| opens_in(s, sh, b, layout::index_word(s, sh, i)))
 }
 
 // "Teardown start: 16, 14".
-pub fn begin_teardown(s: &mut [u64], sh: Shape, b: u64, out: &mut [u64], base: usize)
-    ensures { both s.new out.new ≡ teardown_start_r s.old out.old sh base b }
+#[tactic(auto, unfolding(crate::specs::Ops::teardown_start_r))]
+pub fn begin_teardown(s: &mut [u64], sh: Shape, b: u64) -> Result<(), Refusal>
+    ensures { Gives s.new (reply no_words result) (λ os base. teardown_start_r s.old os sh base b) }
 {
-    let n = lookup::table_refusal(s, sh, b);
-    if n == 0 {
-        if any_open(s, sh, b) {
-            answer::refuse(out, base, format::refusal::OUTSTANDING_RESERVATION);
-            return;
-        }
-        put_tearing(s, sh, b, 0);
-        answer::say(out, base);
-        return;
+    lookup::active_table(s, sh, b)?;
+    if any_open(s, sh, b) {
+        return Err(Refusal::OutstandingReservation);
     }
-    answer::refuse(out, base, n);
+    put_tearing(s, sh, b, 0);
+    Ok(())
 }
 
 // Whether table b is known and tearing down.
+#[tactic(auto, unfolding(crate::specs::Ops::tearing))]
 fn is_tearing(s: &[u64], sh: Shape, b: u64) -> bool
     ensures { result ≡ tearing (loadAt s.now sh) sh b }
 {
-    if b < sh.tables as u64 {
-        return layout::head_word(s, sh, b, field::HEAD_LIFECYCLE) == value::LIFE_TEARING_DOWN;
-    }
-    false
+    b < sh.tables as u64
+        && layout::head_word(s, sh, b, field::HEAD_LIFECYCLE) == value::LIFE_TEARING_DOWN
 }
 
 // The rest of `remove_next`, on a table that is tearing down: "its cursor stands in the table's head".
-fn remove_tearing(s: &mut [u64], sh: Shape, b: u64, out: &mut [u64], base: usize)
-    ensures { both s.new out.new ≡ torn_r s.old out.old sh base b }
+#[tactic(auto, unfolding(crate::specs::Ops::torn_r), using(crate::specs::Walk::next_below))]
+fn remove_tearing(s: &mut [u64], sh: Shape, b: u64) -> Option<HandleInfo>
+    ensures { Gives s.new (0 ∷ closed_list result) (λ os base. torn_r s.old os sh base b) }
 {
     let cursor = layout::head_word(s, sh, b, field::HEAD_CURSOR);
-    let next = next_occupied(s, sh, b, cursor);
-    if next == 0 {
-        answer::say1(out, base, 0);
-        return;
-    }
-    let k = next.saturating_sub(1);
+    let k = next_occupied(s, sh, b, cursor)?;
     let info = lookup::info_of(s, sh, lookup::handle_at(s, sh, b, k));
     remove_slot(s, sh, b, k);
-    put_tearing(s, sh, b, next);
-    answer::say5(
-        out,
-        base,
-        1,
-        info.koid.0,
-        info.kind,
-        info.rights,
-        info.flags,
-    );
+    put_tearing(s, sh, b, k + 1);
+    Some(info)
 }
 
 // "18 Misuse: .. teardown step out of turn".
-pub fn remove_next(s: &mut [u64], sh: Shape, b: u64, out: &mut [u64], base: usize)
-    ensures { both s.new out.new ≡ teardown_step_r s.old out.old sh base b }
+#[tactic(auto, unfolding(crate::specs::Ops::teardown_step_r))]
+pub fn remove_next(s: &mut [u64], sh: Shape, b: u64) -> Result<Option<HandleInfo>, Refusal>
+    ensures { Gives s.new (reply closed_list result) (λ os base. teardown_step_r s.old os sh base b) }
 {
-    if is_tearing(s, sh, b) {
-        remove_tearing(s, sh, b, out, base);
-        return;
+    if !is_tearing(s, sh, b) {
+        return Err(Refusal::Misuse);
     }
-    answer::refuse(out, base, format::refusal::MISUSE);
+    Ok(remove_tearing(s, sh, b))
 }
 
 // "18 Misuse: .. finish with an occupied slot".
-pub fn finish_teardown(s: &mut [u64], sh: Shape, b: u64, out: &mut [u64], base: usize)
-    ensures { both s.new out.new ≡ teardown_finish_r s.old out.old sh base b }
+#[tactic(auto, unfolding(crate::specs::Ops::teardown_finish_r))]
+pub fn finish_teardown(s: &mut [u64], sh: Shape, b: u64) -> Result<(), Refusal>
+    ensures { Gives s.new (reply no_words result) (λ os base. teardown_finish_r s.old os sh base b) }
 {
-    if is_tearing(s, sh, b) {
-        let next = next_occupied(s, sh, b, 0);
-        if next == 0 {
-            put_retired(s, sh, b);
-            answer::say(out, base);
-            return;
-        }
-        answer::refuse(out, base, format::refusal::MISUSE);
-        return;
+    if !is_tearing(s, sh, b) || next_occupied(s, sh, b, 0).is_some() {
+        return Err(Refusal::Misuse);
     }
-    answer::refuse(out, base, format::refusal::MISUSE);
+    put_retired(s, sh, b);
+    Ok(())
 }
 
 // The request of a list at a place: its fields are read.
+#[tactic(auto, unfolding(request::specs::Place::three_at))]
 pub fn serve_remove_stopping_owner(
     s: &mut [u64],
     sh: Shape,
@@ -246,9 +223,33 @@ pub fn serve_remove_stopping_owner(
         format::field::FIELD_CURSOR,
         format::field::NO_FIELD,
     );
-    let table = f.a;
-    let cursor = f.b;
-    remove_stopping_owner(s, sh, table, cursor, out, base);
+    match remove_stopping_owner(s, sh, f.a, f.b) {
+        Ok(
+            Removed {
+                entry: Some(x),
+                cursor,
+            },
+        ) => answer::say(
+            out,
+            base,
+            &[
+                1,
+                cursor,
+                x.value.0,
+                x.info.koid.0,
+                x.info.kind,
+                x.info.rights,
+                x.info.flags,
+            ],
+        ),
+        Ok(
+            Removed {
+                entry: None,
+                cursor,
+            },
+        ) => answer::say(out, base, &[0, cursor]),
+        Err(refusal) => answer::refuse(out, base, refusal),
+    }
 }
 
 pub fn serve_teardown_start(
@@ -262,7 +263,7 @@ pub fn serve_teardown_start(
     ensures { both s.new out.new ≡ teardown_start_r s.old out.old sh base (field_of rq.now at table_field) }
 {
     let table = request::field(rq, at, format::field::FIELD_TABLE);
-    begin_teardown(s, sh, table, out, base);
+    answer::outcome(out, base, begin_teardown(s, sh, table));
 }
 
 pub fn serve_teardown_step(
@@ -276,7 +277,15 @@ pub fn serve_teardown_step(
     ensures { both s.new out.new ≡ teardown_step_r s.old out.old sh base (field_of rq.now at table_field) }
 {
     let table = request::field(rq, at, format::field::FIELD_TABLE);
-    remove_next(s, sh, table, out, base);
+    match remove_next(s, sh, table) {
+        Ok(Some(info)) => answer::say(
+            out,
+            base,
+            &[1, info.koid.0, info.kind, info.rights, info.flags],
+        ),
+        Ok(None) => answer::say(out, base, &[0]),
+        Err(refusal) => answer::refuse(out, base, refusal),
+    }
 }
 
 pub fn serve_teardown_finish(
@@ -290,5 +299,5 @@ pub fn serve_teardown_finish(
     ensures { both s.new out.new ≡ teardown_finish_r s.old out.old sh base (field_of rq.now at table_field) }
 {
     let table = request::field(rq, at, format::field::FIELD_TABLE);
-    finish_teardown(s, sh, table, out, base);
+    answer::outcome(out, base, finish_teardown(s, sh, table));
 }

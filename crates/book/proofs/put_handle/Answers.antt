@@ -1,5 +1,4 @@
 use Rattle.book.specs.Ops.{handle_w}
-use borrow.Author.Rules.{rules}
 use Rattle.book.proofs.put_handle.Goals as goal
 
 pub returns : goal.returns

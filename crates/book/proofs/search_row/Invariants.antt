@@ -1,9 +1,7 @@
 use Rattle.book.specs.Ops.{link_from}
-use Rattle.book.specs.Code.{link_yes, link_above, link_below, link_end}
 use Rattle.layout.specs.Layout.{load}
-use native.Mathlib.Omega.{arith}
 use Prim.Native.Nat.{◌+◌, ◌≤◌}
-use mathlib.Core.Path.{◌≡◌, refl}
+use mathlib.Core.Path.{◌≡◌}
 use Rattle.book.proofs.search_row.Given as goal
 
 abbrev pub invariant-loop-n : goal.invariant-loop-n

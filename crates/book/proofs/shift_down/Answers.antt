@@ -1,10 +1,7 @@
 use borrow.Author.Rules.{rules}
-use mathlib.Core.Path.{◌≡◌, refl}
-use Prim.Native.Nat.{◌-◌, ◌≤◌}
+use mathlib.Core.Path.{refl}
 use native.Mathlib.Omega.{arith}
-use lib.ListN.{length}
 use Rattle.book.specs.Code.{shift_none, shift_more, shift_end}
-use Rattle.book.specs.Ops.{shift_w}
 use Rattle.book.proofs.shift_down.Goals as goal
 
 pub loop-i-init : goal.loop-i-init

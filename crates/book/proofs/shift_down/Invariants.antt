@@ -1,9 +1,6 @@
-use borrow.Author.Rules.{rules}
-use mathlib.Core.Path.{◌≡◌, refl}
+use mathlib.Core.Path.{◌≡◌}
 use Prim.Native.Nat.{◌-◌, ◌≤◌}
-use native.Mathlib.Omega.{arith}
 use lib.ListN.{length}
-use Rattle.book.specs.Code.{shift_none, shift_more, shift_end}
 use Rattle.book.specs.Ops.{shift_w}
 use Rattle.book.proofs.shift_down.Given as goal
 

@@ -1,5 +1,4 @@
 use Rattle.book.specs.Ops.{shrink_w}
-use borrow.Author.Rules.{rules}
 use Rattle.book.proofs.shrink_row.Goals as goal
 
 pub returns : goal.returns

@@ -1,5 +1,4 @@
 use Rattle.book.specs.Ops.{spend_w}
-use borrow.Author.Rules.{rules}
 use Rattle.book.proofs.spend_id.Goals as goal
 
 pub returns : goal.returns

@@ -1,9 +1,6 @@
-use borrow.Author.Rules.{rules}
-use mathlib.Core.Path.{◌≡◌, refl}
+use mathlib.Core.Path.{◌≡◌}
 use Prim.Native.Nat.{◌-◌, ◌≤◌}
-use native.Mathlib.Omega.{arith}
 use lib.ListN.{length}
-use Rattle.book.specs.Code.{vacate_none, vacate_more, vacate_end}
 use Rattle.book.specs.Ops.{vacate_items_w}
 use Rattle.book.proofs.vacate_items.Given as goal
 
