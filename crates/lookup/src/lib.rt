@@ -22,6 +22,8 @@ ghost use Rattle.request.specs.Place.{field_of};
 
 use authority::Rights;
 use codec::{Decoded, HandleCodec, HandleValue, Koid};
+use format::field::{FIELD_CURSOR, FIELD_KIND, FIELD_RIGHTS, FIELD_TABLE, FIELD_VALUE};
+use format::op;
 use format::refusal::Refusal;
 use layout::{CellWords, Shape, field, size, value};
 
@@ -42,6 +44,15 @@ pub struct HandleInfo {
     pub kind: u64,
     pub rights: u64,
     pub flags: u64,
+}
+
+impl HandleInfo {
+    // "1 koid, 2 kind, 3 rights, 4 flags": its words in an answer.
+    pub fn words(self) -> [u64; 4]
+        ensures { result ≡ info_list self }
+    {
+        [self.koid.0, self.kind, self.rights, self.flags]
+    }
 }
 
 // What is told of a handle that may be used: the object's number, its koid and the rights held.
@@ -382,55 +393,31 @@ pub fn scan_handles(s: &[u64], sh: Shape, b: u64, cursor: u64) -> Result<Snapsho
 }
 
 // The request of a list at a place: its fields are read.
-#[tactic(auto, unfolding(request::specs::Place::three_at))]
 pub fn serve_get_info(s: &mut [u64], sh: Shape, rq: &[u64], at: usize, out: &mut [u64], base: usize)
     ensures { both s.new out.new ≡ get_info_r s.old out.old sh base (field_of rq.now at table_field) (field_of rq.now at value_field) }
 {
-    let f = request::read_three(
-        rq,
-        at,
-        format::op::OP_GET_INFO,
-        format::field::FIELD_TABLE,
-        format::field::FIELD_VALUE,
-        format::field::NO_FIELD,
-    );
-    match get_info(s, sh, f.a, HandleValue(f.b)) {
-        Ok(info) => answer::say(
-            out,
-            base,
-            &[info.koid.0, info.kind, info.rights, info.flags],
-        ),
+    let [table, value] = request::read_fields(rq, at, op::OP_GET_INFO, [FIELD_TABLE, FIELD_VALUE]);
+    match get_info(s, sh, table, HandleValue(value)) {
+        Ok(info) => answer::say(out, base, &info.words()),
         Err(refusal) => answer::refuse(out, base, refusal),
     }
 }
 
-#[tactic(auto, unfolding(request::specs::Place::three_at))]
 pub fn serve_resolve(s: &mut [u64], sh: Shape, rq: &[u64], at: usize, out: &mut [u64], base: usize)
     ensures { both s.new out.new ≡ resolve_r s.old out.old sh base (field_of rq.now at table_field) (field_of rq.now at value_field) (field_of rq.now at rights_field) (field_of rq.now at kind_field) }
 {
-    let f = request::read_three(
+    let [table, value, rights, kind] = request::read_fields(
         rq,
         at,
-        format::op::OP_RESOLVE,
-        format::field::FIELD_TABLE,
-        format::field::FIELD_VALUE,
-        format::field::FIELD_RIGHTS,
+        op::OP_RESOLVE,
+        [FIELD_TABLE, FIELD_VALUE, FIELD_RIGHTS, FIELD_KIND],
     );
-    let g = request::read_three(
-        rq,
-        at,
-        format::op::OP_RESOLVE,
-        format::field::FIELD_KIND,
-        format::field::NO_FIELD,
-        format::field::NO_FIELD,
-    );
-    match resolve(s, sh, f.a, HandleValue(f.b), Rights(f.c), g.a) {
+    match resolve(s, sh, table, HandleValue(value), Rights(rights), kind) {
         Ok(found) => answer::say(out, base, &[found.object, found.koid.0, found.rights]),
         Err(refusal) => answer::refuse(out, base, refusal),
     }
 }
 
-#[tactic(auto, unfolding(request::specs::Place::three_at))]
 pub fn serve_scan_handles(
     s: &mut [u64],
     sh: Shape,
@@ -441,15 +428,13 @@ pub fn serve_scan_handles(
 )
     ensures { both s.new out.new ≡ scan_r s.old out.old sh base (field_of rq.now at table_field) (field_of rq.now at cursor_field) }
 {
-    let f = request::read_three(
+    let [table, cursor] = request::read_fields(
         rq,
         at,
-        format::op::OP_SCAN_HANDLES,
-        format::field::FIELD_TABLE,
-        format::field::FIELD_CURSOR,
-        format::field::NO_FIELD,
+        op::OP_SCAN_HANDLES,
+        [FIELD_TABLE, FIELD_CURSOR],
     );
-    match scan_handles(s, sh, f.a, f.b) {
+    match scan_handles(s, sh, table, cursor) {
         Ok(page) => say_page(out, base, page),
         Err(refusal) => answer::refuse(out, base, refusal),
     }
