@@ -21,7 +21,9 @@ ghost use Rattle.format.specs.Fields.{table_field, value_field, rights_field, ki
 ghost use Rattle.request.specs.Place.{field_of};
 
 use authority::Rights;
-use codec::{HandleCodec, HandleValue, Koid};
+use codec::{Decoded, HandleCodec, HandleValue, Koid};
+use format::field::{FIELD_CURSOR, FIELD_KIND, FIELD_RIGHTS, FIELD_TABLE, FIELD_VALUE};
+use format::op;
 use format::refusal::Refusal;
 use layout::{CellWords, Shape, field, size, value};
 
@@ -42,6 +44,15 @@ pub struct HandleInfo {
     pub kind: u64,
     pub rights: u64,
     pub flags: u64,
+}
+
+impl HandleInfo {
+    // "1 koid, 2 kind, 3 rights, 4 flags": its words in an answer.
+    pub fn words(self) -> [u64; 4]
+        ensures { result ≡ info_list self }
+    {
+        [self.koid.0, self.kind, self.rights, self.flags]
+    }
 }
 
 // What is told of a handle that may be used: the object's number, its koid and the rights held.
@@ -103,6 +114,7 @@ pub fn active_table(s: &[u64], sh: Shape, b: u64) -> Result<(), Refusal>
 }
 
 // As `storage::frame_link`, for `find_handle` alone: with one caller it is compiled in place, and it reads no more of the table's head than it needs.
+// Tried with `storage::frame_link`: slower.
 #[tactic(auto, unfolding(model::specs::State::max_slots))]
 fn slot_frame(s: &[u64], sh: Shape, b: u64, k: u64) -> u64
     ensures { result ≡ frame_of (loadAt s.now sh) b k }
@@ -118,7 +130,7 @@ fn slot_frame(s: &[u64], sh: Shape, b: u64, k: u64) -> u64
     storage::page_word(s, sh, e, k / size::PAGE_SIZE, field::ENTRY_FRAME)
 }
 
-// As `storage::cell_in`, for `find_handle` alone, so that the words stay in registers.
+// As `storage::cell_in`, for `find_handle` alone, so that the words stay in registers. Tried with `storage::cell_in`: `get_info` took twice as long.
 fn slot_words(s: &[u64], sh: Shape, fr: u64, j: u64) -> CellWords
     ensures { result ≡ cell_in (loadAt s.now sh) fr j }
 {
@@ -167,10 +179,10 @@ pub fn find_handle(s: &[u64], sh: Shape, b: u64, v: HandleValue) -> Result<Prepa
     let codec = HandleCodec {
         mask: layout::head_word(s, sh, b, field::HEAD_MASK),
     };
-    let named = codec.decode(v).ok_or(Refusal::InvalidHandle)?;
-    let fr = slot_frame(s, sh, b, named.slot);
-    let w = slot_words(s, sh, fr, named.slot % size::PAGE_SIZE);
-    open_slot(named.slot, named.generation, w)
+    let Decoded { slot, generation } = codec.decode(v).ok_or(Refusal::InvalidHandle)?;
+    let fr = slot_frame(s, sh, b, slot);
+    let w = slot_words(s, sh, fr, slot % size::PAGE_SIZE);
+    open_slot(slot, generation, w)
 }
 
 // The handle that a value names in an active table.
@@ -203,17 +215,19 @@ pub fn get_info(s: &[u64], sh: Shape, b: u64, v: HandleValue) -> Result<HandleIn
     Ok(info_of(s, sh, h))
 }
 
-// The rest of `resolve`, on the handle found.
-#[tactic(auto, unfolding(crate::specs::Read::resolved_r))]
-fn resolve_handle(
+// "Resolve: 16, 2 or 3, 5, 4".
+#[tactic(auto, unfolding(crate::specs::Read::resolve_r, crate::specs::Read::resolved_r))]
+pub fn resolve(
     s: &[u64],
     sh: Shape,
-    h: PreparedHandle,
+    b: u64,
+    v: HandleValue,
     required: Rights,
     kind: u64,
 ) -> Result<Resolved, Refusal>
-    ensures { Gives s.now (reply resolved_list result) (λ os base. resolved_r s.now os sh base required.0 kind h) }
+    ensures { Gives s.now (reply resolved_list result) (λ os base. resolve_r s.now os sh base b v.0 required.0 kind) }
 {
+    let h = open_handle(s, sh, b, v)?;
     if !Rights(h.rights).contains(required) {
         return Err(Refusal::AccessDenied);
     }
@@ -228,22 +242,6 @@ fn resolve_handle(
     })
 }
 
-// "Resolve: 16, 2 or 3, 5, 4".
-#[tactic(auto, unfolding(crate::specs::Read::resolve_r))]
-pub fn resolve(
-    s: &[u64],
-    sh: Shape,
-    b: u64,
-    v: HandleValue,
-    required: Rights,
-    kind: u64,
-) -> Result<Resolved, Refusal>
-    ensures { Gives s.now (reply resolved_list result) (λ os base. resolve_r s.now os sh base b v.0 required.0 kind) }
-{
-    let h = open_handle(s, sh, b, v)?;
-    resolve_handle(s, sh, h, required, kind)
-}
-
 // How many slots the pages have that table b has had, detached ones included.
 #[tactic(auto, unfolding(model::specs::State::max_slots))]
 pub fn table_length(s: &[u64], sh: Shape, b: u64) -> u64
@@ -251,17 +249,14 @@ pub fn table_length(s: &[u64], sh: Shape, b: u64) -> u64
 {
     let most = HandleCodec::SLOT_LIMIT + 1;
     let n = layout::head_word(s, sh, b, field::HEAD_PAGES);
-    if n >= size::PAGES_MAX {
-        return most;
-    }
-    (n * size::PAGE_SIZE).min(most)
+    (n.min(size::PAGES_MAX) * size::PAGE_SIZE).min(most)
 }
 
 // The snapshot of slot k, whose words are given, in a table of that mask.
 fn snapshot_by(s: &[u64], sh: Shape, mask: u64, k: u64, w: CellWords) -> SnapshotEntry
     ensures { result ≡ entry_by (loadAt s.now sh) mask k w }
 {
-    let codec = HandleCodec { mask: mask };
+    let codec = HandleCodec { mask };
     SnapshotEntry {
         value: codec.encode(k, w.generation),
         info: info_of(s, sh, prepared(k, w)),
@@ -277,19 +272,16 @@ pub fn snapshot_at(s: &[u64], sh: Shape, b: u64, k: u64) -> SnapshotEntry
     snapshot_by(s, sh, mask, k, w)
 }
 
-fn no_entry() -> SnapshotEntry
-    ensures { result ≡ no_entry }
-{
-    SnapshotEntry {
-        value: HandleValue(0),
-        info: HandleInfo {
-            koid: Koid(0),
-            kind: 0,
-            rights: 0,
-            flags: 0,
-        },
-    }
-}
+// No entry: what a page holds past its length.
+const NO_ENTRY: SnapshotEntry = SnapshotEntry {
+    value: HandleValue(0),
+    info: HandleInfo {
+        koid: Koid(0),
+        kind: 0,
+        rights: 0,
+        flags: 0,
+    },
+};
 
 // The frame of the page that slot k stands on, plus 1; fr is that of the slot before it, and is read anew where a page begins.
 fn frame_on(s: &[u64], sh: Shape, b: u64, k: u64, fr: u64) -> u64
@@ -300,16 +292,6 @@ fn frame_on(s: &[u64], sh: Shape, b: u64, k: u64, fr: u64) -> u64
         return storage::frame_link(s, sh, b, k);
     }
     fr
-}
-
-// The tag of slot j of a frame, given plus 1; 0 where there is none.
-fn tag_in(s: &[u64], sh: Shape, fr: u64, j: u64) -> u64
-    ensures { result ≡ word_in (loadAt s.now sh) fr j slot_tag }
-{
-    if fr == 0 {
-        return 0;
-    }
-    layout::cell_word(s, sh, fr - 1, j, field::SLOT_TAG)
 }
 
 // The page of a scan that started and stopped at two slots: the next one goes on where slots are left.
@@ -323,11 +305,10 @@ fn ended(
     requires { start ≤ stop }
     ensures { result ≡ ended_of entries len start stop length }
 {
-    let next = if stop < length { Some(stop) } else { None };
     SnapshotPage {
         entries,
         len,
-        next,
+        next: (stop < length).then_some(stop),
         examined: stop - start,
     }
 }
@@ -341,7 +322,7 @@ pub fn scan(s: &[u64], sh: Shape, b: u64, cursor: u64) -> SnapshotPage
     let start = cursor.min(length);
     let stop = length.min(start + format::size::SCAN_SLOTS);
     let mask = layout::head_word(s, sh, b, field::HEAD_MASK);
-    let mut entries = [no_entry(); format::size::SCAN_ENTRIES];
+    let mut entries = [NO_ENTRY; format::size::SCAN_ENTRIES];
     let mut len: usize = 0;
     let mut fr = storage::frame_link(s, sh, b, start);
     for at in start..stop {
@@ -349,7 +330,8 @@ pub fn scan(s: &[u64], sh: Shape, b: u64, cursor: u64) -> SnapshotPage
             return ended(entries, len, start, at, length);
         }
         fr = frame_on(s, sh, b, at, fr);
-        if tag_in(s, sh, fr, at % size::PAGE_SIZE) != value::TAG_OCCUPIED {
+        let tag = storage::frame_word(s, sh, fr, at % size::PAGE_SIZE, field::SLOT_TAG);
+        if tag != value::TAG_OCCUPIED {
             continue;
         }
         let w = storage::cell_in(s, sh, fr, at % size::PAGE_SIZE);
@@ -411,55 +393,31 @@ pub fn scan_handles(s: &[u64], sh: Shape, b: u64, cursor: u64) -> Result<Snapsho
 }
 
 // The request of a list at a place: its fields are read.
-#[tactic(auto, unfolding(request::specs::Place::three_at))]
 pub fn serve_get_info(s: &mut [u64], sh: Shape, rq: &[u64], at: usize, out: &mut [u64], base: usize)
     ensures { both s.new out.new ≡ get_info_r s.old out.old sh base (field_of rq.now at table_field) (field_of rq.now at value_field) }
 {
-    let f = request::read_three(
-        rq,
-        at,
-        format::op::OP_GET_INFO,
-        format::field::FIELD_TABLE,
-        format::field::FIELD_VALUE,
-        format::field::NO_FIELD,
-    );
-    match get_info(s, sh, f.a, HandleValue(f.b)) {
-        Ok(info) => answer::say(
-            out,
-            base,
-            &[info.koid.0, info.kind, info.rights, info.flags],
-        ),
+    let [table, value] = request::read_fields(rq, at, op::OP_GET_INFO, [FIELD_TABLE, FIELD_VALUE]);
+    match get_info(s, sh, table, HandleValue(value)) {
+        Ok(info) => answer::say(out, base, &info.words()),
         Err(refusal) => answer::refuse(out, base, refusal),
     }
 }
 
-#[tactic(auto, unfolding(request::specs::Place::three_at))]
 pub fn serve_resolve(s: &mut [u64], sh: Shape, rq: &[u64], at: usize, out: &mut [u64], base: usize)
     ensures { both s.new out.new ≡ resolve_r s.old out.old sh base (field_of rq.now at table_field) (field_of rq.now at value_field) (field_of rq.now at rights_field) (field_of rq.now at kind_field) }
 {
-    let f = request::read_three(
+    let [table, value, rights, kind] = request::read_fields(
         rq,
         at,
-        format::op::OP_RESOLVE,
-        format::field::FIELD_TABLE,
-        format::field::FIELD_VALUE,
-        format::field::FIELD_RIGHTS,
+        op::OP_RESOLVE,
+        [FIELD_TABLE, FIELD_VALUE, FIELD_RIGHTS, FIELD_KIND],
     );
-    let g = request::read_three(
-        rq,
-        at,
-        format::op::OP_RESOLVE,
-        format::field::FIELD_KIND,
-        format::field::NO_FIELD,
-        format::field::NO_FIELD,
-    );
-    match resolve(s, sh, f.a, HandleValue(f.b), Rights(f.c), g.a) {
+    match resolve(s, sh, table, HandleValue(value), Rights(rights), kind) {
         Ok(found) => answer::say(out, base, &[found.object, found.koid.0, found.rights]),
         Err(refusal) => answer::refuse(out, base, refusal),
     }
 }
 
-#[tactic(auto, unfolding(request::specs::Place::three_at))]
 pub fn serve_scan_handles(
     s: &mut [u64],
     sh: Shape,
@@ -470,15 +428,13 @@ pub fn serve_scan_handles(
 )
     ensures { both s.new out.new ≡ scan_r s.old out.old sh base (field_of rq.now at table_field) (field_of rq.now at cursor_field) }
 {
-    let f = request::read_three(
+    let [table, cursor] = request::read_fields(
         rq,
         at,
-        format::op::OP_SCAN_HANDLES,
-        format::field::FIELD_TABLE,
-        format::field::FIELD_CURSOR,
-        format::field::NO_FIELD,
+        op::OP_SCAN_HANDLES,
+        [FIELD_TABLE, FIELD_CURSOR],
     );
-    match scan_handles(s, sh, f.a, f.b) {
+    match scan_handles(s, sh, table, cursor) {
         Ok(page) => say_page(out, base, page),
         Err(refusal) => answer::refuse(out, base, refusal),
     }
