@@ -27,11 +27,9 @@ pub fn say(out: &mut [u64], base: usize, words: &[u64])
 }
 
 // The number alone: a refusal's, or 0 where a request says no more than that it is done.
+#[tactic(auto, unfolding(request::specs::Answers::puts), using(crate::specs::Code::number_alone))]
 pub fn outcome(out: &mut [u64], base: usize, outcome: Result<(), Refusal>)
     ensures { out.new ≡ answered out.old base (reply no_words outcome) }
 {
-    match outcome {
-        Ok(()) => say(out, base, &[]),
-        Err(refusal) => refuse(out, base, refusal),
-    }
+    request::answer_put(out, base, 0, format::refusal::number_of(outcome));
 }

@@ -162,12 +162,12 @@ pub fn shrink_row(s: &mut [u64], sh: Shape, x: u64, n: u64)
     layout::put_row(s, sh, x, field::ROW_LENGTH, n);
 }
 
-// The slots that the items of a reservation of table b name, from one item up to another, fall vacant; the row stands in place x. The shape is copied field by field: the copy
-// of it in one go, which the calls would make, waits until the caller's stores of its fields are in the cache.
+// The slots that the items of a reservation of table b name, from one item up to another, fall vacant; the row stands in place x.
 pub fn vacate_items(s: &mut [u64], sh: Shape, b: u64, x: u64, from: u64, to: u64)
     ensures words { s.new ≡ vacate_items_w s.old sh b x from (min to batch_max - from) }
 {
     let end = to.min(size::BATCH_MAX);
+    // Field by field, for speed: a copy in one go, which the calls would make, waits until the caller's stores of the fields are in the cache.
     let own = Shape {
         tables: sh.tables,
         pages: sh.pages,

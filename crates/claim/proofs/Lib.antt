@@ -1,3 +1,4 @@
+pub mod Each
 pub mod Ends
 pub mod Found
 pub mod Entries

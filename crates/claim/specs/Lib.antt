@@ -1,4 +1,2 @@
 pub mod EndsOps
-pub mod EndsCode
 pub mod Ops
-pub mod Code

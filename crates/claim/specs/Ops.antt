@@ -1,6 +1,8 @@
 -- What the functions of the requests rollback, commit, direct commit and direct rollback do to the words. Assumes nothing.
-use Rattle.std.specs.Prelude.{Bool, false, List, [], ◌∷◌, ℕ, zero, suc, ◌-◌, eqb}
+use Rattle.std.specs.Prelude.{Bool, false, List, [], ◌∷◌, ℕ, zero, suc, ◌-◌, eqb, Result, Ok, Err}
 use Rattle.words.specs.Pick.{pick}
+use Rattle.format.specs.declared.refusal.Refusal.{Refusal}
+use Rattle.format.specs.declared.refusal.Refusal.TheVariants.{Misuse}
 use Rattle.layout.specs.declared.Shape.{Shape}
 use Rattle.layout.specs.Layout.{Mem, row, item, load, save}
 use Rattle.layout.specs.Fields.{row_kind, row_table, row_length, item_slot, item_operation, item_moved, item_object, item_rights, item_flags, item_granted}
@@ -9,6 +11,7 @@ use Rattle.storage.specs.Ops.{vacate_w, occupy_w}
 use Rattle.object.specs.Words.{lower_w}
 use Rattle.book.specs.Ops.{kind_link, reservation_link, close_w}
 use Rattle.answer.specs.Does.{Both, both, answered, refuse_r, on_row_r}
+use Rattle.claim.specs.declared.Pair.{Pair}
 use Rattle.claim.specs.EndsOps.{abort_r}
 
 -- the open claim with an id: its place plus 1, 0 if there is none
@@ -75,6 +78,12 @@ commit_r ws os sh base i = on_row_r (committed_w ws sh) ws os base (claim_link (
 -- whether a claim and a reservation, each given by its place plus 1, are there and have one length
 unfoldable pub paired : Mem → ℕ → ℕ → Bool
 paired m l k = pick (eqb l 0) false (pick (eqb k 0) false (eqb (m (row (l - 1) row_length)) (m (row (k - 1) row_length))))
+
+-- their places. "unknown .. open row of the kind named .. lengths differ": 18
+unfoldable pub pair_of : Mem → Shape → ℕ → ℕ → Result Pair Refusal
+pair_of m sh i j =
+    let l : ℕ = claim_link m sh i in let k : ℕ = reservation_link m sh j in
+    pick (paired m l k) (Ok (record { from = l - 1; to = k - 1 })) (Err Misuse)
 
 -- the handle that entry j of the claim in place x gives into slot j of the reservation in place y, of table c
 unfoldable pub fill_w : List ℕ → Shape → ℕ → ℕ → ℕ → ℕ → List ℕ

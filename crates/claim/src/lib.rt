@@ -5,19 +5,30 @@
 // The requests that end or shorten a row: trim and abort of a reservation; rollback, commit, direct commit and direct rollback of a claim.
 #![tactic(auto)]
 
-ghost use Rattle.std.specs.Prelude.{◌≡◌};
-ghost use Rattle.layout.specs.Layout.{load as loadAt};
-ghost use Rattle.answer.specs.Does.{both};
+ghost use Rattle.std.specs.Prelude.{◌≡◌, eqb};
+ghost use Rattle.layout.specs.Layout.{load as loadAt, item};
+ghost use Rattle.layout.specs.Fields.{item_operation};
+ghost use Rattle.layout.specs.Values.{operation_move};
+ghost use Rattle.answer.specs.Does.{both, Gives, reply, no_words};
 ghost use Rattle.claim.specs.EndsOps.{aborted_w, trimmed_w, abort_r, trim_r};
-ghost use Rattle.claim.specs.Ops.{claim_link, undo_w, undone_w, rolled_w, rollback_r, sent_rights, leave_w, left_w, send_w, sent_w, committed_w, commit_r};
-ghost use Rattle.claim.specs.Ops.{paired, filled_w, direct_w, direct_commit_r, direct_rollback_r};
+ghost use Rattle.claim.specs.Ops.{undo_w, undone_w, rolled_w, rollback_r, sent_rights, leave_w, left_w, send_w, sent_w, committed_w, commit_r};
+ghost use Rattle.claim.specs.Ops.{pair_of, filled_w, direct_w, direct_commit_r, direct_rollback_r};
 ghost use Rattle.format.specs.Fields.{count_field, id_field, destination_field};
 ghost use Rattle.request.specs.Place.{field_of};
 
 use codec::ReservationId;
+use format::refusal::Refusal;
 use layout::{Shape, field, value};
 
+// The places of a claim's row and of a reservation's, of one length.
+#[derive(Clone, Copy)]
+struct Pair {
+    from: u64,
+    to: u64,
+}
+
 // The reservation in place x ends: its slots fall vacant and its row leaves.
+#[tactic(auto, unfolding(crate::specs::EndsOps::aborted_w))]
 fn abort_row(s: &mut [u64], sh: Shape, x: u64)
     ensures words { s.new ≡ aborted_w s.old sh x }
 {
@@ -27,11 +38,12 @@ fn abort_row(s: &mut [u64], sh: Shape, x: u64)
     book::close_row(s, sh, x);
 }
 
-// "Closing, aborting, trimming and committing put slots at the head of the free order, one by one in list order". The shape is copied field by field, as in
-// `book::vacate_items`.
-pub fn abort(s: &mut [u64], sh: Shape, id: ReservationId, out: &mut [u64], base: usize)
-    ensures { both s.new out.new ≡ abort_r s.old out.old sh base id.0 }
+// "Closing, aborting, trimming and committing put slots at the head of the free order, one by one in list order".
+#[tactic(auto, unfolding(answer::specs::Does::on_row_r))]
+pub fn abort(s: &mut [u64], sh: Shape, id: ReservationId) -> Result<(), Refusal>
+    ensures { Gives s.new (reply no_words result) (λ os base. abort_r s.old os sh base id.0) }
 {
+    // Field by field, for speed, as in `book::vacate_items`.
     let own = Shape {
         tables: sh.tables,
         pages: sh.pages,
@@ -39,16 +51,13 @@ pub fn abort(s: &mut [u64], sh: Shape, id: ReservationId, out: &mut [u64], base:
         objects: sh.objects,
         rows: sh.rows,
     };
-    let link = book::reservation_of(s, own, id);
-    if link == 0 {
-        answer::refuse(out, base, format::refusal::MISUSE);
-        return;
-    }
-    abort_row(s, own, link.saturating_sub(1));
-    answer::say(out, base);
+    let x = book::row_of_kind(s, own, id, value::KIND_RESERVATION).ok_or(Refusal::Misuse)?;
+    abort_row(s, own, x);
+    Ok(())
 }
 
 // The reservation in place x keeps its first n slots.
+#[tactic(auto, unfolding(crate::specs::EndsOps::trimmed_w))]
 fn trim_row(s: &mut [u64], sh: Shape, x: u64, n: u64)
     ensures words { s.new ≡ trimmed_w s.old sh x n }
 {
@@ -59,55 +68,44 @@ fn trim_row(s: &mut [u64], sh: Shape, x: u64, n: u64)
 }
 
 // "trim to 0 or above the batch": 18.
-pub fn trim(s: &mut [u64], sh: Shape, id: ReservationId, n: u64, out: &mut [u64], base: usize)
-    ensures { both s.new out.new ≡ trim_r s.old out.old sh base id.0 n }
+#[tactic(auto, unfolding(crate::specs::EndsOps::trim_r))]
+pub fn trim(s: &mut [u64], sh: Shape, id: ReservationId, n: u64) -> Result<(), Refusal>
+    ensures { Gives s.new (reply no_words result) (λ os base. trim_r s.old os sh base id.0 n) }
 {
-    let link = book::reservation_of(s, sh, id);
-    if link == 0 {
-        answer::refuse(out, base, format::refusal::MISUSE);
-        return;
-    }
-    let x = link.saturating_sub(1);
-    if n == 0 {
-        answer::refuse(out, base, format::refusal::MISUSE);
-        return;
-    }
-    if layout::row_word(s, sh, x, field::ROW_LENGTH) < n {
-        answer::refuse(out, base, format::refusal::MISUSE);
-        return;
+    let x = book::row_of_kind(s, sh, id, value::KIND_RESERVATION).ok_or(Refusal::Misuse)?;
+    if n == 0 || layout::row_word(s, sh, x, field::ROW_LENGTH) < n {
+        return Err(Refusal::Misuse);
     }
     trim_row(s, sh, x, n);
-    answer::say(out, base);
+    Ok(())
 }
 
-// The place of the open claim with an id, plus 1; 0 if there is none.
-pub fn claim_of(s: &[u64], sh: Shape, id: ReservationId) -> u64
-    ensures { result ≡ claim_link (loadAt s.now sh) sh id.0 }
+// Whether entry j of the claim in place x moves a handle: else it copies one.
+fn moves(s: &[u64], sh: Shape, x: u64, j: u64) -> bool
+    ensures { result ≡ eqb (loadAt s.now sh (item x j item_operation)) operation_move }
 {
-    let link = book::row_of(s, sh, id.0);
-    if layout::row_word(s, sh, link.saturating_sub(1), field::ROW_KIND) == value::KIND_CLAIM {
-        return link;
-    }
-    0
+    layout::item_word(s, sh, x, j, field::ITEM_OPERATION) == value::OPERATION_MOVE
 }
 
 // Entry j of the claim in place x, of table b, is undone: a slot holds its handle again, which stands in the entry of its own; a copy is
 // released.
+#[tactic(auto, unfolding(crate::specs::Ops::undo_w))]
 fn undo_entry(s: &mut [u64], sh: Shape, b: u64, x: u64, j: u64)
     ensures words { s.new ≡ undo_w s.old sh b x j }
 {
     let o = layout::item_word(s, sh, x, j, field::ITEM_OBJECT);
-    if layout::item_word(s, sh, x, j, field::ITEM_OPERATION) == value::OPERATION_MOVE {
+    if moves(s, sh, x, j) {
         let k = layout::item_word(s, sh, x, j, field::ITEM_MOVED);
         let r = layout::item_word(s, sh, x, j, field::ITEM_RIGHTS);
         let f = layout::item_word(s, sh, x, j, field::ITEM_FLAGS);
         storage::occupy(s, sh, b, k, o, r, f);
-        return;
+    } else {
+        object::lower_object(s, sh, o);
     }
-    object::lower_object(s, sh, o);
 }
 
-// Its first n entries are.
+// Its first n entries are. This loop and the three below differ in the step: one function that took it would state what each call leaves, and be longer than they are.
+#[tactic(auto, unfolding(crate::specs::Ops::each), using(crate::proofs::Each::each_last))]
 fn undo_entries(s: &mut [u64], sh: Shape, b: u64, x: u64, n: u64)
     ensures words { s.new ≡ undone_w s.old sh b x n }
 {
@@ -117,6 +115,7 @@ fn undo_entries(s: &mut [u64], sh: Shape, b: u64, x: u64, n: u64)
 }
 
 // The claim in place x is rolled back, and its row leaves: mod.rs `rollback_transfer`.
+#[tactic(auto, unfolding(crate::specs::Ops::rolled_w))]
 fn rollback_row(s: &mut [u64], sh: Shape, x: u64)
     ensures words { s.new ≡ rolled_w s.old sh x }
 {
@@ -127,39 +126,40 @@ fn rollback_row(s: &mut [u64], sh: Shape, x: u64)
 }
 
 // A claim ends: its slots hold their handles again, its copies are released. "unknown .. open row of the kind named": 18.
-pub fn rollback(s: &mut [u64], sh: Shape, id: ReservationId, out: &mut [u64], base: usize)
-    ensures { both s.new out.new ≡ rollback_r s.old out.old sh base id.0 }
+#[tactic(auto, unfolding(answer::specs::Does::on_row_r))]
+pub fn rollback(s: &mut [u64], sh: Shape, id: ReservationId) -> Result<(), Refusal>
+    ensures { Gives s.new (reply no_words result) (λ os base. rollback_r s.old os sh base id.0) }
 {
-    let link = claim_of(s, sh, id);
-    if link == 0 {
-        answer::refuse(out, base, format::refusal::MISUSE);
-        return;
-    }
-    rollback_row(s, sh, link.saturating_sub(1));
-    answer::say(out, base);
+    let x = book::row_of_kind(s, sh, id, value::KIND_CLAIM).ok_or(Refusal::Misuse)?;
+    rollback_row(s, sh, x);
+    Ok(())
 }
 
 // The rights that the receiver of entry j gets: a copy has them already.
+#[tactic(auto, unfolding(crate::specs::Ops::sent_rights))]
 fn sent_rights(s: &[u64], sh: Shape, x: u64, j: u64) -> u64
     ensures { result ≡ sent_rights (loadAt s.now sh) x j }
 {
-    if layout::item_word(s, sh, x, j, field::ITEM_OPERATION) == value::OPERATION_MOVE {
-        return layout::item_word(s, sh, x, j, field::ITEM_GRANTED);
+    if moves(s, sh, x, j) {
+        layout::item_word(s, sh, x, j, field::ITEM_GRANTED)
+    } else {
+        layout::item_word(s, sh, x, j, field::ITEM_RIGHTS)
     }
-    layout::item_word(s, sh, x, j, field::ITEM_RIGHTS)
 }
 
 // The slot that entry j moves, if it moves one, falls vacant.
+#[tactic(auto, unfolding(crate::specs::Ops::leave_w))]
 fn leave_entry(s: &mut [u64], sh: Shape, b: u64, x: u64, j: u64)
     ensures words { s.new ≡ leave_w s.old sh b x j }
 {
-    if layout::item_word(s, sh, x, j, field::ITEM_OPERATION) == value::OPERATION_MOVE {
+    if moves(s, sh, x, j) {
         let k = layout::item_word(s, sh, x, j, field::ITEM_MOVED);
         storage::vacate(s, sh, b, k);
     }
 }
 
 // Those of the first n entries, "one by one in list order".
+#[tactic(auto, unfolding(crate::specs::Ops::each), using(crate::proofs::Each::each_last))]
 fn leave_entries(s: &mut [u64], sh: Shape, b: u64, x: u64, n: u64)
     ensures words { s.new ≡ left_w s.old sh b x n }
 {
@@ -169,16 +169,18 @@ fn leave_entries(s: &mut [u64], sh: Shape, b: u64, x: u64, n: u64)
 }
 
 // Entry j becomes the handle that the receiver gets; a copy is that already.
+#[tactic(auto, unfolding(crate::specs::Ops::send_w, crate::specs::Ops::sent_rights), using(layout::specs::Layout::save_load))]
 fn send_entry(s: &mut [u64], sh: Shape, x: u64, j: u64)
     ensures words { s.new ≡ send_w s.old sh x j }
 {
-    if layout::item_word(s, sh, x, j, field::ITEM_OPERATION) == value::OPERATION_MOVE {
+    if moves(s, sh, x, j) {
         let r = layout::item_word(s, sh, x, j, field::ITEM_GRANTED);
         layout::put_item(s, sh, x, j, field::ITEM_RIGHTS, r);
     }
 }
 
 // The first n entries do.
+#[tactic(auto, unfolding(crate::specs::Ops::each), using(crate::proofs::Each::each_last))]
 fn send_entries(s: &mut [u64], sh: Shape, x: u64, n: u64)
     ensures words { s.new ≡ sent_w s.old sh x n }
 {
@@ -188,6 +190,7 @@ fn send_entries(s: &mut [u64], sh: Shape, x: u64, n: u64)
 }
 
 // The claim in place x is a parcel in that place: mod.rs `commit_transfer`.
+#[tactic(auto, unfolding(crate::specs::Ops::committed_w))]
 fn commit_row(s: &mut [u64], sh: Shape, x: u64)
     ensures words { s.new ≡ committed_w s.old sh x }
 {
@@ -199,34 +202,36 @@ fn commit_row(s: &mut [u64], sh: Shape, x: u64)
 }
 
 // "Commit turns a claim's row into a parcel of the same id."
-pub fn commit(s: &mut [u64], sh: Shape, id: ReservationId, out: &mut [u64], base: usize)
-    ensures { both s.new out.new ≡ commit_r s.old out.old sh base id.0 }
+#[tactic(auto, unfolding(answer::specs::Does::on_row_r))]
+pub fn commit(s: &mut [u64], sh: Shape, id: ReservationId) -> Result<(), Refusal>
+    ensures { Gives s.new (reply no_words result) (λ os base. commit_r s.old os sh base id.0) }
 {
-    let link = claim_of(s, sh, id);
-    if link == 0 {
-        answer::refuse(out, base, format::refusal::MISUSE);
-        return;
-    }
-    commit_row(s, sh, link.saturating_sub(1));
-    answer::say(out, base);
+    let x = book::row_of_kind(s, sh, id, value::KIND_CLAIM).ok_or(Refusal::Misuse)?;
+    commit_row(s, sh, x);
+    Ok(())
 }
 
-// Whether a claim and a reservation, each given by its place plus 1, are there and have one length.
-fn paired(s: &[u64], sh: Shape, l: u64, k: u64) -> bool
-    ensures { result ≡ paired (loadAt s.now sh) l k }
+// The rows of a claim and of a reservation. "unknown .. open row of the kind named .. lengths differ": 18.
+#[tactic(auto, unfolding(crate::specs::Ops::pair_of, crate::specs::Ops::paired))]
+fn pair_of(
+    s: &[u64],
+    sh: Shape,
+    id: ReservationId,
+    destination: ReservationId,
+) -> Result<Pair, Refusal>
+    ensures { result ≡ pair_of (loadAt s.now sh) sh id.0 destination.0 }
 {
-    if l == 0 {
-        return false;
+    let from = book::row_of_kind(s, sh, id, value::KIND_CLAIM).ok_or(Refusal::Misuse)?;
+    let to = book::row_of_kind(s, sh, destination, value::KIND_RESERVATION).ok_or(Refusal::Misuse)?;
+    let n = layout::row_word(s, sh, from, field::ROW_LENGTH);
+    if n != layout::row_word(s, sh, to, field::ROW_LENGTH) {
+        return Err(Refusal::Misuse);
     }
-    if k == 0 {
-        return false;
-    }
-    let n = layout::row_word(s, sh, l.saturating_sub(1), field::ROW_LENGTH);
-    let m = layout::row_word(s, sh, k.saturating_sub(1), field::ROW_LENGTH);
-    n == m
+    Ok(Pair { from, to })
 }
 
 // The first n entries of the claim in place `from` fill the slots of the reservation in place `to`, of table c.
+#[tactic(auto, unfolding(crate::specs::Ops::each, crate::specs::Ops::fill_w), using(crate::proofs::Each::each_last))]
 fn fill_slots(s: &mut [u64], sh: Shape, c: u64, to: u64, from: u64, n: u64)
     ensures words { s.new ≡ filled_w s.old sh c to from n }
 {
@@ -240,6 +245,7 @@ fn fill_slots(s: &mut [u64], sh: Shape, c: u64, to: u64, from: u64, n: u64)
 }
 
 // The handles of the claim in place `from` go into the slots of the reservation in place `to`, and both rows leave: mod.rs `commit_locked`.
+#[tactic(auto, unfolding(crate::specs::Ops::direct_w))]
 fn direct_rows(s: &mut [u64], sh: Shape, from: u64, to: u64)
     ensures words { s.new ≡ direct_w s.old sh from to }
 {
@@ -252,49 +258,38 @@ fn direct_rows(s: &mut [u64], sh: Shape, from: u64, to: u64)
     book::close_row(s, sh, to);
 }
 
-// A claim's handles straight into a reservation, of one table or two; "unknown .. open row of the kind named .. lengths differ": 18.
+// A claim's handles straight into a reservation, of one table or two.
+#[tactic(auto, unfolding(crate::specs::Ops::direct_commit_r, crate::specs::Ops::pair_of))]
 pub fn direct_commit(
     s: &mut [u64],
     sh: Shape,
     id: ReservationId,
     destination: ReservationId,
-    out: &mut [u64],
-    base: usize,
-)
-    ensures { both s.new out.new ≡ direct_commit_r s.old out.old sh base id.0 destination.0 }
+) -> Result<(), Refusal>
+    ensures { Gives s.new (reply no_words result) (λ os base. direct_commit_r s.old os sh base id.0 destination.0) }
 {
-    let l = claim_of(s, sh, id);
-    let k = book::reservation_of(s, sh, destination);
-    if paired(s, sh, l, k) {
-        direct_rows(s, sh, l.saturating_sub(1), k.saturating_sub(1));
-        answer::say(out, base);
-        return;
-    }
-    answer::refuse(out, base, format::refusal::MISUSE);
+    let rows = pair_of(s, sh, id, destination)?;
+    direct_rows(s, sh, rows.from, rows.to);
+    Ok(())
 }
 
 // A claim rolled back, then a reservation aborted, of one table or two: mod.rs `rollback_locked`.
+#[tactic(auto, unfolding(crate::specs::Ops::direct_rollback_r, crate::specs::Ops::pair_of))]
 pub fn direct_rollback(
     s: &mut [u64],
     sh: Shape,
     id: ReservationId,
     destination: ReservationId,
-    out: &mut [u64],
-    base: usize,
-)
-    ensures { both s.new out.new ≡ direct_rollback_r s.old out.old sh base id.0 destination.0 }
+) -> Result<(), Refusal>
+    ensures { Gives s.new (reply no_words result) (λ os base. direct_rollback_r s.old os sh base id.0 destination.0) }
 {
-    let l = claim_of(s, sh, id);
-    let k = book::reservation_of(s, sh, destination);
-    if paired(s, sh, l, k) {
-        rollback_row(s, sh, l.saturating_sub(1));
-        abort(s, sh, destination, out, base);
-        return;
-    }
-    answer::refuse(out, base, format::refusal::MISUSE);
+    let rows = pair_of(s, sh, id, destination)?;
+    rollback_row(s, sh, rows.from);
+    abort(s, sh, destination)
 }
 
 // The request of a list at a place: its fields are read.
+#[tactic(auto, unfolding(request::specs::Place::three_at))]
 pub fn serve_trim(s: &mut [u64], sh: Shape, rq: &[u64], at: usize, out: &mut [u64], base: usize)
     ensures { both s.new out.new ≡ trim_r s.old out.old sh base (field_of rq.now at id_field) (field_of rq.now at count_field) }
 {
@@ -306,32 +301,33 @@ pub fn serve_trim(s: &mut [u64], sh: Shape, rq: &[u64], at: usize, out: &mut [u6
         format::field::FIELD_COUNT,
         format::field::NO_FIELD,
     );
-    let id = f.a;
+    let id = ReservationId(f.a);
     let count = f.b;
-    trim(s, sh, ReservationId(id), count, out, base);
+    answer::outcome(out, base, trim(s, sh, id, count));
 }
 
 pub fn serve_abort(s: &mut [u64], sh: Shape, rq: &[u64], at: usize, out: &mut [u64], base: usize)
     ensures { both s.new out.new ≡ abort_r s.old out.old sh base (field_of rq.now at id_field) }
 {
-    let id = request::field(rq, at, format::field::FIELD_ID);
-    abort(s, sh, ReservationId(id), out, base);
+    let id = ReservationId(request::field(rq, at, format::field::FIELD_ID));
+    answer::outcome(out, base, abort(s, sh, id));
 }
 
 pub fn serve_rollback(s: &mut [u64], sh: Shape, rq: &[u64], at: usize, out: &mut [u64], base: usize)
     ensures { both s.new out.new ≡ rollback_r s.old out.old sh base (field_of rq.now at id_field) }
 {
-    let id = request::field(rq, at, format::field::FIELD_ID);
-    rollback(s, sh, ReservationId(id), out, base);
+    let id = ReservationId(request::field(rq, at, format::field::FIELD_ID));
+    answer::outcome(out, base, rollback(s, sh, id));
 }
 
 pub fn serve_commit(s: &mut [u64], sh: Shape, rq: &[u64], at: usize, out: &mut [u64], base: usize)
     ensures { both s.new out.new ≡ commit_r s.old out.old sh base (field_of rq.now at id_field) }
 {
-    let id = request::field(rq, at, format::field::FIELD_ID);
-    commit(s, sh, ReservationId(id), out, base);
+    let id = ReservationId(request::field(rq, at, format::field::FIELD_ID));
+    answer::outcome(out, base, commit(s, sh, id));
 }
 
+#[tactic(auto, unfolding(request::specs::Place::three_at))]
 pub fn serve_direct_commit(
     s: &mut [u64],
     sh: Shape,
@@ -350,18 +346,12 @@ pub fn serve_direct_commit(
         format::field::FIELD_DESTINATION,
         format::field::NO_FIELD,
     );
-    let id = f.a;
-    let destination = f.b;
-    direct_commit(
-        s,
-        sh,
-        ReservationId(id),
-        ReservationId(destination),
-        out,
-        base,
-    );
+    let id = ReservationId(f.a);
+    let destination = ReservationId(f.b);
+    answer::outcome(out, base, direct_commit(s, sh, id, destination));
 }
 
+#[tactic(auto, unfolding(request::specs::Place::three_at))]
 pub fn serve_direct_rollback(
     s: &mut [u64],
     sh: Shape,
@@ -380,14 +370,7 @@ pub fn serve_direct_rollback(
         format::field::FIELD_DESTINATION,
         format::field::NO_FIELD,
     );
-    let id = f.a;
-    let destination = f.b;
-    direct_rollback(
-        s,
-        sh,
-        ReservationId(id),
-        ReservationId(destination),
-        out,
-        base,
-    );
+    let id = ReservationId(f.a);
+    let destination = ReservationId(f.b);
+    answer::outcome(out, base, direct_rollback(s, sh, id, destination));
 }

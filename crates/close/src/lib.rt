@@ -16,6 +16,8 @@ ghost use Rattle.request.specs.Place.{field_of};
 
 use authority::Rights;
 use codec::{HandleCodec, HandleValue};
+use format::field::{FIELD_RIGHTS, FIELD_TABLE, FIELD_VALUE};
+use format::op;
 use format::refusal::Refusal;
 use layout::{Shape, field, size};
 use lookup::{HandleInfo, PreparedHandle};
@@ -98,37 +100,26 @@ pub fn replace(
 }
 
 // The request of a list at a place: its fields are read.
-#[tactic(auto, unfolding(request::specs::Place::three_at))]
 pub fn serve_replace(s: &mut [u64], sh: Shape, rq: &[u64], at: usize, out: &mut [u64], base: usize)
     ensures { both s.new out.new ≡ replace_r s.old out.old sh base (field_of rq.now at table_field) (field_of rq.now at value_field) (field_of rq.now at rights_field) }
 {
-    let f = request::read_three(
+    let [table, value, rights] = request::read_fields(
         rq,
         at,
-        format::op::OP_REPLACE,
-        format::field::FIELD_TABLE,
-        format::field::FIELD_VALUE,
-        format::field::FIELD_RIGHTS,
+        op::OP_REPLACE,
+        [FIELD_TABLE, FIELD_VALUE, FIELD_RIGHTS],
     );
-    match replace(s, sh, f.a, HandleValue(f.b), Rights(f.c)) {
+    match replace(s, sh, table, HandleValue(value), Rights(rights)) {
         Ok(value) => answer::say(out, base, &[value.0]),
         Err(refusal) => answer::refuse(out, base, refusal),
     }
 }
 
-#[tactic(auto, unfolding(request::specs::Place::three_at))]
 pub fn serve_close(s: &mut [u64], sh: Shape, rq: &[u64], at: usize, out: &mut [u64], base: usize)
     ensures { both s.new out.new ≡ close_r s.old out.old sh base (field_of rq.now at table_field) (field_of rq.now at value_field) }
 {
-    let f = request::read_three(
-        rq,
-        at,
-        format::op::OP_CLOSE,
-        format::field::FIELD_TABLE,
-        format::field::FIELD_VALUE,
-        format::field::NO_FIELD,
-    );
-    match close(s, sh, f.a, HandleValue(f.b)) {
+    let [table, value] = request::read_fields(rq, at, op::OP_CLOSE, [FIELD_TABLE, FIELD_VALUE]);
+    match close(s, sh, table, HandleValue(value)) {
         Ok(info) => answer::say(
             out,
             base,

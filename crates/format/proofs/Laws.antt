@@ -1,25 +1,14 @@
 -- Laws of the tables: each is one test that is computed over the whole table.
 -- Assumes nothing.
 use Rattle.std.specs.Prelude.{◌≡◌, refl, Bool, true, false, ◌&&◌, List, [], ◌∷◌, ℕ, zero, suc, ◌+◌, ◌%◌, ◌^◌, ◌<◌, ◌≤◌, eqb, leb, ltb, length, get_or}
-use Rattle.std.proofs.Common.{sym, ap, ◌∙◌, arith, add-zero, zero-add, add-suc, suc-add, le_of_suc-le-suc, not-suc-le-zero, eqb-true, le-leb, ltb-true, ltb-false, ne_eqb}
+use Rattle.std.proofs.Common.{sym, ap, ◌∙◌, add-zero, zero-add, add-suc, suc-add, le_of_suc-le-suc, not-suc-le-zero, eqb-true, ltb-true, ltb-false}
 use Rattle.std.proofs.Math.Bool.{and-false}
 use Rattle.std.proofs.Math.ListN.{get_or-eq_default}
 use Rattle.std.specs.Int.Bits.{bit_and}
 use Rattle.std.proofs.lemmas.Bool.{lt-leb}
 use Rattle.words.specs.Pick.{and_left, and_right}
-use Rattle.format.specs.Format.{
-  musts,
-  mays,
-  field_kinds,
-  field_fits,
-  known_op,
-  field_count,
-  transfer_item_must,
-  transfer_item_may,
-  parcel_item_must,
-  parcel_item_may,
-}
-use Rattle.format.specs.Fields.{any_word, number32, a_koid, a_route, an_op, an_operation, zero_word}
+use Rattle.format.specs.Format.{musts, mays, field_kinds, known_op, field_count, transfer_item_must, transfer_item_may, parcel_item_must, parcel_item_may}
+use Rattle.format.specs.Fields.{an_op}
 use Rattle.format.specs.Ops.{op_new_object, op_last}
 
 -- every entry of a table passes a test, counted from i
@@ -114,41 +103,3 @@ items_fit = refl
 pub kinds_fit : (every (λ (bit kind : ℕ). leb kind an_op) 0 field_kinds && eqb (length field_kinds) field_count) ≡ true
 unfolding field_kinds
 kinds_fit = refl
-
--- a number that is none of those below n, as a `match` leaves it that named them one by one
-abbrev pub Left : Type 0 → ℕ → ℕ → Type 0
-Left X i zero = X
-Left X i (suc n) = Left X i n × (i ≡ n → ⊥)
-
-pub left_past : (X : Type 0) (i n : ℕ) → Left X i n → n ≤ i
-left_past X i zero h = omega arith
-left_past X i (suc n) h = beyond n i (left_past X i n h.0) h.1
-  where
-    beyond : (n i : ℕ) → n ≤ i → (i ≡ n → ⊥) → suc n ≤ i
-    beyond n i h f = omega arith
-
--- so a table of n entries has none at it
-pub none_at : (X : Type 0) (xs : List ℕ) (i : ℕ) → Left X i (length xs) → 0 ≡ get_or xs i 0
-none_at X xs i h = sym (get_or-eq_default xs 0 (left_past X i (length xs) h))
-
--- what a table has at a place, where the place is known
-pub entry_at : (xs : List ℕ) (i k r : ℕ) → i ≡ k → r ≡ get_or xs k 0 → r ≡ get_or xs i 0
-entry_at xs i k r e p = p ∙ ap (λ (n : ℕ). get_or xs n 0) (sym e)
-
--- what a kind takes, where the kind is known
-pub kind_fits : (kind k word : ℕ) (r : Bool) → kind ≡ k → r ≡ field_fits k word → r ≡ field_fits kind word
-kind_fits kind k word r e p = p ∙ ap (λ (n : ℕ). field_fits n word) (sym e)
-
-pub no_kind : (kind word : ℕ) → (kind ≡ any_word → ⊥) → (kind ≡ number32 → ⊥) → (kind ≡ a_koid → ⊥) → (kind ≡ a_route → ⊥) → (kind ≡ an_op → ⊥) → (kind ≡ an_operation → ⊥)
-    → (kind ≡ zero_word → ⊥) → false ≡ field_fits kind word
-unfolding field_fits
-no_kind kind word h0 h1 h2 h3 h4 h5 h6 =
-    simp (ne_eqb kind any_word h0, ne_eqb kind number32 h1, ne_eqb kind a_koid h2, ne_eqb kind a_route h3, ne_eqb kind an_op h4, ne_eqb kind an_operation h5, ne_eqb kind zero_word h6)
-
-pub known_yes : (op : ℕ) → 1 ≤ op → leb op op_last ≡ known_op op
-unfolding known_op
-known_yes op h = rw (le-leb 1 op h)
-
-pub known_no : (op : ℕ) → op < 1 → false ≡ known_op op
-unfolding known_op
-known_no op h = rw (lt-leb 1 op h)

@@ -2,3 +2,4 @@ pub mod Fields
 pub mod Ops
 pub mod Format
 pub mod Refusals
+pub mod Kinds

@@ -41,18 +41,14 @@ pub const FIELDS: u64 = 18;
 // A bit past the last, which names no field: what is read by it is 0.
 pub const NO_FIELD: u64 = FIELDS;
 
-// Kinds of fields: which words one takes is `fits`.
-pub const KIND_WORD: u64 = 0;
-
-pub const KIND_NUMBER_32: u64 = 1;
-
-pub const KIND_KOID: u64 = 2;
-
-pub const KIND_ROUTE: u64 = 3;
-
-pub const KIND_OP: u64 = 4;
-
-// Kinds of bit 0's word in an item: a transfer item's operation, a parcel item's 0.
-pub const KIND_OPERATION: u64 = 5;
-
-pub const KIND_ZERO: u64 = 6;
+// The kind of a field: which words one takes is `fits`. An op's record has `Op` at bit 0, a transfer item's `Operation`, a parcel item's `Zero`.
+#[derive(Clone, Copy, PartialEq, Eq)]
+pub enum FieldKind {
+    Word,
+    Number32,
+    Koid,
+    Route,
+    Op,
+    Operation,
+    Zero,
+}

@@ -2,7 +2,10 @@
 #![tactic(auto)]
 
 ghost use Rattle.std.specs.Prelude.{◌≡◌, get_or};
+ghost use Rattle.format.specs.Kinds.{kind_number};
 ghost use Rattle.format.specs.Format.{musts, mays, field_fits, known_op, transfer_item_must, transfer_item_may, parcel_item_must, parcel_item_may, field_count, answer_words};
+
+use field::FieldKind;
 
 pub mod field;
 pub mod maps;
@@ -27,30 +30,27 @@ pub fn may(op: u64) -> u64
 }
 
 // Whether a field of a kind takes a word.
-pub fn fits(kind: u64, word: u64) -> bool
-    ensures { result ≡ field_fits kind word }
+#[tactic(auto, unfolding(crate::specs::Format::field_fits))]
+pub fn fits(kind: FieldKind, word: u64) -> bool
+    ensures { result ≡ field_fits (kind_number kind) word }
 {
     match kind {
-        field::KIND_WORD => true,
-        field::KIND_NUMBER_32 => word <= size::NUMBER_32_MAX,
-        field::KIND_KOID => word != 0,
-        field::KIND_ROUTE => word <= size::ROUTE_LAST,
-        field::KIND_OP => known_op(word),
-        field::KIND_OPERATION => word <= size::OPERATION_LAST,
-        field::KIND_ZERO => word == 0,
-        _ => false,
+        FieldKind::Word => true,
+        FieldKind::Number32 => word <= size::NUMBER_32_MAX,
+        FieldKind::Koid => word != 0,
+        FieldKind::Route => word <= size::ROUTE_LAST,
+        FieldKind::Op => known_op(word),
+        FieldKind::Operation => word <= size::OPERATION_LAST,
+        FieldKind::Zero => word == 0,
     }
 }
 
 // Whether a number is an op's.
+#[tactic(auto, unfolding(crate::specs::Format::known_op))]
 pub fn known_op(word: u64) -> bool
     ensures { result ≡ known_op word }
 {
-    if 1 <= word {
-        word <= op::OP_LAST
-    } else {
-        false
-    }
+    (1..=op::OP_LAST).contains(&word)
 }
 
 pub fn transfer_item_must() -> u64

@@ -2,7 +2,7 @@
 use Rattle.std.specs.Prelude.{◌≡◌, refl, List, ◌∷◌, ℕ, suc, ◌+◌, ◌≤◌, ◌<◌, length}
 use Rattle.std.proofs.Common.{sym, ap, ◌∙◌, ⊎_elim, arith}
 use Rattle.std.proofs.Math.Option.{some}
-use Rattle.model.specs.Base.{occurs, insert}
+use Rattle.model.specs.Base.{insert}
 use Rattle.model.specs.State.{State}
 use Rattle.model.specs.Change.{with_frames}
 use Rattle.model.proofs.Counting.{bit_other}

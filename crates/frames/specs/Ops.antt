@@ -30,17 +30,6 @@ take_frame_w ws sh f o = writes ws sh (step_p down (load ws sh) f o)
 unfoldable pub give_frame_w : List ℕ → Shape → ℕ → List ℕ
 give_frame_w ws sh f = writes ws sh (step_p up (load ws sh) f 0)
 
--- the code's stores
-pub take_is : (ws vs : List ℕ) (sh : Shape) (f o a₀ b₀ c₀ n₀ a b c n : ℕ) → a₀ ≡ load ws sh (group 0 (f / 16)) → b₀ ≡ load ws sh (group 1 (f / 256))
-    → c₀ ≡ load ws sh (group 2 (f / 4096)) → n₀ ≡ load ws sh (root root_free_frames) → a ≡ a₀ - 1 → b ≡ b₀ - 1 → c ≡ c₀ - 1 → n ≡ n₀ - 1 → vs ≡ writes ws sh (pool_p f o a b c n) → vs ≡ take_frame_w ws sh f o
-unfolding take_frame_w
-take_is ws vs sh f o a₀ b₀ c₀ n₀ a b c n p₀ p₁ p₂ p₃ q₀ q₁ q₂ q₃ w = rw (w, q₃, q₂, q₁, q₀, p₃, p₂, p₁, p₀)
-
-pub give_is : (ws vs : List ℕ) (sh : Shape) (f a₀ b₀ c₀ n₀ a b c n : ℕ) → a₀ ≡ load ws sh (group 0 (f / 16)) → b₀ ≡ load ws sh (group 1 (f / 256))
-    → c₀ ≡ load ws sh (group 2 (f / 4096)) → n₀ ≡ load ws sh (root root_free_frames) → a ≡ up a₀ → b ≡ up b₀ → c ≡ up c₀ → n ≡ up n₀ → vs ≡ writes ws sh (pool_p f 0 a b c n) → vs ≡ give_frame_w ws sh f
-unfolding give_frame_w
-give_is ws vs sh f a₀ b₀ c₀ n₀ a b c n p₀ p₁ p₂ p₃ q₀ q₁ q₂ q₃ w = rw (w, q₃, q₂, q₁, q₀, p₃, p₂, p₁, p₀)
-
 -- ---- the lowest free frame
 
 -- the first of n numbers from x on that passes; x + n if none does
@@ -67,9 +56,9 @@ module _ (p : ℕ → Bool) (a n e x : ℕ) (h : first_of p a n ≡ first_of p x
   first_no l t = let d : e - x ≡ suc (e - (x + 1)) = omega arith in
       rw h (rw d (sym (no_is (p x) (first_of p (x + 1) (e - (x + 1))) x (first_of p (suc x) (e - (x + 1))) t (rw add-one))))
 
-  pub first_end : x ≤ e → e ≤ x → x ≡ first_of p a n
+  pub first_end : x ≤ e → e ≤ x → e ≡ first_of p a n
   unfolding first_of
-  first_end l k = let d : e - x ≡ 0 = omega arith in rw h (rw d)
+  first_end l k = let d : e - x ≡ 0 = omega arith in let i : e ≡ x = omega arith in rw h (rw d i)
 
 pub first_start : (p : ℕ → Bool) (a n e : ℕ) → e ≡ a + n → first_of p a n ≡ first_of p a (e - a)
 first_start p a n e h = let d : e - a ≡ n = omega arith in rw d

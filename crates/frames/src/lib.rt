@@ -1,9 +1,9 @@
 // The pool of frames over the state's words: the lowest free frame, a frame taken for a page or for a plan, a frame given back.
 #![tactic(auto)]
 
-ghost use Rattle.std.specs.Prelude.{◌≡◌, ◌+◌, ◌≤◌};
+ghost use Rattle.std.specs.Prelude.{◌≡◌, ℕ, ◌+◌, ◌≤◌};
 ghost use Rattle.layout.specs.Layout.{load as loadAt, writes};
-ghost use Rattle.frames.specs.Ops.{pool_p, take_frame_w, give_frame_w, first_of, has_free, lowest_at};
+ghost use Rattle.frames.specs.Ops.{step_p, take_frame_w, give_frame_w, first_of, has_free, lowest_at};
 
 use layout::{Shape, field};
 
@@ -13,9 +13,10 @@ fn has_free(s: &[u64], sh: Shape, k: u64, x: u64) -> bool
 {
     let w = layout::load(s, sh, k, x, 0, 0);
     if k == layout::region::REGION_OWNER {
-        return w == 0;
+        w == 0
+    } else {
+        w != 0
     }
-    w != 0
 }
 
 // The first of 16 numbers of region k that has a free frame; the number past them if none does.
@@ -25,17 +26,16 @@ fn first_free(s: &[u64], sh: Shape, k: u64, from: u64) -> u64
     ensures near { result ≤ from + 16 }
 {
     let end = from + 16;
-    let mut x = from;
-    while x < end {
+    for x in from..end {
         if has_free(s, sh, k, x) {
             return x;
         }
-        x += 1;
     }
-    x
+    end
 }
 
 // The lowest free frame. It looks at no more than 16 words of each level.
+#[tactic(auto, unfolding(crate::specs::Ops::lowest_at))]
 pub fn lowest_free(s: &[u64], sh: Shape) -> u64
     ensures { result ≡ lowest_at (loadAt s.now sh) }
 {
@@ -45,10 +45,15 @@ pub fn lowest_free(s: &[u64], sh: Shape) -> u64
     first_free(s, sh, layout::region::REGION_OWNER, a * 16)
 }
 
-// The words of frame f in the pool: its owner, the counts of its groups of 16, 256 and 4,096, and the count of all.
-fn put_pool(s: &mut [u64], sh: Shape, f: u64, o: u64, a: u64, b: u64, c: u64, n: u64)
-    ensures { s.new ≡ writes s.old sh (pool_p f o a b c n) }
+// The words of frame f in the pool: its owner is o, and the counts of its groups of 16, 256 and 4,096 and of all go on by a step.
+fn count_frame<F: Fn(u64) -> u64>(s: &mut [u64], sh: Shape, f: u64, o: u64, step: F)
+    requires { F.IsAlwaysCallable step }
+    ensures { (g : ℕ → ℕ) → ((x r : ℕ) → F.post step x r → r ≡ g x) → s.new ≡ writes s.old sh (step_p g (loadAt s.old sh) f o) }
 {
+    let a = step(layout::load(s, sh, layout::region::REGION_GROUP_16, f / 16, 0, 0));
+    let b = step(layout::load(s, sh, layout::region::REGION_GROUP_256, f / 256, 0, 0));
+    let c = step(layout::load(s, sh, layout::region::REGION_GROUP_4096, f / 4096, 0, 0));
+    let n = step(layout::root_word(s, sh, field::ROOT_FREE_FRAMES));
     layout::put_owner(s, sh, f, o);
     layout::save(s, sh, layout::region::REGION_GROUP_16, f / 16, 0, 0, a);
     layout::save(s, sh, layout::region::REGION_GROUP_256, f / 256, 0, 0, b);
@@ -57,27 +62,17 @@ fn put_pool(s: &mut [u64], sh: Shape, f: u64, o: u64, a: u64, b: u64, c: u64, n:
 }
 
 // Frame f is taken, and o is its owner word.
+#[tactic(auto, unfolding(crate::specs::Ops::take_frame_w))]
 pub fn take_frame(s: &mut [u64], sh: Shape, f: u64, o: u64)
     ensures words { s.new ≡ take_frame_w s.old sh f o }
 {
-    let a = layout::load(s, sh, layout::region::REGION_GROUP_16, f / 16, 0, 0).saturating_sub(1);
-    let b = layout::load(s, sh, layout::region::REGION_GROUP_256, f / 256, 0, 0).saturating_sub(1);
-    let c = layout::load(s, sh, layout::region::REGION_GROUP_4096, f / 4096, 0, 0).saturating_sub(
-        1,
-    );
-    let n = layout::root_word(s, sh, field::ROOT_FREE_FRAMES).saturating_sub(1);
-    put_pool(s, sh, f, o, a, b, c, n);
+    count_frame(s, sh, f, o, |n| n.saturating_sub(1));
 }
 
 // Frame f is given back.
+#[tactic(auto, unfolding(crate::specs::Ops::give_frame_w))]
 pub fn give_frame(s: &mut [u64], sh: Shape, f: u64)
     ensures words { s.new ≡ give_frame_w s.old sh f }
 {
-    let a = layout::load(s, sh, layout::region::REGION_GROUP_16, f / 16, 0, 0).saturating_add(1);
-    let b = layout::load(s, sh, layout::region::REGION_GROUP_256, f / 256, 0, 0).saturating_add(1);
-    let c = layout::load(s, sh, layout::region::REGION_GROUP_4096, f / 4096, 0, 0).saturating_add(
-        1,
-    );
-    let n = layout::root_word(s, sh, field::ROOT_FREE_FRAMES).saturating_add(1);
-    put_pool(s, sh, f, 0, a, b, c, n);
+    count_frame(s, sh, f, 0, |n| n.saturating_add(1));
 }

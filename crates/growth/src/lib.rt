@@ -282,7 +282,8 @@ pub fn advance_epoch(s: &mut [u64], sh: Shape, b: u64)
     ensures words { s.new ≡ advance_w s.old sh b }
 {
     let mut h = head::load(s, sh, b);
-    h.age(head::next_epoch(h.epoch));
+    let e = head::next_epoch(h.epoch);
+    h.age(e);
     head::store_epoch(s, sh, b, h);
 }
 

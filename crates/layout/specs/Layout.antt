@@ -1,6 +1,6 @@
 -- Where each field of a state stands, loads and stores by address, and plans of stores. Assumes nothing.
 use Rattle.std.specs.Prelude.{◌≡◌, refl, Bool, true, false, ◌&&◌, List, [], ◌∷◌, ℕ, zero, suc, ◌+◌, ◌*◌, ◌/◌, ◌^◌, ◌<◌, ◌≤◌, length, get_or, set, eqb, ltb}
-use Rattle.std.proofs.Common.{sym, ap, ◌∙◌, arith, get_or-set_same, eq-eqb, eqb-true, ltb-true, ltb-false}
+use Rattle.std.proofs.Common.{sym, ap, ◌∙◌, mul-le-mul_left, arith, get_or-set_same, eq-eqb, eqb-true, ltb-true, ltb-false}
 use Rattle.std.proofs.Math.Path.{fun_ext}
 use Rattle.std.proofs.Math.Bool.{and-false}
 use Rattle.std.proofs.Math.ListN.{length-set}
@@ -8,10 +8,10 @@ use Rattle.std.proofs.Math.Seq.{get_or-set_other, set_out, set-get_or}
 use Rattle.std.proofs.Math.Dec.{eqb-zero-suc, eqb-suc-zero, eqb-suc-suc}
 use Rattle.words.specs.Pick.{pick, bool, clash, both}
 use Rattle.words.specs.Words.{get_past, words_same}
-use Rattle.layout.specs.Regions.{ext, size, region, region_past, Stacked, stacked_to, Inside, inside, place_in, inside_yes, inside_is, in_place, no_place, below, one_place, place_of}
+use Rattle.layout.specs.Regions.{ext, size, region, Stacked, stacked_to, Inside, inside, place_in, inside_yes, inside_is, in_size, in_place, no_place, below, one_place, place_of}
 use Rattle.layout.specs.declared.Shape.{Shape}
 use Rattle.layout.specs.declared.Extent.{Extent}
-use Rattle.layout.specs.RegionNames.{region_root, region_head, region_entry, region_owner, region_group16, region_group256, region_group4096, region_cell, region_object, region_index, region_row}
+use Rattle.layout.specs.RegionNames.{region_root, region_head, region_entry, region_owner, region_group16, region_cell, region_object, region_index, region_row}
 use Rattle.layout.specs.Fields.{head_cursor, head_pages, head_first_free, entry_next, slot_tag, slot_generation, slot_rights, index_place, index_rank, row_length, item_operation, item_moved, item_rights}
 use Rattle.layout.specs.Sizes.{page_size, batch_max, root_size, head_size, entry_size, slot_size, object_size, index_size, block_size, frame_size, row_blocks, row_size}
 
@@ -361,29 +361,13 @@ writes_past ws sh (at a v ∷ xs) i h = writes_past (save ws sh a v) sh xs i h �
 total_small : (sh : Shape) → sh.tables < 256 → sh.pages < 4294967296 → sh.frames < 65536 → sh.objects < 65536 → sh.rows < 65536 → total sh < 281474976710656
 total_small sh a b c d e = omega arith
 
--- no place overflows
-pub region_small : (sh : Shape) (k : ℕ) (r : Extent) → sh.tables < 256 → sh.pages < 4294967296 → sh.frames < 65536 → sh.objects < 65536 → sh.rows < 65536
-    → r ≡ region (layout sh) k → r.low + size r < 2 ^ 64
-region_small sh k r a b c d e q = rw q (omega (arith, total_small sh a b c d e, stacked_to 0 (total sh) (layout sh) (layout_stacked sh) k))
-
-up : (n k : ℕ) → n ≤ k → (k ≡ n → ⊥) → suc n ≤ k
-up n k h d = omega arith
-
-pub region_none : (sh : Shape) (k : ℕ) → (k ≡ region_root → ⊥) → (k ≡ region_head → ⊥) → (k ≡ region_entry → ⊥) → (k ≡ region_owner → ⊥) → (k ≡ region_group16 → ⊥) → (k ≡ region_group256 → ⊥) → (k ≡ region_group4096 → ⊥) → (k ≡ region_cell → ⊥) → (k ≡ region_object → ⊥) → (k ≡ region_index → ⊥) → (k ≡ region_row → ⊥)
-    → ◌≡◌ {A = Extent} (record { low = 0; x = 0; y = 0; w = 0 }) (region (layout sh) k)
-region_none sh k h0 h1 h2 h3 h4 h5 h6 h7 h8 h9 h10 =
-    sym (region_past (layout sh) k (up 10 k (up 9 k (up 8 k (up 7 k (up 6 k (up 5 k (up 4 k (up 3 k (up 2 k (up 1 k (up 0 k (omega arith) h0) h1) h2) h3) h4) h5) h6) h7) h8) h9) h10))
-
--- `load` and `save`: a region, a place in it, and the word there
-pub load_by : (ws : List ℕ) (sh : Shape) (k x y f : ℕ) (e : Extent) (p r : ℕ) → e ≡ region (layout sh) k → p ≡ place_in (length ws) e x y f → r ≡ get_or ws p 0
-    → r ≡ load ws sh (reg k x y f)
-unfolding load
-load_by ws sh k x y f e p r a b c = c ∙ ap (λ (i : ℕ). get_or ws i 0) (b ∙ ap (λ (d : Extent). place_in (length ws) d x y f) a)
-
-pub save_by : (ws : List ℕ) (sh : Shape) (k x y f v : ℕ) (e : Extent) (p : ℕ) (vs : List ℕ) → e ≡ region (layout sh) k → p ≡ place_in (length ws) e x y f → vs ≡ set ws p v
-    → vs ≡ save ws sh (reg k x y f) v
-unfolding save
-save_by ws sh k x y f v e p vs a b c = c ∙ ap (λ (i : ℕ). set ws i v) (b ∙ ap (λ (d : Extent). place_in (length ws) d x y f) a)
+-- no part of a place overflows
+pub place_small : (sh : Shape) (k x y f : ℕ) (e : Extent) → sh.tables < 256 → sh.pages < 4294967296 → sh.frames < 65536 → sh.objects < 65536 → sh.rows < 65536
+    → e ≡ region (layout sh) k → x < e.x → y < e.y → f < e.w → (x * e.y + y ≤ (x * e.y + y) * e.w) × (e.low + ((x * e.y + y) * e.w + f) < 2 ^ 64)
+place_small sh k x y f e a b c d r q i j l =
+    let m : e.low + size e ≤ total sh = rw q (stacked_to 0 (total sh) (layout sh) (layout_stacked sh) k) in
+    let w : (x * e.y + y) * 1 ≤ (x * e.y + y) * e.w = mul-le-mul_left {m = 1} {n = e.w} (x * e.y + y) (omega arith) in
+    (omega arith, omega (arith, total_small sh a b c d r, in_size e x y f (record { xs = i; ys = j; fs = l })))
 
 -- an item past the row's last stands nowhere
 pub item_out : (sh : Shape) (r j f : ℕ) → batch_max ≤ j → is_in sh (item r j f) ≡ false

@@ -1,7 +1,6 @@
 -- Tables of regions, and places in them: the number of regions costs no proof. Assumes nothing.
-use Rattle.std.specs.Prelude.{◌≡◌, refl, Bool, true, false, ◌&&◌, List, [], ◌∷◌, ℕ, zero, suc, ◌+◌, ◌*◌, ◌-◌, ◌/◌, ◌%◌, ◌<◌, ◌≤◌, length, ltb}
-use Rattle.std.proofs.Common.{sym, ap, ◌∙◌, mul-le-mul_right, mul-le-mul_left, div-add-mod', div-lt_iff_lt-mul, mod-lt, arith, lt-ltb, le-ltb, ltb-true, ltb-false}
-use Rattle.std.proofs.Math.Bool.{and-false}
+use Rattle.std.specs.Prelude.{◌≡◌, Bool, true, false, ◌&&◌, List, [], ◌∷◌, ℕ, zero, suc, ◌+◌, ◌*◌, ◌-◌, ◌/◌, ◌%◌, ◌<◌, ◌≤◌, ltb}
+use Rattle.std.proofs.Common.{sym, ap, ◌∙◌, mul-le-mul_right, div-add-mod', div-lt_iff_lt-mul, mod-lt, arith, lt-ltb, ltb-true, ltb-false}
 use Rattle.words.specs.Pick.{pick, bool, both}
 use Rattle.layout.specs.declared.Extent.{Extent}
 
@@ -17,11 +16,6 @@ abbrev pub region : List Extent → ℕ → Extent
 region [] k = ext 0 0 0 0
 region (e ∷ es) zero = e
 region (e ∷ es) (suc k) = region es k
-
-pub region_past : (es : List Extent) (k : ℕ) → length es ≤ k → region es k ≡ ext 0 0 0 0
-region_past [] k h = refl
-region_past (e ∷ es) zero h = absurd (omega arith)
-region_past (e ∷ es) (suc k) h = region_past es k (omega arith)
 
 -- each region starts where the one before ends
 abbrev pub Stacked : ℕ → List Extent → ℕ → Type 0
@@ -89,7 +83,7 @@ module _ (e : Extent) (x y f : ℕ) where
       let b = both (ltb f e.w) (ltb y e.y && ltb x e.x) q in let d = both (ltb y e.y) (ltb x e.x) b.1 in
       record { xs = ltb-true x e.x d.1; ys = ltb-true y e.y d.0; fs = ltb-true f e.w b.0 }
 
-  in_size : Inside e x y f → (x * e.y + y) * e.w + f < size e
+  pub in_size : Inside e x y f → (x * e.y + y) * e.w + f < size e
   in_size i = two_below (x * e.y + y) f (e.x * e.y) e.w (two_below x y e.x e.y i.xs i.ys) i.fs
 
   pub in_place : (n : ℕ) → Inside e x y f → place_in n e x y f ≡ e.low + ((x * e.y + y) * e.w + f)
@@ -99,25 +93,6 @@ module _ (e : Extent) (x y f : ℕ) where
   pub no_place : (n : ℕ) → inside e x y f ≡ false → place_in n e x y f ≡ n
   unfolding place_in
   no_place n q = rw q
-
-  -- no partial result is past the region
-  pub in_small : x < e.x → y < e.y → f < e.w → (x * e.y ≤ size e) × (x * e.y + y ≤ size e) × ((x * e.y + y) * e.w ≤ size e) × ((x * e.y + y) * e.w + f ≤ size e)
-  in_small a b c =
-      let z = in_size (record { xs = a; ys = b; fs = c }) in
-      let u : (x * e.y + y) * 1 ≤ (x * e.y + y) * e.w = mul-le-mul_left {m = 1} {n = e.w} (x * e.y + y) (omega arith) in
-      omega arith
-
-  pub out_f : (n : ℕ) → e.w ≤ f → n ≡ place_in n e x y f
-  unfolding place_in
-  out_f n a = rw (le-ltb f e.w a)
-
-  pub out_y : (n : ℕ) → e.y ≤ y → n ≡ place_in n e x y f
-  unfolding place_in
-  out_y n a = rw (le-ltb y e.y a, and-false (ltb f e.w))
-
-  pub out_x : (n : ℕ) → e.x ≤ x → n ≡ place_in n e x y f
-  unfolding place_in
-  out_x n a = rw (le-ltb x e.x a, and-false (ltb y e.y), and-false (ltb f e.w))
 
 in_one : (e : Extent) (x y f x' y' f' : ℕ) → Inside e x y f → Inside e x' y' f' → (x * e.y + y) * e.w + f ≡ (x' * e.y + y') * e.w + f'
     → (x ≡ x') × (y ≡ y') × (f ≡ f')

@@ -1,4 +1,5 @@
 // The fields of a state's records, by their word (docs/formats.md, "The state's words").
+// They stay numbers: each is added to the place of its record's first word, and the format gives them to whoever reads the words from C.
 // Of the header.
 pub const ROOT_VERSION: u64 = 0;
 

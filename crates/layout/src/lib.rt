@@ -2,7 +2,7 @@
 #![tactic(auto)]
 
 ghost use Rattle.std.specs.Prelude.{◌≡◌, ◌+◌, ◌<◌, ◌^◌};
-ghost use Rattle.layout.specs.Regions.{region, size, place_in};
+ghost use Rattle.layout.specs.Regions.{region, place_in};
 ghost use Rattle.layout.specs.Layout.{Addr.reg, layout, total, load as loadAt, save as save_at};
 ghost use Rattle.layout.specs.Layout.{root, head, entry, owner, cell, object, index, rank, row, item};
 ghost use Rattle.layout.specs.ShapeOf.{shape_of};
@@ -15,6 +15,7 @@ pub mod size;
 pub mod value;
 
 // The counts of a state; pages is the sum of the tables' page limits.
+// Most functions take the words s and this shape sh as two arguments: one struct of both was tried and proves, but each function that writes then needs two more clauses, that the lent words and the shape stay the same ones.
 #[derive(Clone, Copy)]
 pub struct Shape {
     pub tables: u8,
@@ -34,7 +35,7 @@ pub struct Extent {
 }
 
 // The words of a slot. Words 2 and 3 of a vacant slot are its links, of a marked one its row's place and its position there.
-#[derive(Clone, Copy)]
+#[derive(Clone, Copy, Default)]
 pub struct CellWords {
     pub tag: u64,
     pub generation: u64,
@@ -62,100 +63,21 @@ pub fn region_of(sh: Shape, k: u64) -> Extent
     let low8 = low7 + size::FRAME_SIZE * f;
     let low9 = low8 + size::OBJECT_SIZE * o;
     let low10 = low9 + size::INDEX_SIZE * r;
-    if k == region::REGION_ROOT {
-        return Extent {
-            low: 0,
-            x: 1,
-            y: 1,
-            w: size::ROOT_SIZE,
-        };
-    }
-    if k == region::REGION_HEAD {
-        return Extent {
-            low: size::ROOT_SIZE,
-            x: t,
-            y: 1,
-            w: size::HEAD_SIZE,
-        };
-    }
-    if k == region::REGION_ENTRY {
-        return Extent {
-            low: low2,
-            x: p,
-            y: 1,
-            w: size::ENTRY_SIZE,
-        };
-    }
-    if k == region::REGION_OWNER {
-        return Extent {
-            low: low3,
-            x: f,
-            y: 1,
-            w: 1,
-        };
-    }
-    if k == region::REGION_GROUP_16 {
-        return Extent {
-            low: low4,
-            x: (f + 15) / 16,
-            y: 1,
-            w: 1,
-        };
-    }
-    if k == region::REGION_GROUP_256 {
-        return Extent {
-            low: low5,
-            x: (f + 255) / 256,
-            y: 1,
-            w: 1,
-        };
-    }
-    if k == region::REGION_GROUP_4096 {
-        return Extent {
-            low: low6,
-            x: (f + 4095) / 4096,
-            y: 1,
-            w: 1,
-        };
-    }
-    if k == region::REGION_CELL {
-        return Extent {
-            low: low7,
-            x: f,
-            y: size::PAGE_SIZE,
-            w: size::SLOT_SIZE,
-        };
-    }
-    if k == region::REGION_OBJECT {
-        return Extent {
-            low: low8,
-            x: o,
-            y: 1,
-            w: size::OBJECT_SIZE,
-        };
-    }
-    if k == region::REGION_INDEX {
-        return Extent {
-            low: low9,
-            x: r,
-            y: 1,
-            w: size::INDEX_SIZE,
-        };
-    }
-    if k == region::REGION_ROW {
-        return Extent {
-            low: low10,
-            x: r,
-            y: size::ROW_BLOCKS,
-            w: size::BLOCK_SIZE,
-        };
-    }
-    Extent {
-        low: 0,
-        x: 0,
-        y: 0,
-        w: 0,
-    }
+    let (low, x, y, w) = match k {
+        region::REGION_ROOT => (0, 1, 1, size::ROOT_SIZE),
+        region::REGION_HEAD => (size::ROOT_SIZE, t, 1, size::HEAD_SIZE),
+        region::REGION_ENTRY => (low2, p, 1, size::ENTRY_SIZE),
+        region::REGION_OWNER => (low3, f, 1, 1),
+        region::REGION_GROUP_16 => (low4, (f + 15) / 16, 1, 1),
+        region::REGION_GROUP_256 => (low5, (f + 255) / 256, 1, 1),
+        region::REGION_GROUP_4096 => (low6, (f + 4095) / 4096, 1, 1),
+        region::REGION_CELL => (low7, f, size::PAGE_SIZE, size::SLOT_SIZE),
+        region::REGION_OBJECT => (low8, o, 1, size::OBJECT_SIZE),
+        region::REGION_INDEX => (low9, r, 1, size::INDEX_SIZE),
+        region::REGION_ROW => (low10, r, size::ROW_BLOCKS, size::BLOCK_SIZE),
+        _ => (0, 0, 0, 0),
+    };
+    Extent { low, x, y, w }
 }
 
 // Words of a row and of its pair of the index.
@@ -175,44 +97,37 @@ pub fn total_of(sh: Shape) -> u64
     low7 + size::FRAME_SIZE * f + size::OBJECT_SIZE * o + ROW_WORDS * r
 }
 
-// The place of field f of number (x, y) of a region in n words; n itself where there is none.
-fn place_in(n: usize, e: Extent, x: u64, y: u64, f: u64) -> usize
-    requires { e.low + size e < 2 ^ 64 }
-    ensures { result ≡ place_in n e x y f }
+// The place of field f of number (x, y) of region k in n words; n itself where there is none.
+#[tactic(auto, unfolding(crate::specs::Regions::place_in))]
+fn place_in(n: usize, sh: Shape, k: u64, x: u64, y: u64, f: u64) -> usize
+    ensures { result ≡ place_in n (region (layout sh) k) x y f }
 {
-    let low = e.low;
-    let xs = e.x;
-    let ys = e.y;
-    let w = e.w;
-    if f >= w {
-        return n;
+    let e = region_of(sh, k);
+    if f < e.w && y < e.y && x < e.x {
+        (e.low + ((x * e.y + y) * e.w + f)) as usize
+    } else {
+        n
     }
-    if y >= ys {
-        return n;
-    }
-    if x >= xs {
-        return n;
-    }
-    (low + ((x * ys + y) * w + f)) as usize
 }
 
 // Field f of number (x, y) of region k; 0 out of range.
+#[tactic(auto, unfolding(crate::specs::Layout::load))]
 pub fn load(s: &[u64], sh: Shape, k: u64, x: u64, y: u64, f: u64) -> u64
     ensures { result ≡ loadAt s.now sh (reg k x y f) }
 {
-    let e = region_of(sh, k);
-    words::word(s, place_in(s.len(), e, x, y, f))
+    words::word(s, place_in(s.len(), sh, k, x, y, f))
 }
 
 // Stores there; nothing out of range.
+#[tactic(auto, unfolding(crate::specs::Layout::save))]
 pub fn save(s: &mut [u64], sh: Shape, k: u64, x: u64, y: u64, f: u64, v: u64)
     ensures { s.new ≡ save_at s.old sh (reg k x y f) v }
 {
-    let e = region_of(sh, k);
-    let at = place_in(s.len(), e, x, y, f);
+    let at = place_in(s.len(), sh, k, x, y, f);
     words::put(s, at, v);
 }
 
+// One pair of functions for each region: a trait over regions would take nine impls of three members in place of these one-line functions.
 // A field of the header.
 pub fn root_word(s: &[u64], sh: Shape, f: u64) -> u64
     ensures { result ≡ loadAt s.now sh (root f) }
@@ -294,12 +209,8 @@ pub fn cell_at(s: &[u64], sh: Shape, fr: u64, j: u64) -> CellWords
     ensures { result ≡ cell_at (loadAt s.now sh) fr j }
 {
     let n = s.len();
-    let e = region_of(sh, region::REGION_CELL);
-    let at = place_in(n, e, fr, j, field::SLOT_TAG);
-    if n < SLOT_WORDS {
-        return cell_each(s, sh, fr, j);
-    }
-    if at > n - SLOT_WORDS {
+    let at = place_in(n, sh, region::REGION_CELL, fr, j, field::SLOT_TAG);
+    if n < SLOT_WORDS || at > n - SLOT_WORDS {
         return cell_each(s, sh, fr, j);
     }
     CellWords {
@@ -371,6 +282,7 @@ pub fn put_row(s: &mut [u64], sh: Shape, k: u64, f: u64, v: u64)
 }
 
 // Of item j of a row.
+#[tactic(auto, using(crate::specs::Layout::item_load))]
 pub fn item_word(s: &[u64], sh: Shape, k: u64, j: u64, f: u64) -> u64
     ensures { result ≡ loadAt s.now sh (item k j f) }
 {
@@ -381,6 +293,7 @@ pub fn item_word(s: &[u64], sh: Shape, k: u64, j: u64, f: u64) -> u64
     }
 }
 
+#[tactic(auto, using(crate::specs::Layout::item_save))]
 pub fn put_item(s: &mut [u64], sh: Shape, k: u64, j: u64, f: u64, v: u64)
     ensures { s.new ≡ save_at s.old sh (item k j f) v }
 {
@@ -399,46 +312,28 @@ pub fn shape_of(s: &[u64]) -> Option<Shape>
     let o = words::word(s, place::ROOT_OBJECTS);
     let r = words::word(s, place::ROOT_ROWS);
     let p = words::word(s, place::ROOT_PAGES);
-    if version != value::FORMAT_VERSION {
-        return None;
+    // Comparisons, since the check drew no bound from `contains` of a range.
+    if version == value::FORMAT_VERSION
+        && 1 <= t
+        && t <= size::TABLES_MAX
+        && f <= size::FRAMES_MAX
+        && 1 <= o
+        && o <= size::OBJECTS_MAX
+        && 1 <= r
+        && r <= size::ROWS_MAX
+        && t <= p
+        && p <= t * size::PAGES_MAX
+    {
+        let sh = Shape {
+            tables: t as u8,
+            pages: p as u32,
+            frames: f as u16,
+            objects: o as u16,
+            rows: r as u16,
+        };
+        if total_of(sh) <= s.len() as u64 {
+            return Some(sh);
+        }
     }
-    if t < 1 {
-        return None;
-    }
-    if t > size::TABLES_MAX {
-        return None;
-    }
-    if f > size::FRAMES_MAX {
-        return None;
-    }
-    if o < 1 {
-        return None;
-    }
-    if o > size::OBJECTS_MAX {
-        return None;
-    }
-    if r < 1 {
-        return None;
-    }
-    if r > size::ROWS_MAX {
-        return None;
-    }
-    if p < t {
-        return None;
-    }
-    if p > t * size::PAGES_MAX {
-        return None;
-    }
-    let sh = Shape {
-        tables: t as u8,
-        pages: p as u32,
-        frames: f as u16,
-        objects: o as u16,
-        rows: r as u16,
-    };
-    let n = s.len() as u64;
-    if n < total_of(sh) {
-        return None;
-    }
-    Some(sh)
+    None
 }

@@ -1,4 +1,5 @@
 // The regions of a state's words, by their number (docs/formats.md, "The state's words").
+// They stay numbers: a region's number is its place in the list of the regions (specs/Layout.antt) and a part of each address.
 // The header.
 pub const REGION_ROOT: u64 = 0;
 

@@ -1,4 +1,5 @@
 // The words that stand for a case: tags, what a row is, lifecycles, states and classes of objects, operations, routes (docs/formats.md, "The state's words").
+// They stay numbers: a lent word may be any number, so code compares what it reads with these, and it stores them as they stand.
 // The format's version.
 pub const FORMAT_VERSION: u64 = 1;
 

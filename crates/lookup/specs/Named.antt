@@ -7,10 +7,10 @@ use borrow.Author.Tests.{ne_eqb, eqb-true, eqb-false, lt-ltb, ltb-true, ltb-fals
 use Rattle.words.specs.Pick.{bool}
 use Rattle.codec.specs.declared.Decoded.{Decoded}
 use Rattle.codec.specs.Codec.{decodes, slot_in as slot_named, generation_in, decode_of}
-use Rattle.model.specs.State.{Handle, Slot.occupied, Lifecycle.active, Table, State, is_active, is_occupied}
+use Rattle.model.specs.State.{Handle, Slot.occupied, Table, State, is_active, is_occupied}
 use Rattle.model.specs.Lookup.{View as Named, view_slot, lookup, on_view}
 pub use Rattle.model.proofs.Decided.{on_active, on_handle}
-use Rattle.model.specs.Decision.{Decision, Decision.refusal, unless◌refuse◌then◌}
+use Rattle.model.specs.Decision.{Decision, Decision.refusal}
 use Rattle.layout.specs.declared.Shape.{Shape}
 use Rattle.layout.specs.Layout.{Mem, head, cell}
 use Rattle.layout.specs.Fields.{head_mask, head_lifecycle, head_cursor, slot_tag, slot_generation, slot_object, slot_rights, slot_flags}

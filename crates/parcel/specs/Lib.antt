@@ -1,5 +1,4 @@
 pub mod Ops
-pub mod Code
 pub mod Opened
 pub mod Found
 pub mod Released
@@ -7,4 +6,3 @@ pub mod Publishing
 pub mod Plain
 pub mod Publish
 pub mod Published
-pub mod PublishCode

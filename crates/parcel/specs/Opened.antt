@@ -20,7 +20,7 @@ use Rattle.model.proofs.Decided.{on_handle}
 use Rattle.model.specs.Step.{new_object_of, duplicate_of, retire_object_of, decide}
 use Rattle.model.specs.Words.{used_words}
 use Rattle.layout.specs.declared.Shape.{Shape}
-use Rattle.layout.specs.Layout.{Mem, root, index, object, item, load, Write.at, load_writes, in_item}
+use Rattle.layout.specs.Layout.{Mem, root, index, item, load, Write.at, load_writes, in_item}
 use Rattle.layout.specs.Fields.{root_used_rows, index_place, item_object, item_rights, item_flags}
 use Rattle.layout.specs.Values.{kind_parcel, stage_active}
 use Rattle.layout.specs.RegionNames.{region_root, region_index}

@@ -4,7 +4,7 @@ use Rattle.words.specs.Pick.{pick}
 use Rattle.authority.specs.Rights.{contains, duplicate_right}
 use Rattle.model.specs.State.{known_flags}
 use Rattle.layout.specs.declared.Shape.{Shape}
-use Rattle.layout.specs.Layout.{Mem, root, object, row, item, load}
+use Rattle.layout.specs.Layout.{Mem, root, row, item, load}
 use Rattle.layout.specs.Fields.{root_next_id, row_length, item_object}
 use Rattle.layout.specs.Values.{kind_parcel, stage_active, stage_retired}
 use Rattle.object.specs.declared.ObjectRecord.{ObjectRecord}

@@ -26,7 +26,7 @@ use Rattle.invariant.proofs.Marks.{Owns}
 use Rattle.invariant.proofs.BookLemmas.{found_range}
 use Rattle.invariant.proofs.StorageDecisions.{reservation_owns}
 use Rattle.layout.specs.declared.Shape.{Shape}
-use Rattle.layout.specs.Layout.{Mem, row, load}
+use Rattle.layout.specs.Layout.{Mem, load}
 use Rattle.layout.specs.Sizes.{batch_max}
 use Rattle.representation.specs.Represents.{is_marked, Rep}
 use Rattle.storage.specs.Reps.{Held, held_of}
@@ -42,7 +42,7 @@ use Rattle.book.specs.Found.{Open, reservation_none, reservation_some}
 use Rattle.parcel.specs.Ops.{parcel_link}
 use Rattle.parcel.specs.Found.{parcel_none, parcel_some, row_link_law}
 use Rattle.book.specs.Keeps.{Keeps, bare_given}
-use Rattle.parcel.specs.Publishing.{fits, published_w, dropped_w, spent_w, publish_r}
+use Rattle.parcel.specs.Publishing.{published_w, dropped_w, spent_w, publish_r}
 use Rattle.parcel.specs.Publish.{agreed, fits_is, published_keeps}
 
 -- each id names a parcel whose place no marked slot names

@@ -10,10 +10,15 @@ use Rattle.storage.specs.Ops.{occupy_w}
 use Rattle.book.specs.Ops.{row_link, reservation_link, close_w}
 use Rattle.answer.specs.Does.{Both, both, answered, refuse_r}
 use Rattle.parcel.specs.Ops.{parcel_link}
+use Rattle.parcel.specs.declared.ParcelIds.{ParcelIds}
 
 -- the parcels that a publish names: its items, n records from a place of the request list on
 unfoldable pub ids_at : List ℕ → ℕ → ℕ → List ℕ
 ids_at rq at n = map (parcel_at rq) (places_from n rq at)
+
+-- the same of the code's own record
+abbrev pub ids_left : ParcelIds → List ℕ
+ids_left p = ids_at p.rq.now p.at p.count
 
 -- two numbers added; the largest word stays
 abbrev pub plus : ℕ → ℕ → ℕ

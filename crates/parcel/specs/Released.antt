@@ -10,7 +10,7 @@ use Rattle.model.specs.Request.{Request.release_parcel}
 use Rattle.model.specs.Step.{release_parcel_of, decide}
 use Rattle.invariant.proofs.BookLemmas.{found_range}
 use Rattle.layout.specs.declared.Shape.{Shape}
-use Rattle.layout.specs.Layout.{row, item, load}
+use Rattle.layout.specs.Layout.{item, load}
 use Rattle.layout.specs.Fields.{item_object}
 use Rattle.layout.specs.RegionNames.{region_owner}
 use Rattle.representation.specs.Represents.{HandleIs, Items, Rep}

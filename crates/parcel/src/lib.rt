@@ -5,213 +5,169 @@
 // The requests on loose handles: new object, duplicate, release parcel, retire object and publish.
 #![tactic(auto)]
 
-ghost use Rattle.std.specs.Prelude.{◌≡◌};
+ghost use Rattle.std.specs.Prelude.{◌≡◌, [], ◌∷◌};
+ghost use Rattle.std.specs.Iterator.{YieldsFirst, at_most};
 ghost use Rattle.authority.specs.Rights.{contains};
 ghost use Rattle.model.specs.State.{known_flags};
-ghost use Rattle.model.specs.Words.{must};
-ghost use Rattle.request.specs.Place.{fields_at, end_at, count_at, field_of};
-ghost use Rattle.layout.specs.Layout.{load as loadAt};
-ghost use Rattle.book.specs.Ops.{spare, handle_w};
-ghost use Rattle.answer.specs.Does.{both};
-ghost use Rattle.parcel.specs.Ops.{retire_r, activation_refusal, row_refusal, new_refusal, new_object_r};
-ghost use Rattle.parcel.specs.Ops.{copy_refusal, copied_r, duplicate_r, parcel_link, lowered_w, released_w, release_r};
 ghost use Rattle.model.specs.Base.{member};
 ghost use Rattle.model.specs.Decision.{distinct};
 ghost use Rattle.format.specs.Fields.{id_field, table_field, object_field, value_field, rights_field, flags_field};
-ghost use Rattle.parcel.specs.Publishing.{ids_at, plus, fits, filled_w, published_w, dropped_w, spent_w, publish_r};
+ghost use Rattle.format.specs.Refusals.{number_of};
+ghost use Rattle.request.specs.Place.{parcel_at, end_at, count_at, field_of};
+ghost use Rattle.layout.specs.Layout.{load as loadAt};
+ghost use Rattle.answer.specs.Does.{both, reply, no_words, Gives};
+ghost use Rattle.parcel.specs.Ops.{retire_r, parcel_w, activation_refusal, new_refusal, new_object_r};
+ghost use Rattle.parcel.specs.Ops.{copy_refusal, copied_r, duplicate_r, lowered_w, released_w, release_r};
+ghost use Rattle.parcel.specs.Publishing.{ids_at, ids_left, fits, filled_w, published_w, dropped_w, spent_w, publish_r};
 
 use authority::Rights;
 use codec::{HandleValue, ReservationId};
+use format::refusal::Refusal;
 use layout::{Shape, field, value};
-use lookup::{Opened, PreparedHandle};
+use lookup::PreparedHandle;
 use object::ObjectRecord;
 
 // "Its owner may retire it by a request accepted in any state"; "unknown .. object": 18.
-pub fn retire_object(s: &mut [u64], sh: Shape, o: u64, out: &mut [u64], base: usize)
-    ensures { both s.new out.new ≡ retire_r s.old out.old sh base o }
+#[tactic(auto, unfolding(crate::specs::Ops::retire_r))]
+pub fn retire_object(s: &mut [u64], sh: Shape, o: u64) -> Result<(), Refusal>
+    ensures { Gives s.new (reply no_words result) (λ os base. retire_r s.old os sh base o) }
 {
-    if o < sh.objects as u64 {
-        object::retire_object(s, sh, o);
-        answer::say(out, base);
-        return;
+    if sh.objects as u64 <= o {
+        return Err(Refusal::Misuse);
     }
-    answer::refuse(out, base, format::refusal::MISUSE);
+    object::retire_object(s, sh, o);
+    Ok(())
 }
 
 // Whether the flags are known ones.
+#[tactic(auto, unfolding(authority::specs::Rights::contains, model::specs::State::known_flags))]
 fn known_flags(flags: u64) -> bool
     ensures { result ≡ contains known_flags flags }
 {
     value::KNOWN_FLAGS & flags == flags
 }
 
-// "Activation refuses 6 not exportable, 9 retired, 10 active, 11 limit reached, in that order"; 0 for none.
-pub fn activation_refusal(x: ObjectRecord) -> u64
-    ensures { result ≡ activation_refusal x }
+// "Activation refuses 6 not exportable, 9 retired, 10 active, 11 limit reached, in that order".
+#[tactic(auto, unfolding(crate::specs::Ops::activation_refusal))]
+pub fn may_activate(x: ObjectRecord) -> Result<(), Refusal>
+    ensures { number_of result ≡ activation_refusal x }
 {
     if x.exportable == 0 {
-        return format::refusal::UNSUPPORTED_RIGHTS;
+        return Err(Refusal::UnsupportedRights);
     }
     if x.stage == value::STAGE_RETIRED {
-        return format::refusal::OBJECT_RETIRED;
+        return Err(Refusal::ObjectRetired);
     }
     if x.stage == value::STAGE_ACTIVE {
-        return format::refusal::OBJECT_ALREADY_ACTIVE;
+        return Err(Refusal::ObjectAlreadyActive);
     }
     if x.count == x.limit {
-        return format::refusal::ACTIVE_HANDLE_LIMIT;
+        return Err(Refusal::ActiveHandleLimit);
     }
-    format::refusal::DONE
+    Ok(())
 }
 
-// The activation of an object, then the id.
-fn row_refusal(s: &[u64], sh: Shape, x: ObjectRecord) -> u64
-    ensures { result ≡ row_refusal (loadAt s.now sh) x }
+// "New object: 1, 6, 7, activation, 12".
+#[tactic(auto, unfolding(crate::specs::Ops::new_refusal, crate::specs::Ops::row_refusal))]
+fn check_new(s: &[u64], sh: Shape, o: u64, rights: Rights, flags: u64) -> Result<(), Refusal>
+    ensures { number_of result ≡ new_refusal (loadAt s.now sh) sh o rights.0 flags }
 {
-    let n = activation_refusal(x);
-    if n == 0 {
-        return book::id_refusal(s, sh);
+    if sh.objects as u64 <= o {
+        return Err(Refusal::Misuse);
     }
-    n
+    if !book::row_left(s, sh) {
+        return Err(Refusal::Allocation);
+    }
+    let x = object::read_object(s, sh, o);
+    if !Rights(x.supported).contains(rights) {
+        return Err(Refusal::UnsupportedRights);
+    }
+    if !known_flags(flags) {
+        return Err(Refusal::UnsupportedFlags);
+    }
+    may_activate(x)?;
+    book::id_left(s, sh)
 }
 
-// "New object: 1, 6, 7, activation, 12"; 0 for no refusal.
-fn new_refusal(s: &[u64], sh: Shape, o: u64, rights: Rights, flags: u64) -> u64
-    ensures { result ≡ new_refusal (loadAt s.now sh) sh o rights.0 flags }
-{
-    if o < sh.objects as u64 {
-        if book::row_left(s, sh) {
-            let x = object::read_object(s, sh, o);
-            let supported = Rights(x.supported);
-            if supported.contains(rights) {
-                if known_flags(flags) {
-                    return row_refusal(s, sh, x);
-                }
-                return format::refusal::UNSUPPORTED_FLAGS;
-            }
-            return format::refusal::UNSUPPORTED_RIGHTS;
-        }
-        return format::refusal::ALLOCATION;
-    }
-    format::refusal::MISUSE
-}
-
-// The one handle of the parcel that opens next, in its place.
-fn put_parcel(s: &mut [u64], sh: Shape, object: u64, rights: u64, flags: u64)
-    ensures { s.new ≡ handle_w s.old sh (spare (loadAt s.old sh)) 0 object rights flags }
+// A parcel of one handle opens under the next id.
+#[tactic(auto, unfolding(crate::specs::Ops::parcel_w))]
+fn open_parcel(s: &mut [u64], sh: Shape, object: u64, rights: u64, flags: u64)
+    ensures words { s.new ≡ parcel_w s.old sh object rights flags }
 {
     let x = book::spare_place(s, sh);
     book::put_handle(s, sh, x, 0, object, rights, flags);
+    book::open_row(s, sh, value::KIND_PARCEL, 0, 1);
 }
 
 // "New object: 1, 6, 7, activation, 12": its first handle is a parcel.
+#[tactic(auto, unfolding(crate::specs::Ops::new_object_r))]
 pub fn new_object(
     s: &mut [u64],
     sh: Shape,
     o: u64,
     rights: Rights,
     flags: u64,
-    out: &mut [u64],
-    base: usize,
-)
-    ensures { both s.new out.new ≡ new_object_r s.old out.old sh base o rights.0 flags }
+) -> Result<ReservationId, Refusal>
+    ensures { Gives s.new (reply (λ id. id.0 ∷ []) result) (λ os base. new_object_r s.old os sh base o rights.0 flags) }
 {
-    let n = new_refusal(s, sh, o, rights, flags);
-    if n == 0 {
-        let id = layout::root_word(s, sh, field::ROOT_NEXT_ID);
-        object::activate_object(s, sh, o);
-        put_parcel(s, sh, o, rights.0, flags);
-        book::open_row(s, sh, value::KIND_PARCEL, 0, 1);
-        answer::say1(out, base, id);
-        return;
-    }
-    answer::refuse(out, base, n);
+    check_new(s, sh, o, rights, flags)?;
+    let id = layout::root_word(s, sh, field::ROOT_NEXT_ID);
+    object::activate_object(s, sh, o);
+    open_parcel(s, sh, o, rights.0, flags);
+    Ok(ReservationId(id))
 }
 
-// "Duplicate: 16, 1, 2 or 3, 5, 9, 11, 12": from 5 on; 0 for no refusal.
-fn copy_refusal(s: &[u64], sh: Shape, h: PreparedHandle, rights: Rights) -> u64
-    ensures { result ≡ copy_refusal (loadAt s.now sh) h rights.0 }
+// "Duplicate: 16, 1, 2 or 3, 5, 9, 11, 12": from 5 on.
+#[tactic(auto, unfolding(crate::specs::Ops::copy_refusal))]
+fn check_copy(s: &[u64], sh: Shape, h: PreparedHandle, rights: Rights) -> Result<(), Refusal>
+    ensures { number_of result ≡ copy_refusal (loadAt s.now sh) h rights.0 }
 {
     let held = Rights(h.rights);
-    if held.contains(Rights::DUPLICATE) {
-        if held.contains(rights) {
-            let n = object::raise_refusal(s, sh, h.object);
-            if n == 0 {
-                return book::id_refusal(s, sh);
-            }
-            return n;
-        }
-        return format::refusal::ACCESS_DENIED;
+    if !held.contains(Rights::DUPLICATE) || !held.contains(rights) {
+        return Err(Refusal::AccessDenied);
     }
-    format::refusal::ACCESS_DENIED
+    object::may_raise(s, sh, h.object)?;
+    book::id_left(s, sh)
 }
 
 // The rest of `duplicate`, on the handle found.
+#[tactic(auto, unfolding(crate::specs::Ops::copied_r))]
 fn duplicate_handle(
     s: &mut [u64],
     sh: Shape,
     h: PreparedHandle,
     rights: Rights,
-    out: &mut [u64],
-    base: usize,
-)
-    ensures { both s.new out.new ≡ copied_r s.old out.old sh base rights.0 h }
+) -> Result<ReservationId, Refusal>
+    ensures { Gives s.new (reply (λ id. id.0 ∷ []) result) (λ os base. copied_r s.old os sh base rights.0 h) }
 {
-    let n = copy_refusal(s, sh, h, rights);
-    if n == 0 {
-        let id = layout::root_word(s, sh, field::ROOT_NEXT_ID);
-        object::raise_object(s, sh, h.object);
-        put_parcel(s, sh, h.object, rights.0, h.flags);
-        book::open_row(s, sh, value::KIND_PARCEL, 0, 1);
-        answer::say1(out, base, id);
-        return;
-    }
-    answer::refuse(out, base, n);
+    check_copy(s, sh, h, rights)?;
+    let id = layout::root_word(s, sh, field::ROOT_NEXT_ID);
+    object::raise_object(s, sh, h.object);
+    open_parcel(s, sh, h.object, rights.0, h.flags);
+    Ok(ReservationId(id))
 }
 
 // "Duplicate: 16, 1, 2 or 3, 5, 9, 11, 12": the copy is a parcel.
+#[tactic(auto, unfolding(crate::specs::Ops::duplicate_r))]
 pub fn duplicate(
     s: &mut [u64],
     sh: Shape,
     b: u64,
     v: HandleValue,
     rights: Rights,
-    out: &mut [u64],
-    base: usize,
-)
-    ensures { both s.new out.new ≡ duplicate_r s.old out.old sh base b v.0 rights.0 }
+) -> Result<ReservationId, Refusal>
+    ensures { Gives s.new (reply (λ id. id.0 ∷ []) result) (λ os base. duplicate_r s.old os sh base b v.0 rights.0) }
 {
-    let n = lookup::table_refusal(s, sh, b);
-    if n == 0 {
-        if book::row_left(s, sh) {
-            match lookup::open_handle(s, sh, b, v) {
-                Opened::Refused(k) => {
-                    answer::refuse(out, base, k);
-                }
-                Opened::Handle(h) => {
-                    duplicate_handle(s, sh, h, rights, out, base);
-                }
-            }
-            return;
-        }
-        answer::refuse(out, base, format::refusal::ALLOCATION);
-        return;
+    lookup::active_table(s, sh, b)?;
+    if !book::row_left(s, sh) {
+        return Err(Refusal::Allocation);
     }
-    answer::refuse(out, base, n);
-}
-
-// The place of the parcel with an id, plus 1; 0 if there is none.
-pub fn parcel_of(s: &[u64], sh: Shape, id: ReservationId) -> u64
-    ensures { result ≡ parcel_link (loadAt s.now sh) sh id.0 }
-{
-    let link = book::row_of(s, sh, id.0);
-    if layout::row_word(s, sh, link.saturating_sub(1), field::ROW_KIND) == value::KIND_PARCEL {
-        return link;
-    }
-    0
+    let h = lookup::open_handle(s, sh, b, v)?;
+    duplicate_handle(s, sh, h, rights)
 }
 
 // The objects of the first n handles of the row in place x have one handle fewer each.
+#[tactic(auto, unfolding(crate::specs::Ops::lowered_w), using(crate::proofs::Steps::one_left))]
 fn lower_items(s: &mut [u64], sh: Shape, x: u64, n: u64)
     ensures words { s.new ≡ lowered_w s.old sh x 0 n }
 {
@@ -222,6 +178,7 @@ fn lower_items(s: &mut [u64], sh: Shape, x: u64, n: u64)
 }
 
 // The parcel in place x is released: its counts, then its row.
+#[tactic(auto, unfolding(crate::specs::Ops::released_w))]
 fn release_row(s: &mut [u64], sh: Shape, x: u64)
     ensures words { s.new ≡ released_w s.old sh x }
 {
@@ -231,118 +188,113 @@ fn release_row(s: &mut [u64], sh: Shape, x: u64)
 }
 
 // "A parcel can be released, its counts with it"; "unknown .. open row of the kind named": 18.
-pub fn release_parcel(s: &mut [u64], sh: Shape, id: ReservationId, out: &mut [u64], base: usize)
-    ensures { both s.new out.new ≡ release_r s.old out.old sh base id.0 }
+#[tactic(auto, unfolding(answer::specs::Does::on_row_r))]
+pub fn release_parcel(s: &mut [u64], sh: Shape, id: ReservationId) -> Result<(), Refusal>
+    ensures { Gives s.new (reply no_words result) (λ os base. release_r s.old os sh base id.0) }
 {
-    let link = parcel_of(s, sh, id);
-    if link == 0 {
-        answer::refuse(out, base, format::refusal::MISUSE);
-        return;
-    }
-    release_row(s, sh, link.saturating_sub(1));
-    answer::say(out, base);
+    let x = book::row_of_kind(s, sh, id, value::KIND_PARCEL).ok_or(Refusal::Misuse)?;
+    release_row(s, sh, x);
+    Ok(())
 }
 
-// Two numbers added; the largest word stays.
-fn add(a: u64, b: u64) -> u64
-    ensures { result ≡ plus a b }
+// An item of a publish: the id of the parcel that it names, and the place after its record.
+#[derive(Clone, Copy)]
+struct ParcelItem {
+    id: u64,
+    end: usize,
+}
+
+// The item at a place: where the record has no field but its id, that stands behind the operation.
+#[tactic(auto, unfolding(request::specs::Place::parcel_at), using(crate::specs::Plain::plain_id, crate::specs::Plain::plain_end))]
+fn read_item(rq: &[u64], at: usize) -> ParcelItem
+    ensures id { result.id ≡ parcel_at rq.now at }
+    ensures end { result.end ≡ end_at rq.now at }
 {
-    if a <= 0xffff_ffff_ffff_ffff - b {
-        a + b
-    } else {
-        0xffff_ffff_ffff_ffff
+    if at < rq.len() && rq[at] == format::maps::PARCEL_ITEM_MUST {
+        return ParcelItem {
+            id: words::word(rq, at + 2),
+            end: at + 3,
+        };
+    }
+    ParcelItem {
+        id: request::field(rq, at, format::field::FIELD_ID),
+        end: request::record_end(rq, at),
     }
 }
 
-// The id that the item at a place names: behind the operation, where the record has no other field.
-fn item_id(rq: &[u64], at: usize) -> u64
-    ensures { result ≡ must (fields_at rq.now at) id_field }
-{
-    if at < rq.len() {
-        if rq[at] == format::maps::PARCEL_ITEM_MUST {
-            return words::word(rq, at + 2);
+// The parcels that a publish names, by their ids: its items, `count` records from `at` on in the request list.
+#[derive(Clone, Copy)]
+pub struct ParcelIds<'a> {
+    pub rq: &'a [u64],
+    pub at: usize,
+    pub count: u64,
+}
+
+impl<'a> Iterator for ParcelIds<'a> {
+    type Item = u64;
+
+    ghost next_gives = { YieldsFirst ids_left };
+
+    ghost remaining = { λ s. at_most s.count };
+
+    #[tactic(auto, unfolding(crate::specs::Publishing::ids_at, request::specs::Place::places_from))]
+    fn next(&mut self) -> Option<u64> {
+        if self.count == 0 {
+            return None;
         }
+        let item = read_item(self.rq, self.at);
+        self.at = item.end;
+        self.count -= 1;
+        Some(item.id)
     }
-    request::field(rq, at, format::field::FIELD_ID)
 }
 
-// The place after its record.
-fn item_end(rq: &[u64], at: usize) -> usize
-    ensures { result ≡ end_at rq.now at }
+// Whether each id names a parcel and the parcels have n handles.
+#[tactic(auto, unfolding(crate::specs::Publishing::fits))]
+fn parcels_fit(s: &[u64], sh: Shape, parcels: ParcelIds, n: u64) -> bool
+    ensures { result ≡ fits (loadAt s.now sh) sh (ids_left parcels.entry) n }
 {
-    if at < rq.len() {
-        if rq[at] == format::maps::PARCEL_ITEM_MUST {
-            return at + 3;
-        }
-    }
-    request::record_end(rq, at)
-}
-
-// Whether each of the items names a parcel and the parcels have n handles.
-fn parcels_fit(s: &[u64], sh: Shape, rq: &[u64], at: usize, count: u64, n: u64) -> bool
-    ensures { result ≡ fits (loadAt s.now sh) sh (ids_at rq.now at count) n }
-{
-    let mut place = at;
-    let mut more = count;
     let mut left = n;
-    while 0 < more {
-        let link = parcel_of(s, sh, ReservationId(item_id(rq, place)));
-        if link == 0 {
+    for id in parcels {
+        let Some(x) = book::row_of_kind(s, sh, ReservationId(id), value::KIND_PARCEL) else {
             return false;
-        }
-        let c = layout::row_word(s, sh, link.saturating_sub(1), field::ROW_LENGTH);
+        };
+        let c = layout::row_word(s, sh, x, field::ROW_LENGTH);
         if left < c {
             return false;
         }
         left -= c;
-        place = item_end(rq, place);
-        more -= 1;
     }
     left == 0
 }
 
-// Whether an id stands in the items.
-fn named(rq: &[u64], at: usize, count: u64, id: u64) -> bool
-    ensures { result ≡ member id (ids_at rq.now at count) }
+// Whether an id is one of those.
+fn named(mut parcels: ParcelIds, id: u64) -> bool
+    ensures { result ≡ member id (ids_left parcels.entry) }
 {
-    let mut place = at;
-    let mut more = count;
-    while 0 < more {
-        let other = item_id(rq, place);
-        if id == other {
-            return true;
-        }
-        place = item_end(rq, place);
-        more -= 1;
-    }
-    false
+    parcels.any(|other| id == other)
 }
 
 // Whether no parcel is named twice. A batch has at most 64 slots and a parcel at least one handle, so that no more than 64 items come here.
-fn distinct_ids(rq: &[u64], at: usize, count: u64) -> bool
-    ensures { result ≡ distinct (ids_at rq.now at count) }
+fn distinct_ids(mut parcels: ParcelIds) -> bool
+    ensures { result ≡ distinct (ids_left parcels.entry) }
 {
-    let mut place = at;
-    let mut more = count;
-    while 0 < more {
-        let id = item_id(rq, place);
-        let next = item_end(rq, place);
-        if named(rq, next, more - 1, id) {
+    // Not a `for`: each id is looked for among those after it.
+    while let Some(id) = parcels.next() {
+        if named(parcels, id) {
             return false;
         }
-        place = next;
-        more -= 1;
     }
     true
 }
 
 // The n handles of the parcel in place y fill slots of the reservation in place x, of table b, from position p on.
+#[tactic(auto, unfolding(crate::specs::Publishing::filled_w), using(crate::proofs::Steps::one_left))]
 fn fill_from(s: &mut [u64], sh: Shape, b: u64, x: u64, p: u64, y: u64, n: u64)
     ensures words { s.new ≡ filled_w s.old sh b x p y 0 n }
 {
     for i in 0..n {
-        let q = add(p, i);
-        let k = layout::item_word(s, sh, x, q, field::ITEM_SLOT);
+        let k = layout::item_word(s, sh, x, p.saturating_add(i), field::ITEM_SLOT);
         let o = layout::item_word(s, sh, y, i, field::ITEM_OBJECT);
         let r = layout::item_word(s, sh, y, i, field::ITEM_RIGHTS);
         let f = layout::item_word(s, sh, y, i, field::ITEM_FLAGS);
@@ -351,82 +303,62 @@ fn fill_from(s: &mut [u64], sh: Shape, b: u64, x: u64, p: u64, y: u64, n: u64)
 }
 
 // "whose handles in order fill its slots": straight from the rows.
-fn fill_slots(s: &mut [u64], sh: Shape, b: u64, x: u64, rq: &[u64], at: usize, count: u64)
-    ensures words { s.new ≡ published_w s.old sh b x 0 (ids_at rq.now at count) }
+#[tactic(auto, unfolding(crate::specs::Publishing::published_w))]
+fn fill_slots(s: &mut [u64], sh: Shape, b: u64, x: u64, parcels: ParcelIds)
+    ensures words { s.new ≡ published_w s.old sh b x 0 (ids_left parcels.entry) }
 {
-    let mut place = at;
-    let mut more = count;
     let mut p: u64 = 0;
-    while 0 < more {
-        let link = parcel_of(s, sh, ReservationId(item_id(rq, place)));
-        let y = link.saturating_sub(1);
+    for id in parcels {
+        let y = book::row_of_kind(s, sh, ReservationId(id), value::KIND_PARCEL).unwrap_or(0);
         let n = layout::row_word(s, sh, y, field::ROW_LENGTH);
         fill_from(s, sh, b, x, p, y, n);
-        p = add(p, n);
-        place = item_end(rq, place);
-        more -= 1;
+        p = p.saturating_add(n);
     }
 }
 
 // The rows that the items name leave.
-fn close_parcels(s: &mut [u64], sh: Shape, rq: &[u64], at: usize, count: u64)
-    ensures words { s.new ≡ dropped_w s.old sh (ids_at rq.now at count) }
+#[tactic(auto, unfolding(crate::specs::Publishing::dropped_w))]
+fn close_parcels(s: &mut [u64], sh: Shape, parcels: ParcelIds)
+    ensures words { s.new ≡ dropped_w s.old sh (ids_left parcels.entry) }
 {
-    let mut place = at;
-    let mut more = count;
-    while 0 < more {
-        let link = book::row_of(s, sh, item_id(rq, place));
-        let y = link.saturating_sub(1);
+    for id in parcels {
+        let y = book::row_of(s, sh, id).unwrap_or(0);
         book::close_row(s, sh, y);
-        place = item_end(rq, place);
-        more -= 1;
     }
 }
 
 // The slots of the reservation in place x are filled; its row and the parcels' leave.
-fn publish_row(s: &mut [u64], sh: Shape, x: u64, rq: &[u64], at: usize, count: u64)
-    ensures words { s.new ≡ spent_w s.old sh x (ids_at rq.now at count) }
+#[tactic(auto, unfolding(crate::specs::Publishing::spent_w))]
+fn publish_row(s: &mut [u64], sh: Shape, x: u64, parcels: ParcelIds)
+    ensures words { s.new ≡ spent_w s.old sh x (ids_left parcels.entry) }
 {
     let b = layout::row_word(s, sh, x, field::ROW_TABLE);
-    fill_slots(s, sh, b, x, rq, at, count);
+    fill_slots(s, sh, b, x, parcels);
     book::close_row(s, sh, x);
-    close_parcels(s, sh, rq, at, count);
+    close_parcels(s, sh, parcels);
 }
 
 // "Publish names a reservation and one or more parcels, whose handles in order fill its slots"; "row named twice; lengths differ": 18.
-// The parcels are the items of the request, `count` records from `at` on in the request list.
+#[tactic(auto, unfolding(crate::specs::Publishing::publish_r))]
 pub fn publish(
     s: &mut [u64],
     sh: Shape,
-    rq: &[u64],
-    at: usize,
-    count: u64,
     id: ReservationId,
-    out: &mut [u64],
-    base: usize,
-)
-    ensures { both s.new out.new ≡ publish_r s.old out.old sh base id.0 (ids_at rq.now at count) }
+    parcels: ParcelIds,
+) -> Result<(), Refusal>
+    ensures { Gives s.new (reply no_words result) (λ os base. publish_r s.old os sh base id.0 (ids_left parcels.entry)) }
 {
-    let link = book::reservation_of(s, sh, id);
-    if link == 0 {
-        answer::refuse(out, base, format::refusal::MISUSE);
-        return;
-    }
-    let x = link.saturating_sub(1);
+    let x = book::row_of_kind(s, sh, id, value::KIND_RESERVATION).ok_or(Refusal::Misuse)?;
     let n = layout::row_word(s, sh, x, field::ROW_LENGTH);
-    if parcels_fit(s, sh, rq, at, count, n) {
-        if distinct_ids(rq, at, count) {
-            publish_row(s, sh, x, rq, at, count);
-            answer::say(out, base);
-            return;
-        }
-        answer::refuse(out, base, format::refusal::MISUSE);
-        return;
+    if !parcels_fit(s, sh, parcels, n) || !distinct_ids(parcels) {
+        return Err(Refusal::Misuse);
     }
-    answer::refuse(out, base, format::refusal::MISUSE);
+    publish_row(s, sh, x, parcels);
+    Ok(())
 }
 
 // The request of a list at a place: its fields are read.
+#[tactic(auto, unfolding(request::specs::Place::three_at))]
 pub fn serve_new_object(
     s: &mut [u64],
     sh: Shape,
@@ -445,12 +377,13 @@ pub fn serve_new_object(
         format::field::FIELD_RIGHTS,
         format::field::FIELD_FLAGS,
     );
-    let object = f.a;
-    let rights = f.b;
-    let flags = f.c;
-    new_object(s, sh, object, Rights(rights), flags, out, base);
+    match new_object(s, sh, f.a, Rights(f.b), f.c) {
+        Ok(id) => answer::say(out, base, &[id.0]),
+        Err(refusal) => answer::refuse(out, base, refusal),
+    }
 }
 
+#[tactic(auto, unfolding(request::specs::Place::three_at))]
 pub fn serve_duplicate(
     s: &mut [u64],
     sh: Shape,
@@ -469,10 +402,10 @@ pub fn serve_duplicate(
         format::field::FIELD_VALUE,
         format::field::FIELD_RIGHTS,
     );
-    let table = f.a;
-    let value = f.b;
-    let rights = f.c;
-    duplicate(s, sh, table, HandleValue(value), Rights(rights), out, base);
+    match duplicate(s, sh, f.a, HandleValue(f.b), Rights(f.c)) {
+        Ok(id) => answer::say(out, base, &[id.0]),
+        Err(refusal) => answer::refuse(out, base, refusal),
+    }
 }
 
 pub fn serve_release_parcel(
@@ -486,7 +419,7 @@ pub fn serve_release_parcel(
     ensures { both s.new out.new ≡ release_r s.old out.old sh base (field_of rq.now at id_field) }
 {
     let id = request::field(rq, at, format::field::FIELD_ID);
-    release_parcel(s, sh, ReservationId(id), out, base);
+    answer::outcome(out, base, release_parcel(s, sh, ReservationId(id)));
 }
 
 pub fn serve_retire_object(
@@ -500,9 +433,10 @@ pub fn serve_retire_object(
     ensures { both s.new out.new ≡ retire_r s.old out.old sh base (field_of rq.now at object_field) }
 {
     let object = request::field(rq, at, format::field::FIELD_OBJECT);
-    retire_object(s, sh, object, out, base);
+    answer::outcome(out, base, retire_object(s, sh, object));
 }
 
+#[tactic(auto, unfolding(request::specs::Place::three_at))]
 pub fn serve_publish(s: &mut [u64], sh: Shape, rq: &[u64], at: usize, out: &mut [u64], base: usize)
     ensures { both s.new out.new ≡ publish_r s.old out.old sh base (field_of rq.now at id_field) (ids_at rq.now (end_at rq.now at) (count_at rq.now at)) }
 {
@@ -514,8 +448,10 @@ pub fn serve_publish(s: &mut [u64], sh: Shape, rq: &[u64], at: usize, out: &mut 
         format::field::FIELD_COUNT,
         format::field::NO_FIELD,
     );
-    let id = f.a;
-    let count = f.b;
-    let items = request::record_end(rq, at);
-    publish(s, sh, rq, items, count, ReservationId(id), out, base);
+    let parcels = ParcelIds {
+        rq,
+        at: request::record_end(rq, at),
+        count: f.b,
+    };
+    answer::outcome(out, base, publish(s, sh, ReservationId(f.a), parcels));
 }

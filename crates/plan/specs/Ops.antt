@@ -1,6 +1,7 @@
 -- What the functions of the requests on plans do to the words. Assumes nothing.
 use Rattle.std.specs.Prelude.{Bool, true, not, List, [], ◌∷◌, ℕ, ◌+◌, ◌-◌, min, eqb}
 use Rattle.words.specs.Pick.{pick}
+use Rattle.plan.specs.declared.MadePlan.{MadePlan}
 use Rattle.layout.specs.declared.Shape.{Shape}
 use Rattle.layout.specs.Layout.{Mem, root, head, row, item, load, save, Write.at, writes}
 use Rattle.layout.specs.Fields.{root_next_id, head_epoch, head_free_slots, row_table, row_length, row_count, row_epoch, item_frame, item_free_slots}
@@ -40,6 +41,10 @@ unfoldable pub plan_w : List ℕ → Shape → ℕ → ℕ → ℕ → List ℕ
 plan_w ws sh b n p = open_w (filled_w ws sh b (spare (load ws sh)) n p) sh kind_plan b p
 
 -- "make plan: 1 id, 2 count, 3 number of frames"
+-- the words that tell of a plan that was made
+abbrev pub plan_list : MadePlan → List ℕ
+plan_list p = p.id.0 ∷ p.count ∷ p.frames ∷ []
+
 unfoldable pub plan_r : List ℕ → List ℕ → Shape → ℕ → ℕ → ℕ → ℕ → Both
 plan_r ws os sh base b n p = both (plan_w ws sh b n p) (answered os base (0 ∷ load ws sh (root root_next_id) ∷ n ∷ p ∷ []))
 

@@ -5,15 +5,27 @@
 // The requests on plans, which hold the frames of a later reservation: make plan, use plan and drop plan (document 02, 1).
 #![tactic(auto)]
 
-ghost use Rattle.std.specs.Prelude.{◌≡◌};
+ghost use Rattle.std.specs.Prelude.{◌≡◌, ◌∷◌};
 ghost use Rattle.layout.specs.Layout.{load as loadAt};
 ghost use Rattle.request.specs.Place.{field_of};
 ghost use Rattle.format.specs.Fields.{table_field, count_field, id_field};
-ghost use Rattle.answer.specs.Does.{both};
-ghost use Rattle.plan.specs.Ops.{owner_word, hold_w, hold_all_w, kept_w, plan_w, plan_r, make_plan_r, give_w, give_all_w, drop_w, drop_plan_r, stale_at, use_refusal, use_r, use_plan_r};
+ghost use Rattle.answer.specs.Does.{both, reply, no_words, Gives};
+ghost use Rattle.format.specs.Refusals.{number_of};
+ghost use Rattle.plan.specs.Ops.{owner_word, hold_w, hold_all_w, kept_w, plan_w, plan_list, plan_r, make_plan_r, give_w, give_all_w, drop_w, drop_plan_r, stale_at, use_refusal, use_r, used_r, use_plan_r};
 
 use codec::ReservationId;
+use format::field::{FIELD_COUNT, FIELD_ID, FIELD_TABLE};
+use format::op;
+use format::refusal::Refusal;
 use layout::{Shape, field, size, value};
+
+// "1 the id, 2 the count, 3 the number of frames": what is told of a plan that was made.
+#[derive(Clone, Copy)]
+pub struct MadePlan {
+    pub id: ReservationId,
+    pub count: u64,
+    pub frames: u64,
+}
 
 // The owner word of a frame that the plan in place x holds.
 fn owner_word(x: u64) -> u64
@@ -63,34 +75,31 @@ fn open_plan(s: &mut [u64], sh: Shape, b: u64, n: u64, p: u64)
     book::open_row(s, sh, value::KIND_PLAN, b, p);
 }
 
-// The answer: the next id, the count and the number of frames.
-fn plan_slots(s: &mut [u64], sh: Shape, b: u64, n: u64, p: u64, out: &mut [u64], base: usize)
-    ensures { both s.new out.new ≡ plan_r s.old out.old sh base b n p }
+// A plan of n slots of table b, which needs p pages.
+#[tactic(auto, unfolding(crate::specs::Ops::plan_r))]
+fn plan_slots(s: &mut [u64], sh: Shape, b: u64, n: u64, p: u64) -> MadePlan
+    ensures { Gives s.new (0 ∷ plan_list result) (λ os base. plan_r s.old os sh base b n p) }
 {
     let id = layout::root_word(s, sh, field::ROOT_NEXT_ID);
     open_plan(s, sh, b, n, p);
-    answer::say3(out, base, id, n, p);
+    MadePlan {
+        id: ReservationId(id),
+        count: n,
+        frames: p,
+    }
 }
 
 // "with the refusals of a reservation in its order".
-pub fn make_plan(s: &mut [u64], sh: Shape, b: u64, n: u64, out: &mut [u64], base: usize)
-    ensures { both s.new out.new ≡ make_plan_r s.old out.old sh base b n }
+#[tactic(auto, unfolding(crate::specs::Ops::make_plan_r))]
+pub fn make_plan(s: &mut [u64], sh: Shape, b: u64, n: u64) -> Result<MadePlan, Refusal>
+    ensures { Gives s.new (reply plan_list result) (λ os base. make_plan_r s.old os sh base b n) }
 {
-    let wrong = reserve::batch_refusal(s, sh, b, n);
-    if wrong != 0 {
-        answer::refuse(out, base, wrong);
-        return;
-    }
-    let p = growth::pages_needed(s, sh, b, n);
-    let full = reserve::room_refusal(s, sh, p);
-    if full != 0 {
-        answer::refuse(out, base, full);
-        return;
-    }
-    plan_slots(s, sh, b, n, p, out, base);
+    let p = reserve::check_reserve(s, sh, b, n)?;
+    Ok(plan_slots(s, sh, b, n, p))
 }
 
 // "It is stale exactly when a snapshot for its count taken now would differ or be refused": the plan in place x, of its table as a reservation would find it.
+#[tactic(auto, unfolding(crate::specs::Ops::stale_in))]
 fn is_stale(s: &[u64], sh: Shape, x: u64) -> bool
     ensures { result ≡ stale_at (loadAt s.now sh) x }
 {
@@ -110,24 +119,19 @@ fn is_stale(s: &[u64], sh: Shape, x: u64) -> bool
     if growth::pages_needed(s, sh, b, n) != k {
         return true;
     }
-    if growth::pages_same(s, sh, b, x, k) {
-        return false;
-    }
-    true
+    !growth::pages_same(s, sh, b, x, k)
 }
 
-// "21 StalePlan, after TableRetired and before the id": the number of the refusal to use the plan in place x; 0 for none.
-fn use_refusal(s: &[u64], sh: Shape, x: u64) -> u64
-    ensures { result ≡ use_refusal (loadAt s.now sh) sh x }
+// "21 StalePlan, after TableRetired and before the id", of the plan in place x.
+#[tactic(auto, unfolding(crate::specs::Ops::use_refusal))]
+fn check_use(s: &[u64], sh: Shape, x: u64) -> Result<(), Refusal>
+    ensures { number_of result ≡ use_refusal (loadAt s.now sh) sh x }
 {
-    let known = lookup::table_refusal(s, sh, layout::row_word(s, sh, x, field::ROW_TABLE));
-    if known == 0 {
-        if is_stale(s, sh, x) {
-            return format::refusal::STALE_PLAN;
-        }
-        return book::id_refusal(s, sh);
+    lookup::active_table(s, sh, layout::row_word(s, sh, x, field::ROW_TABLE))?;
+    if is_stale(s, sh, x) {
+        return Err(Refusal::StalePlan);
     }
-    known
+    book::id_left(s, sh)
 }
 
 // The frame that item j of the row in place x names is free again.
@@ -157,6 +161,7 @@ fn drop_row(s: &mut [u64], sh: Shape, x: u64)
 }
 
 // The plan in place x is used: it is dropped, its pages are attached in the frames that it held, and its count of slots is reserved.
+#[tactic(auto, unfolding(crate::specs::Ops::use_r))]
 fn use_row(s: &mut [u64], sh: Shape, x: u64, out: &mut [u64], base: usize)
     ensures { both s.new out.new ≡ use_r s.old out.old sh base x }
 {
@@ -168,35 +173,36 @@ fn use_row(s: &mut [u64], sh: Shape, x: u64, out: &mut [u64], base: usize)
     reserve::open_slots(s, sh, b, n, out, base);
 }
 
-// "unknown .. open row of the kind named": 18.
+// The plan in place x, if it can be used.
+#[tactic(auto, unfolding(crate::specs::Ops::used_r))]
+fn use_place(s: &mut [u64], sh: Shape, x: u64, out: &mut [u64], base: usize)
+    ensures { both s.new out.new ≡ used_r s.old out.old sh base x }
+{
+    match check_use(s, sh, x) {
+        Ok(()) => use_row(s, sh, x, out, base),
+        Err(refusal) => answer::refuse(out, base, refusal),
+    }
+}
+
+// "unknown .. open row of the kind named": 18. The answer is that of a reservation, whose words are put where they belong (`reserve::reserve`).
+#[tactic(auto, unfolding(crate::specs::Ops::use_plan_r))]
 pub fn use_plan(s: &mut [u64], sh: Shape, id: ReservationId, out: &mut [u64], base: usize)
     ensures { both s.new out.new ≡ use_plan_r s.old out.old sh base id.0 }
 {
-    let link = book::plan_of(s, sh, id);
-    if link == 0 {
-        answer::refuse(out, base, format::refusal::MISUSE);
-        return;
+    match book::row_of_kind(s, sh, id, value::KIND_PLAN) {
+        Some(x) => use_place(s, sh, x, out, base),
+        None => answer::refuse(out, base, Refusal::Misuse),
     }
-    let x = link.saturating_sub(1);
-    let wrong = use_refusal(s, sh, x);
-    if wrong != 0 {
-        answer::refuse(out, base, wrong);
-        return;
-    }
-    use_row(s, sh, x, out, base);
 }
 
 // "Dropping refuses only an unknown plan".
-pub fn drop_plan(s: &mut [u64], sh: Shape, id: ReservationId, out: &mut [u64], base: usize)
-    ensures { both s.new out.new ≡ drop_plan_r s.old out.old sh base id.0 }
+#[tactic(auto, unfolding(answer::specs::Does::on_row_r))]
+pub fn drop_plan(s: &mut [u64], sh: Shape, id: ReservationId) -> Result<(), Refusal>
+    ensures { Gives s.new (reply no_words result) (λ os base. drop_plan_r s.old os sh base id.0) }
 {
-    let link = book::plan_of(s, sh, id);
-    if link == 0 {
-        answer::refuse(out, base, format::refusal::MISUSE);
-        return;
-    }
-    drop_row(s, sh, link.saturating_sub(1));
-    answer::say(out, base);
+    let x = book::row_of_kind(s, sh, id, value::KIND_PLAN).ok_or(Refusal::Misuse)?;
+    drop_row(s, sh, x);
+    Ok(())
 }
 
 // The requests of a list at a place: their fields are read.
@@ -210,23 +216,17 @@ pub fn serve_make_plan(
 )
     ensures { both s.new out.new ≡ make_plan_r s.old out.old sh base (field_of rq.now at table_field) (field_of rq.now at count_field) }
 {
-    let f = request::read_three(
-        rq,
-        at,
-        format::op::OP_MAKE_PLAN,
-        format::field::FIELD_TABLE,
-        format::field::FIELD_COUNT,
-        format::field::NO_FIELD,
-    );
-    let table = f.a;
-    let count = f.b;
-    make_plan(s, sh, table, count, out, base);
+    let [table, count] = request::read_fields(rq, at, op::OP_MAKE_PLAN, [FIELD_TABLE, FIELD_COUNT]);
+    match make_plan(s, sh, table, count) {
+        Ok(plan) => answer::say(out, base, &[plan.id.0, plan.count, plan.frames]),
+        Err(refusal) => answer::refuse(out, base, refusal),
+    }
 }
 
 pub fn serve_use_plan(s: &mut [u64], sh: Shape, rq: &[u64], at: usize, out: &mut [u64], base: usize)
     ensures { both s.new out.new ≡ use_plan_r s.old out.old sh base (field_of rq.now at id_field) }
 {
-    let id = request::field(rq, at, format::field::FIELD_ID);
+    let id = request::field(rq, at, FIELD_ID);
     use_plan(s, sh, ReservationId(id), out, base);
 }
 
@@ -240,6 +240,6 @@ pub fn serve_drop_plan(
 )
     ensures { both s.new out.new ≡ drop_plan_r s.old out.old sh base (field_of rq.now at id_field) }
 {
-    let id = request::field(rq, at, format::field::FIELD_ID);
-    drop_plan(s, sh, ReservationId(id), out, base);
+    let id = request::field(rq, at, FIELD_ID);
+    answer::outcome(out, base, drop_plan(s, sh, ReservationId(id)));
 }

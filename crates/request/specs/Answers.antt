@@ -1,5 +1,11 @@
 -- The words of an answer: 72 zeros, and then those that it uses.
 -- Assumes nothing.
+use Rattle.std.specs.Prelude.{Bool, true, false, ◌-◌, ◌<◌, min, ltb}
+use Rattle.std.proofs.Common.{ap₂, ltb-true, ltb-false}
+use Rattle.std.proofs.Math.Seq.{set_out}
+use Rattle.std.proofs.lemmas.Slice.{put_mid-paste}
+use borrow.Rule.Slice.PartMut.{put_mid}
+use Rattle.std.proofs.lemmas.List.{length-set}
 use Rattle.std.specs.Prelude.{◌≡◌, refl, List, [], ◌∷◌, ◌++◌, ℕ, zero, suc, ◌+◌, ◌≤◌, length, take, drop, set, replicate}
 use Rattle.std.proofs.Common.{sym, ap, ◌∙◌, append_assoc, arith, add-zero, add-suc, add-one, length-append, length-take-le, take_all, take_at}
 use Rattle.std.proofs.lemmas.List.{length-replicate, get_or-replicate, drop-append-le}
@@ -18,13 +24,6 @@ unfoldable pub puts : List ℕ → ℕ → ℕ → List ℕ → List ℕ
 puts ws base i [] = ws
 puts ws base i (v ∷ vs) = puts (set ws (base + i) v) base (suc i) vs
 
-pub cleared_more : (ws : List ℕ) (base k : ℕ) (u v : List ℕ) → u ≡ cleared ws base k → v ≡ set u (base + k) 0 → v ≡ cleared ws base (k + 1)
-unfolding cleared
-cleared_more ws base k u v p q = rw add-one (q ∙ ap (λ (x : List ℕ). set x (base + k) 0) p)
-
-pub cleared_all : (ws : List ℕ) (base k : ℕ) (u : List ℕ) → u ≡ cleared ws base k → k ≡ answer_words → u ≡ cleared ws base answer_words
-cleared_all ws base k u p e = p ∙ ap (cleared ws base) e
-
 cleared_is : (n : ℕ) (ws : List ℕ) (base k : ℕ) → base + n ≤ length ws → k ≤ n → cleared ws base k ≡ paste ws base (replicate n 0) k
 unfolding cleared
 cleared_is n ws base zero h l = paste-zero ws base (replicate n 0)
@@ -32,6 +31,33 @@ cleared_is n ws base (suc k) h l =
     ap (λ (x : List ℕ). set x (base + k) 0) (cleared_is n ws base k h (omega arith))
     ∙ ap (set (paste ws base (replicate n 0) k) (base + k)) (sym (get_or-replicate n k 0 0 l))
     ∙ paste-suc ws base (replicate n 0) k 0 (omega arith) (omega (arith, length-replicate n (zero)))
+
+length-cleared : (ws : List ℕ) (base k : ℕ) → length (cleared ws base k) ≡ length ws
+unfolding cleared
+length-cleared ws base zero = refl
+length-cleared ws base (suc k) = length-set (cleared ws base k) (base + k) 0 ∙ length-cleared ws base k
+
+-- of the words from `base` on those are cleared that are there: k from s on
+within : (ws : List ℕ) (base n s k : ℕ) → s ≡ min base (length ws) → k ≡ min n (length ws - s) → cleared ws base n ≡ cleared ws s k
+unfolding cleared
+within ws base zero s k p q = let z : 0 ≡ k = omega arith in ap (cleared ws s) z
+within ws base (suc n) s k p q = go (ltb (base + n) (length ws)) refl (λ m e. within ws base n s m p e)
+  where
+    go : (t : Bool) → ltb (base + n) (length ws) ≡ t → ((m : ℕ) → m ≡ min n (length ws - s) → cleared ws base n ≡ cleared ws s m) → set (cleared ws base n) (base + n) 0 ≡ cleared ws s k
+    go true e ih =
+        let l : base + n < length ws = ltb-true (base + n) (length ws) e in
+        let a : base ≡ s = omega arith in
+        let b : suc n ≡ k = omega arith in
+        ap₂ (λ (x y : ℕ). cleared ws x y) a b
+    go false e ih =
+        let l : length ws ≤ base + n = ltb-false (base + n) (length ws) e in
+        set_out (cleared ws base n) (base + n) 0 (omega (arith, length-cleared ws base n)) ∙ ih k (omega arith)
+
+-- so clearing them is a fill of the part of the list that has them
+pub fill_is : (ws zs : List ℕ) (base n s k : ℕ) → s ≡ min base (length ws) → k ≡ min n (length ws - s) → zs ≡ replicate k 0 → put_mid s k ws zs ≡ cleared ws base n
+fill_is ws zs base n s k p q z =
+    put_mid-paste s k ws zs (replicate k 0) k z refl (sym (length-replicate k zero))
+    ∙ sym (cleared_is k ws s k (omega arith) (omega arith)) ∙ sym (within ws base n s k p q)
 
 puts_sets : (vs ws : List ℕ) (base i : ℕ) → puts ws base i vs ≡ sets ws (base + i) vs
 unfolding puts

@@ -1,6 +1,10 @@
 -- Where a field stands and where a record ends, by counting the bits of its map; which of its words are tested.
 -- Assumes nothing.
 use Rattle.std.specs.Prelude.{Option as CodeOption, Some, None}
+use Rattle.std.specs.Prelude.{map, take, drop, set, ◌++◌}
+use Rattle.std.proofs.Common.{length-append, length-take-le, length-drop}
+use Rattle.std.proofs.lemmas.List.{get_or_default, length-map}
+use Rattle.std.proofs.lemmas.List.Edits.{map_over_more}
 use Rattle.std.specs.Prelude.{◌≡◌, refl, Bool, true, false, ◌&&◌, List, [], ◌∷◌, ℕ, zero, suc, ◌+◌, ◌-◌, ◌*◌, ◌/◌, ◌%◌, ◌^◌, ◌≤◌, ◌<◌, min, length, get_or, eqb, ltb, leb}
 use Rattle.std.proofs.Common.{sym, ap₂, subst, ◌∙◌, arith, add-zero, mod-lt, add-one, shr-shr, shl_exact, pow_pos}
 use Rattle.std.proofs.Math.Path.{ap}
@@ -10,7 +14,8 @@ use Rattle.std.specs.Int.Bits.{bit_and, and_step}
 use Rattle.std.proofs.lemmas.Nat.{and_shr, ones-le}
 use Rattle.std.specs.Int.Count.{ones, ones_step}
 use Rattle.std.proofs.Math.Pow.{field, mod-mod-pow}
-use borrow.Author.Tests.{lt-ltb, le-ltb, le-leb, lt-leb, ltb-true, eqb-true}
+use Rattle.std.specs.Bool.{then_some}
+use borrow.Author.Tests.{leb-true, leb-false, lt-ltb, le-ltb, le-leb, lt-leb, ltb-true, eqb-true}
 use Rattle.format.specs.Format.{field_fits, field_kinds, field_count}
 use Rattle.words.specs.Pick.{both_is, and_left, and_right}
 use Rattle.model.specs.Base.{pick}
@@ -119,6 +124,14 @@ pub three_there : (ws : List ℕ) (at map a b c : ℕ) (r : Three) → get_or ws
 unfolding fields_at
 three_there ws at map a b c r q p = p ∙ ap₂ (λ (m k : ℕ). three_at (fields_from field_count m ws k) a b c) (sym q) (add-one at)
 
+-- fields read one after the other, each in the place of its bit
+pub words_more : (f : ℕ → ℕ) (bits ws : List ℕ) (i w : ℕ) → i < length bits → ws ≡ map f (take i bits) ++ drop i bits → w ≡ f (get_or ws i 0)
+    → set ws i w ≡ map f (take (i + 1) bits) ++ drop (i + 1) bits
+words_more f bits ws i w h e p =
+    let n : length ws ≡ length bits = omega (arith, ap length e, length-append (map f (take i bits)) (drop i bits), length-map (take i bits) f, length-take-le i bits (omega arith), length-drop i bits) in
+    let x : get_or ws i 0 ≡ get_or ws i (get_or ws i 0) = get_or_default ws i 0 (get_or ws i 0) (omega arith) in
+    ap (set ws i) p ∙ map_over_more f bits ws i (get_or ws i 0) h e x
+
 -- The place after a record
 
 pub end_in : (ws : List ℕ) (at n : ℕ) → at < length ws → n ≡ ones (get_or ws at 0 % 2 ^ field_count) → (at + 1) + n ≡ end_at ws at
@@ -222,19 +235,22 @@ fits_are first m ws p =
 
 -- The place after a record's fields
 
-module _ (first m : ℕ) (ws : List ℕ) (p n : ℕ) (h : p ≤ length ws) (e : n ≡ ones (m % 2 ^ field_count)) where
-  walk_is : walk (kinds_of first) ws m p
-      ≡ pick (leb (p + n) (length ws) && (fit_one first (may (fields_from field_count m ws p) op_field) && narrow_fit (fields_from field_count m ws p))) (some (p + n)) none
-  walk_is =
-      walk_all first ws m p h
-      ∙ ap₂ (λ (k : ℕ) (b : Bool). pick (leb k (length ws) && b) (some k) none) (after_ones field_count m p ∙ ap (λ (k : ℕ). p + k) (sym e)) (fits_are first m ws p)
+-- what the walk tests at its end: whether the fields' words are there, and whether each that is tested fits its kind
+pub walk_is : (first m : ℕ) (ws : List ℕ) (p : ℕ) → p ≤ length ws
+    → next_of (walk (kinds_of first) ws m p)
+    ≡ then_some (leb (ones (m % 2 ^ field_count)) (length ws - p) && (fit_one first (may (fields_from field_count m ws p) op_field) && narrow_fit (fields_from field_count m ws p))) (p + ones (m % 2 ^ field_count))
+walk_is first m ws p h =
+    ap next_of (walk_all first ws m p h)
+    ∙ ap₂ (λ (k : ℕ) (b : Bool). next_of (pick (leb k (length ws) && b) (some k) none)) (after_ones field_count m p) (fits_are first m ws p)
+    ∙ go (fit_one first (may (fields_from field_count m ws p) op_field) && narrow_fit (fields_from field_count m ws p)) (leb (p + n) (length ws)) refl
+  where
+    n : ℕ
+    n = ones (m % 2 ^ field_count)
 
-  pub fields_fit : (t : Bool) → n ≤ length ws - p → t ≡ (fit_one first (may (fields_from field_count m ws p) op_field) && narrow_fit (fields_from field_count m ws p)) → t ≡ true → Some (p + n) ≡ next_of (walk (kinds_of first) ws m p)
-  fields_fit t l f q = sym (ap next_of (walk_is ∙ ap₂ (λ (a b : Bool). pick (a && b) (some (p + n)) none) (le-leb (p + n) (length ws) (omega arith)) (sym f ∙ q)))
+    picked : (b : Bool) → next_of (pick b (some (p + n)) none) ≡ then_some b (p + n)
+    picked true = refl
+    picked false = refl
 
-  pub fields_unfit : (t : Bool) → n ≤ length ws - p → t ≡ (fit_one first (may (fields_from field_count m ws p) op_field) && narrow_fit (fields_from field_count m ws p)) → t ≡ false → None ≡ next_of (walk (kinds_of first) ws m p)
-  fields_unfit t l f q = sym (ap next_of (walk_is ∙ ap₂ (λ (a b : Bool). pick (a && b) (some (p + n)) none) (le-leb (p + n) (length ws) (omega arith)) (sym f ∙ q)))
-
-  pub fields_short : length ws - p < n → None ≡ next_of (walk (kinds_of first) ws m p)
-  fields_short l =
-      sym (ap next_of (walk_is ∙ ap (λ (a : Bool). pick (a && (fit_one first (may (fields_from field_count m ws p) op_field) && narrow_fit (fields_from field_count m ws p))) (some (p + n)) none) (lt-leb (p + n) (length ws) (omega arith))))
+    go : (f t : Bool) → leb (p + n) (length ws) ≡ t → next_of (pick (t && f) (some (p + n)) none) ≡ then_some (leb n (length ws - p) && f) (p + n)
+    go f true e = let l : p + n ≤ length ws = leb-true (p + n) (length ws) e in picked f ∙ ap (λ (b : Bool). then_some (b && f) (p + n)) (sym (le-leb n (length ws - p) (omega arith)))
+    go f false e = let l : length ws < p + n = leb-false (p + n) (length ws) e in ap (λ (b : Bool). then_some (b && f) (p + n)) (sym (lt-leb n (length ws - p) (omega arith)))

@@ -2,7 +2,6 @@ pub mod Place
 pub mod Fields
 pub mod Counted
 pub mod Lists
-pub mod Steps
 pub mod Answers
 pub mod Laws
 pub mod Plain

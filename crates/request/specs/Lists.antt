@@ -1,9 +1,9 @@
 -- Requests, items and lists in place are those that the model reads.
 -- Assumes nothing.
-use Rattle.std.specs.Prelude.{Some, None}
+use Rattle.std.specs.Prelude.{Option as CodeOption, Some, None, ◌-◌}
 use Rattle.std.specs.Prelude.{◌≡◌, Bool, true, false, ◌&&◌, length, drop, eqb, leb}
 use Rattle.std.proofs.Math.Path.{refl, ap}
-use Rattle.std.proofs.Common.{sym, subst, ◌∙◌, add-zero, add-suc, suc-add, zero-add, arith, length-drop, length-append, drop_of_length-le, drop-cons, leb-true}
+use Rattle.std.proofs.Common.{sym, subst, ◌∙◌, add-zero, add-one, add-suc, suc-add, zero-add, arith, length-drop, length-append, drop_of_length-le, drop-cons, leb-true}
 use mathlib.Core.List.{List, [], ◌∷◌, map}
 use Rattle.std.proofs.Math.Option.{Option, none, some}
 use Prim.Native.Nat.{ℕ, zero, suc, ◌+◌, ◌≤◌, ◌<◌}
@@ -17,6 +17,7 @@ use Rattle.model.proofs.Tests.{◌&◌, nth_some}
 use Rattle.format.specs.Fields.{op_field, table_field, id_field, route_field, forbidden_object_field, forbidden_kind_field, an_op, an_operation, zero_word}
 use Rattle.format.specs.Ops.{op_publish, op_prepare_transfer, op_last}
 use Rattle.request.specs.Place.{next_of, placed, up_to, counted, listed, fields_at, end_at, record_end, many_end, places_from, place_of, item_of, item_at, parcel_at, op_at, count_at, item_places, items_end, request_end, request_of, request_at}
+use Rattle.request.specs.Counted.{end_out}
 use Rattle.request.specs.Fields.{record_read, record_whole, first_fits}
 
 -- Items
@@ -77,6 +78,54 @@ pub place_later : (i : ℕ) (ws : List ℕ) (at : ℕ) → place_of (suc i) ws a
 unfolding place_of
 place_later zero ws at = refl
 place_later (suc i) ws at = ap (end_at ws) (place_later i ws at)
+
+-- a place past the end stays
+pub place_out : (i n : ℕ) (ws : List ℕ) (at : ℕ) → i ≤ n → length ws ≤ place_of i ws at → place_of n ws at ≡ place_of i ws at
+unfolding place_of
+place_out i n ws at h l = ap (λ (k : ℕ). place_of k ws at) (omega arith) ∙ stays (n - i)
+  where
+    stays : (d : ℕ) → place_of (d + i) ws at ≡ place_of i ws at
+    stays zero = ap (λ (k : ℕ). place_of k ws at) (zero-add i)
+    stays (suc d) = ap (λ (k : ℕ). place_of k ws at) (suc-add d i) ∙ ap (end_at ws) (stays d) ∙ sym (end_out ws (place_of i ws at) l)
+
+module _ (first must allowed : ℕ) (ws : List ℕ) where
+  -- one record more at the end of a row
+  many_later : (i at : ℕ) → many_end first must allowed (suc i) ws at ≡ and_then (many_end first must allowed i ws at) λ p. record_end first must allowed ws p
+  unfolding many_end
+  many_later zero at = go (record_end first must allowed ws at)
+    where
+      go : (x : Option ℕ) → and_then x (λ e. some e) ≡ x
+      go none = refl
+      go (some e) = refl
+  many_later (suc i) at = go (record_end first must allowed ws at) (λ e. many_later i e)
+    where
+      go : (x : Option ℕ) → ((e : ℕ) → many_end first must allowed (suc i) ws e ≡ and_then (many_end first must allowed i ws e) λ p. record_end first must allowed ws p)
+          → and_then x (λ e. many_end first must allowed (suc i) ws e) ≡ and_then (and_then x λ e. many_end first must allowed i ws e) λ p. record_end first must allowed ws p
+      go none ih = refl
+      go (some e) ih = ih e
+
+  pub many_more : (i at p : ℕ) (r : CodeOption ℕ) → next_of (many_end first must allowed i ws at) ≡ Some p → r ≡ next_of (record_end first must allowed ws p)
+      → next_of (many_end first must allowed (i + 1) ws at) ≡ r
+  many_more i at p r e q = rw add-one (ap next_of (many_later i at) ∙ go (many_end first must allowed i ws at) e ∙ sym q)
+    where
+      go : (x : Option ℕ) → next_of x ≡ Some p → next_of (and_then x λ p. record_end first must allowed ws p) ≡ next_of (record_end first must allowed ws p)
+      go none e = cc
+      go (some k) e = let z : k ≡ p = cc in ap (λ (k : ℕ). next_of (record_end first must allowed ws k)) z
+
+  -- a row with a record that is malformed
+  pub many_stops : (i n at p : ℕ) (r : CodeOption ℕ) → i < n → next_of (many_end first must allowed i ws at) ≡ Some p → r ≡ next_of (record_end first must allowed ws p)
+      → r ≡ None → next_of (many_end first must allowed n ws at) ≡ None
+  many_stops i n at p r h e q b = ap (λ (k : ℕ). next_of (many_end first must allowed k ws at)) (omega arith) ∙ stays (n - (i + 1))
+    where
+      none_is : (x : Option ℕ) → next_of x ≡ None → next_of (and_then x λ p. record_end first must allowed ws p) ≡ None
+      none_is none e = refl
+      none_is (some k) e = cc
+
+      stays : (d : ℕ) → next_of (many_end first must allowed (d + (i + 1)) ws at) ≡ None
+      stays zero = ap (λ (k : ℕ). next_of (many_end first must allowed k ws at)) (zero-add (i + 1)) ∙ many_more i at p r e q ∙ b
+      stays (suc d) =
+          ap (λ (k : ℕ). next_of (many_end first must allowed k ws at)) (suc-add d (i + 1))
+          ∙ ap next_of (many_later (d + (i + 1)) at) ∙ none_is (many_end first must allowed (d + (i + 1)) ws at) (stays d)
 
 -- Requests
 
@@ -207,6 +256,28 @@ request_placed ws at = go (request_end ws at) refl ∙ sym (ap (placed ws) (requ
     go none p = refl
     go (some e) p = ap Some (omega (arith, length-drop e ws, (request_ends ws at e p).1))
 
+-- it is none where its first record is malformed, and else the place after its items
+module _ (ws : List ℕ) (at : ℕ) where
+  head : Option ℕ
+  head = record_end an_op (get_or musts (op_at ws at) 0) (get_or musts (op_at ws at) 0 + get_or mays (op_at ws at) 0) ws at
+
+  pub request_bad : next_of (record_end an_op (get_or musts (op_at ws at) 0) (get_or musts (op_at ws at) 0 + get_or mays (op_at ws at) 0) ws at) ≡ None → placed ws (read_request (drop at ws)) ≡ None
+  unfolding request_end head
+  request_bad p = sym (request_placed ws at) ∙ go head p
+    where
+      go : (x : Option ℕ) → next_of x ≡ None → next_of (and_then x λ e. items_end (op_at ws at) (count_at ws at) ws e) ≡ None
+      go none q = refl
+      go (some k) q = cc
+
+  pub request_goes : (e : ℕ) → next_of (record_end an_op (get_or musts (op_at ws at) 0) (get_or musts (op_at ws at) 0 + get_or mays (op_at ws at) 0) ws at) ≡ Some e
+      → placed ws (read_request (drop at ws)) ≡ next_of (items_end (op_at ws at) (count_at ws at) ws e)
+  unfolding request_end head
+  request_goes e p = sym (request_placed ws at) ∙ go head p
+    where
+      go : (x : Option ℕ) → next_of x ≡ Some e → next_of (and_then x λ e. items_end (op_at ws at) (count_at ws at) ws e) ≡ next_of (items_end (op_at ws at) (count_at ws at) ws e)
+      go none q = cc
+      go (some k) q = let z : k ≡ e = cc in ap (λ (k : ℕ). next_of (items_end (op_at ws at) (count_at ws at) ws k)) z
+
 -- Lists
 
 -- what is read of a list that is not empty
@@ -238,19 +309,38 @@ list_end ws at h = ap (λ (l : List ℕ). read_up_to (length l) l) (drop_of_leng
 
 -- Counting the requests of a list, one after the other
 
-pub count_turn : (ws : List ℕ) (n at e : ℕ) → at < length ws → request_end ws at ≡ some e → counted n (read_list (drop at ws)) ≡ counted (n + 1) (read_list (drop e ws))
-count_turn ws n at e h p =
-    ap (counted n) (list_turn ws at h ∙ ap (λ (x : Option ℕ). turned (up_to ws x (request_at ws at))) p) ∙ go (read_list (drop e ws))
-  where
-    go : (x : Option (List Request)) → counted n (and_then x λ rs. some (request_at ws at ∷ rs)) ≡ counted (n + 1) x
-    go none = refl
-    go (some rs) = ap Some (omega arith)
+module _ (ws : List ℕ) (at : ℕ) where
+  -- the place after a request that was read
+  end_is : (e : ℕ) → placed ws (read_request (drop at ws)) ≡ Some e → request_end ws at ≡ some e
+  end_is e p = go (request_end ws at) (request_placed ws at ∙ p)
+    where
+      go : (x : Option ℕ) → next_of x ≡ Some e → x ≡ some e
+      go none q = cc
+      go (some k) q = let z : k ≡ e = cc in ap some z
 
-pub count_bad : (ws : List ℕ) (n at : ℕ) → at < length ws → request_end ws at ≡ none → counted n (read_list (drop at ws)) ≡ None
-count_bad ws n at h p = ap (counted n) (list_turn ws at h ∙ ap (λ (x : Option ℕ). turned (up_to ws x (request_at ws at))) p)
+  bad_is : placed ws (read_request (drop at ws)) ≡ None → request_end ws at ≡ none
+  bad_is p = go (request_end ws at) (request_placed ws at ∙ p)
+    where
+      go : (x : Option ℕ) → next_of x ≡ None → x ≡ none
+      go none q = refl
+      go (some k) q = cc
 
-pub count_end : (ws : List ℕ) (n at : ℕ) → length ws ≤ at → counted n (read_list (drop at ws)) ≡ Some n
-count_end ws n at h = ap (counted n) (list_end ws at h) ∙ ap Some (add-zero n)
+  pub place_rises : (e : ℕ) → placed ws (read_request (drop at ws)) ≡ Some e → (at < e) × (e ≤ length ws)
+  place_rises e p = request_ends ws at e (end_is e p)
+
+  pub count_turn : (n e : ℕ) → at < length ws → placed ws (read_request (drop at ws)) ≡ Some e → counted n (read_list (drop at ws)) ≡ counted (n + 1) (read_list (drop e ws))
+  count_turn n e h p =
+      ap (counted n) (list_turn ws at h ∙ ap (λ (x : Option ℕ). turned (up_to ws x (request_at ws at))) (end_is e p)) ∙ go (read_list (drop e ws))
+    where
+      go : (x : Option (List Request)) → counted n (and_then x λ rs. some (request_at ws at ∷ rs)) ≡ counted (n + 1) x
+      go none = refl
+      go (some rs) = ap Some (omega arith)
+
+  pub count_bad : (n : ℕ) → at < length ws → placed ws (read_request (drop at ws)) ≡ None → counted n (read_list (drop at ws)) ≡ None
+  count_bad n h p = ap (counted n) (list_turn ws at h ∙ ap (λ (x : Option ℕ). turned (up_to ws x (request_at ws at))) (bad_is p))
+
+  pub count_end : (n : ℕ) → length ws ≤ at → counted n (read_list (drop at ws)) ≡ Some n
+  count_end n h = ap (counted n) (list_end ws at h) ∙ ap Some (add-zero n)
 
 pub count_all : (x : Option (List Request)) → listed x ≡ counted 0 x
 count_all none = refl

@@ -85,6 +85,10 @@ field_of ws at k = must (fields_at ws at) k
 unfoldable pub three_at : Fields → ℕ → ℕ → ℕ → Three
 three_at fs a b c = record { a = must fs a; b = must fs b; c = must fs c }
 
+-- a record's fields, by their bits
+abbrev pub words_by : Fields → List ℕ → List ℕ
+words_by fs bits = map (must fs) bits
+
 -- the place after it; a place past the end stays
 unfoldable pub end_at : List ℕ → ℕ → ℕ
 end_at ws at = pick (ltb at (length ws)) (after field_count (map_at ws at) (suc at)) at

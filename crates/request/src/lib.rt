@@ -5,10 +5,13 @@ ghost use Rattle.std.specs.Prelude.{◌≡◌, ◌+◌, ◌*◌, ◌%◌, ◌^�
 ghost use Rattle.std.specs.Int.Count.{ones};
 ghost use Rattle.authority.specs.Rights.{contains};
 ghost use Rattle.format.specs.Format.{answer_words, field_count};
+ghost use Rattle.format.specs.Kinds.{kind_number};
 ghost use Rattle.model.specs.Base.{is_some};
 ghost use Rattle.model.specs.Words.{odd, may, must, read_request, read_list};
-ghost use Rattle.request.specs.Place.{next_of, placed, listed, optional, fields_from, fields_at, has_map, three_at, end_at, kinds_of, fit_one, narrow_fit, walk, good_map, record_end, many_end, items_end, here, place_of, next_at};
+ghost use Rattle.request.specs.Place.{next_of, placed, listed, optional, fields_from, fields_at, has_map, three_at, words_by, end_at, kinds_of, fit_one, narrow_fit, walk, good_map, record_end, many_end, items_end, here, place_of, next_at};
 ghost use Rattle.request.specs.Answers.{cleared};
+
+use format::field::FieldKind;
 
 // Three fields of a record, read once.
 #[derive(Clone, Copy)]
@@ -26,6 +29,7 @@ fn lowest(map: u64) -> bool
 }
 
 // Whether every bit of the one map stands in the other.
+#[tactic(auto, unfolding(authority::specs::Rights::contains))]
 fn covers(held: u64, asked: u64) -> bool
     ensures { result ≡ contains held asked }
 {
@@ -36,10 +40,7 @@ fn covers(held: u64, asked: u64) -> bool
 fn word_of(rq: &[u64], map: u64, at: usize) -> Option<u64>
     ensures { result ≡ optional (here (odd map) rq.now at) }
 {
-    if lowest(map) {
-        return Some(words::word(rq, at));
-    }
-    None
+    lowest(map).then(|| words::word(rq, at))
 }
 
 // How many fields of a map stand below a bit.
@@ -51,24 +52,24 @@ fn below(map: u64, bit: u64) -> usize
 }
 
 // A field by its bit, of the fields of a map that begin at a place.
+#[tactic(auto, using(crate::specs::Counted::may_at, crate::specs::Counted::may_past))]
 fn field_in(rq: &[u64], at: usize, map: u64, bit: u64) -> Option<u64>
     requires { at ≤ length rq.now }
     ensures { result ≡ optional (may (fields_from field_count map rq.now at) bit) }
 {
-    if bit < format::field::FIELDS {
-        return word_of(rq, map >> bit, at + below(map, bit));
+    if bit >= format::field::FIELDS {
+        return None;
     }
-    None
+    word_of(rq, map >> bit, at + below(map, bit))
 }
 
 // A field of the record at a place, by its bit.
+#[tactic(auto, unfolding(crate::specs::Place::fields_at), using(crate::specs::Fields::find_out))]
 pub fn find(rq: &[u64], at: usize, bit: u64) -> Option<u64>
     ensures { result ≡ optional (may (fields_at rq.now at) bit) }
 {
-    if at < rq.len() {
-        return field_in(rq, at + 1, rq[at], bit);
-    }
-    None
+    let map = *rq.get(at)?;
+    field_in(rq, at + 1, map, bit)
 }
 
 // Whether a field stands.
@@ -94,13 +95,15 @@ fn field_known(rq: &[u64], at: usize, map: u64, bit: u64) -> u64
 }
 
 // Whether the record at a place has a map.
+#[tactic(auto, unfolding(crate::specs::Place::has_map))]
 fn has_map(rq: &[u64], at: usize, map: u64) -> bool
     ensures { result ≡ has_map rq.now at map }
 {
-    if at < rq.len() { rq[at] == map } else { false }
+    at < rq.len() && rq[at] == map
 }
 
 // Three fields of a record at a place, found one by one.
+#[tactic(auto, unfolding(crate::specs::Place::three_at))]
 fn three_found(rq: &[u64], at: usize, a: u64, b: u64, c: u64) -> Three
     ensures { result ≡ three_at (fields_at rq.now at) a b c }
 {
@@ -112,6 +115,7 @@ fn three_found(rq: &[u64], at: usize, a: u64, b: u64, c: u64) -> Three
 }
 
 // Three fields of a map, whose fields begin at a place.
+#[tactic(auto, unfolding(crate::specs::Place::three_at))]
 fn three_known(rq: &[u64], at: usize, map: u64, a: u64, b: u64, c: u64) -> Three
     requires { at ≤ length rq.now }
     ensures { result ≡ three_at (fields_from field_count map rq.now at) a b c }
@@ -125,6 +129,7 @@ fn three_known(rq: &[u64], at: usize, map: u64, a: u64, b: u64, c: u64) -> Three
 
 // Three fields of the record at a place by their bits, 0 for one that does not stand. Where the map is the op's `must` map, their places are known
 // from the op and the bits alone; `field::NO_FIELD` names none.
+#[tactic(auto, unfolding(crate::specs::Place::has_map, crate::specs::Place::fields_at))]
 pub fn read_three(rq: &[u64], at: usize, op: u64, a: u64, b: u64, c: u64) -> Three
     ensures { result ≡ three_at (fields_at rq.now at) a b c }
 {
@@ -135,42 +140,78 @@ pub fn read_three(rq: &[u64], at: usize, op: u64, a: u64, b: u64, c: u64) -> Thr
     three_found(rq, at, a, b, c)
 }
 
+// Fields of a record at a place, found one by one.
+#[tactic(auto, using(crate::specs::Counted::words_more))]
+fn fields_found<const N: usize>(rq: &[u64], at: usize, bits: [u64; N]) -> [u64; N]
+    ensures { result ≡ words_by (fields_at rq.now at) bits.entry }
+{
+    let mut words = bits;
+    for word in &mut words {
+        *word = field(rq, at, *word);
+    }
+    words
+}
+
+// Fields of a map, whose fields begin at a place.
+#[tactic(auto, using(crate::specs::Counted::words_more))]
+fn fields_known<const N: usize>(rq: &[u64], at: usize, map: u64, bits: [u64; N]) -> [u64; N]
+    requires { at ≤ length rq.now }
+    ensures { result ≡ words_by (fields_from field_count map rq.now at) bits.entry }
+{
+    let mut words = bits;
+    for word in &mut words {
+        *word = field_known(rq, at, map, *word);
+    }
+    words
+}
+
+// Fields of the record at a place by their bits, 0 for one that does not stand. Where the map is the op's `must` map, their places are known from
+// the op and the bits alone.
+#[tactic(auto, unfolding(crate::specs::Place::has_map, crate::specs::Place::fields_at))]
+pub fn read_fields<const N: usize>(rq: &[u64], at: usize, op: u64, bits: [u64; N]) -> [u64; N]
+    ensures { result ≡ words_by (fields_at rq.now at) bits.entry }
+{
+    let map = format::must(op);
+    if has_map(rq, at, map) {
+        return fields_known(rq, at + 1, map, bits);
+    }
+    fields_found(rq, at, bits)
+}
+
 // The place after the record at a place; a place past the end stays.
+#[tactic(auto, unfolding(crate::specs::Place::end_at), using(crate::specs::Counted::after_ones))]
 pub fn record_end(rq: &[u64], at: usize) -> usize
     ensures { result ≡ end_at rq.now at }
 {
-    if at < rq.len() {
-        return at + 1 + below(rq[at], format::field::FIELDS);
+    match rq.get(at) {
+        Some(map) => at + 1 + below(*map, format::field::FIELDS),
+        None => at,
     }
-    at
 }
 
 // The place after `count` records in a row; a place past the end stays.
+#[tactic(auto, unfolding(crate::specs::Place::place_of), using(crate::specs::Laws::place_next, crate::specs::Lists::place_out))]
 pub fn records_end(rq: &[u64], at: usize, count: u64) -> usize
     ensures { result ≡ place_of count rq.now at }
 {
     let mut place = at;
-    let mut left = count;
-    while 0 < left {
+    for _i in 0..count {
         if rq.len() <= place {
             return place;
         }
         place = record_end(rq, place);
-        left -= 1;
     }
     place
 }
 
 // The place after the request at a place, which is known to be well formed.
+#[tactic(auto, unfolding(crate::specs::Place::next_at))]
 pub fn next_request(rq: &[u64], at: usize) -> usize
     ensures { result ≡ next_at rq.now at }
 {
     let op = field(rq, at, format::field::FIELD_OP);
     let end = record_end(rq, at);
-    if op == format::op::OP_PUBLISH {
-        return records_end(rq, end, field(rq, at, format::field::FIELD_COUNT));
-    }
-    if op == format::op::OP_PREPARE_TRANSFER {
+    if op == format::op::OP_PUBLISH || op == format::op::OP_PREPARE_TRANSFER {
         return records_end(rq, end, field(rq, at, format::field::FIELD_COUNT));
     }
     end
@@ -179,119 +220,75 @@ pub fn next_request(rq: &[u64], at: usize) -> usize
 // The fields that do not take every word, bit 0 apart: bits 6, 9, 10, 12 and 14 to 17.
 const NARROW: u64 = 251_456;
 
-// "too wide or a koid of 0": whether the field of a bit, where it stands, fits a kind, and those that were tested before did.
-fn fits_too(rq: &[u64], at: usize, map: u64, bit: u64, kind: u64, ok: bool) -> bool
+// "too wide or a koid of 0": whether the field of a bit, where it stands, fits a kind.
+#[tactic(auto, unfolding(crate::specs::Place::fit_one))]
+fn fit_one(rq: &[u64], at: usize, map: u64, bit: u64, kind: FieldKind) -> bool
     requires { at ≤ length rq.now }
-    ensures { result ≡ (fit_one kind (may (fields_from field_count map rq.now at) bit) && ok) }
+    ensures { result ≡ fit_one (kind_number kind) (may (fields_from field_count map rq.now at) bit) }
 {
-    match field_in(rq, at, map, bit) {
-        Some(w) => format::fits(kind, w) && ok,
-        None => ok,
-    }
+    field_in(rq, at, map, bit).is_none_or(|w| format::fits(kind, w))
 }
 
 // Whether those fields fit that do not take every word, bit 0 apart, one after the other.
+#[tactic(auto, unfolding(crate::specs::Place::narrow_fit))]
 fn each_fits(rq: &[u64], at: usize, map: u64) -> bool
     requires { at ≤ length rq.now }
     ensures { result ≡ narrow_fit (fields_from field_count map rq.now at) }
 {
-    let a = fits_too(
-        rq,
-        at,
-        map,
-        format::field::FIELD_FORBIDDEN_KIND,
-        format::field::KIND_NUMBER_32,
-        true,
-    );
-    let b = fits_too(
-        rq,
-        at,
-        map,
-        format::field::FIELD_FORBIDDEN_OBJECT,
-        format::field::KIND_KOID,
-        a,
-    );
-    let c = fits_too(
-        rq,
-        at,
-        map,
-        format::field::FIELD_EXPECTED_KIND,
-        format::field::KIND_NUMBER_32,
-        b,
-    );
-    let d = fits_too(
-        rq,
-        at,
-        map,
-        format::field::FIELD_OFFERED_KIND,
-        format::field::KIND_NUMBER_32,
-        c,
-    );
-    let e = fits_too(
-        rq,
-        at,
-        map,
-        format::field::FIELD_ROUTE,
-        format::field::KIND_ROUTE,
-        d,
-    );
-    let f = fits_too(
-        rq,
-        at,
-        map,
-        format::field::FIELD_KOID,
-        format::field::KIND_KOID,
-        e,
-    );
-    let g = fits_too(
-        rq,
-        at,
-        map,
-        format::field::FIELD_KIND,
-        format::field::KIND_NUMBER_32,
-        f,
-    );
-    fits_too(
-        rq,
-        at,
-        map,
-        format::field::FIELD_FLAGS,
-        format::field::KIND_NUMBER_32,
-        g,
-    )
+    fit_one(rq, at, map, format::field::FIELD_FLAGS, FieldKind::Number32)
+        && fit_one(rq, at, map, format::field::FIELD_KIND, FieldKind::Number32)
+        && fit_one(rq, at, map, format::field::FIELD_KOID, FieldKind::Koid)
+        && fit_one(rq, at, map, format::field::FIELD_ROUTE, FieldKind::Route)
+        && fit_one(
+            rq,
+            at,
+            map,
+            format::field::FIELD_OFFERED_KIND,
+            FieldKind::Number32,
+        )
+        && fit_one(
+            rq,
+            at,
+            map,
+            format::field::FIELD_EXPECTED_KIND,
+            FieldKind::Number32,
+        )
+        && fit_one(
+            rq,
+            at,
+            map,
+            format::field::FIELD_FORBIDDEN_OBJECT,
+            FieldKind::Koid,
+        )
+        && fit_one(
+            rq,
+            at,
+            map,
+            format::field::FIELD_FORBIDDEN_KIND,
+            FieldKind::Number32,
+        )
 }
 
 // Whether those fields fit that do not take every word, bit 0 apart: most maps have none of them.
+#[tactic(auto, using(crate::specs::Counted::none_narrow))]
 fn narrow_fit(rq: &[u64], at: usize, map: u64) -> bool
     requires { at ≤ length rq.now }
     ensures { result ≡ narrow_fit (fields_from field_count map rq.now at) }
 {
-    if map & NARROW == 0 {
-        return true;
-    }
-    each_fits(rq, at, map)
+    map & NARROW == 0 || each_fits(rq, at, map)
 }
 
 // "list ends inside a record"; "too wide or a koid of 0": the place after a record's fields, which begin at a place.
-fn fields_end(rq: &[u64], at: usize, map: u64, first: u64) -> Option<usize>
+#[tactic(auto, using(crate::specs::Counted::walk_is))]
+fn fields_end(rq: &[u64], at: usize, map: u64, first: FieldKind) -> Option<usize>
     requires { at ≤ length rq.now }
-    ensures { result ≡ next_of (walk (kinds_of first) rq.now map at) }
+    ensures { result ≡ next_of (walk (kinds_of (kind_number first)) rq.now map at) }
 {
     let count = below(map, format::field::FIELDS);
-    if count <= rq.len() - at {
-        if fits_too(
-            rq,
-            at,
-            map,
-            format::field::FIELD_OP,
-            first,
-            narrow_fit(rq, at, map),
-        ) {
-            return Some(at + count);
-        }
-        return None;
-    }
-    None
+    let fits = count <= rq.len() - at
+        && fit_one(rq, at, map, format::field::FIELD_OP, first)
+        && narrow_fit(rq, at, map);
+    fits.then_some(at + count)
 }
 
 // "Bit 0 .. always stands"; "field missing, extra".
@@ -303,88 +300,84 @@ fn map_ok(map: u64, must: u64, allowed: u64) -> bool
 }
 
 // Checks the record at a place, which must carry the fields `must` and no others than `allowed`; `first` is the kind of bit 0's word.
-pub fn record_ok(rq: &[u64], at: usize, first: u64, must: u64, allowed: u64) -> Option<usize>
-    ensures { result ≡ next_of (record_end first must allowed rq.now at) }
+#[tactic(auto, unfolding(crate::specs::Place::record_end))]
+pub fn record_ok(rq: &[u64], at: usize, first: FieldKind, must: u64, allowed: u64) -> Option<usize>
+    ensures { result ≡ next_of (record_end (kind_number first) must allowed rq.now at) }
 {
-    if at < rq.len() {
-        let map = rq[at];
-        if map_ok(map, must, allowed) {
-            return fields_end(rq, at + 1, map, first);
-        }
+    let map = *rq.get(at)?;
+    if !map_ok(map, must, allowed) {
         return None;
     }
-    None
+    fields_end(rq, at + 1, map, first)
 }
 
 // Checks `count` records in a row; it stops where the list ends.
+#[tactic(auto, unfolding(crate::specs::Place::many_end), using(crate::specs::Lists::many_more, crate::specs::Lists::many_stops))]
 pub fn records_ok(
     rq: &[u64],
     at: usize,
     count: u64,
-    first: u64,
+    first: FieldKind,
     must: u64,
     allowed: u64,
 ) -> Option<usize>
-    ensures { result ≡ next_of (many_end first must allowed count rq.now at) }
+    ensures { result ≡ next_of (many_end (kind_number first) must allowed count rq.now at) }
 {
     let mut place = at;
-    let mut more = count;
-    while 0 < more {
-        let next = record_ok(rq, place, first, must, allowed)?;
-        place = next;
-        more -= 1;
+    for _i in 0..count {
+        place = record_ok(rq, place, first, must, allowed)?;
     }
     Some(place)
 }
 
 // "A transfer's items, or a publish's parcels, follow as records of their own, as many as its count field says".
+#[tactic(auto, unfolding(crate::specs::Place::items_end))]
 fn items_ok(rq: &[u64], at: usize, op: u64, count: u64) -> Option<usize>
     ensures { result ≡ next_of (items_end op count rq.now at) }
 {
-    if op == format::op::OP_PUBLISH {
-        return records_ok(
+    match op {
+        format::op::OP_PUBLISH => records_ok(
             rq,
             at,
             count,
-            format::field::KIND_ZERO,
+            FieldKind::Zero,
             format::maps::PARCEL_ITEM_MUST,
             format::maps::PARCEL_ITEM_MUST + format::maps::PARCEL_ITEM_MAY,
-        );
-    }
-    if op == format::op::OP_PREPARE_TRANSFER {
-        return records_ok(
+        ),
+        format::op::OP_PREPARE_TRANSFER => records_ok(
             rq,
             at,
             count,
-            format::field::KIND_OPERATION,
+            FieldKind::Operation,
             format::maps::TRANSFER_ITEM_MUST,
             format::maps::TRANSFER_ITEM_MUST + format::maps::TRANSFER_ITEM_MAY,
-        );
+        ),
+        _ => Some(at),
     }
-    Some(at)
 }
 
 // Checks the request at a place, with its items, and gives the place after it.
+#[tactic(auto, using(crate::specs::Lists::request_bad, crate::specs::Lists::request_goes, format::proofs::Laws::must_below, format::proofs::Laws::may_below))]
 pub fn request_ok(rq: &[u64], at: usize) -> Option<usize>
     ensures { result ≡ placed rq.now (read_request (drop at rq.now)) }
 {
     let op = field(rq, at, format::field::FIELD_OP);
     let must = format::must(op);
     let may = format::may(op);
-    let end = record_ok(rq, at, format::field::KIND_OP, must, must + may)?;
+    let end = record_ok(rq, at, FieldKind::Op, must, must + may)?;
     let count = field(rq, at, format::field::FIELD_COUNT);
     items_ok(rq, end, op, count)
 }
 
 // "Order: .. list 19": how many requests a list has. "An empty list is accepted."
+#[tactic(auto, using(crate::specs::Lists::count_all, crate::specs::Lists::count_turn, crate::specs::Lists::count_bad, crate::specs::Lists::count_end, crate::specs::Lists::place_rises))]
 pub fn list_ok(rq: &[u64]) -> Option<u64>
     ensures { result ≡ listed (read_list rq.now) }
 {
     let mut place: usize = 0;
     let mut count: u64 = 0;
     while place < rq.len() {
-        let next = request_ok(rq, place)?;
-        place = next;
+        place = request_ok(rq, place)?;
         count += 1;
     }
     Some(count)
@@ -401,41 +394,19 @@ pub fn answers_short(out: &[u64], count: u64) -> bool
 pub fn answer_put(out: &mut [u64], base: usize, i: usize, v: u64)
     ensures { out.new ≡ set out.old (base + i) v }
 {
-    if base < out.len() {
-        if i < out.len() - base {
-            out[base + i] = v;
-        }
+    if base < out.len() && i < out.len() - base {
+        out[base + i] = v;
     }
 }
 
-// Clears an answer whose words are all there.
-fn clear_whole(out: &mut [u64], base: usize)
-    requires { base + answer_words ≤ length out.old }
-    ensures { out.new ≡ cleared out.old base answer_words }
-{
-    for k in 0..format::size::ANSWER_PLACES {
-        out[base + k] = 0;
-    }
-}
-
-// Clears those words of an answer that are there.
-fn clear_part(out: &mut [u64], base: usize)
-    ensures { out.new ≡ cleared out.old base answer_words }
-{
-    for k in 0..format::size::ANSWER_PLACES {
-        answer_put(out, base, k, 0);
-    }
-}
-
-// "Each request answers 72 words, unused ones 0".
+// "Each request answers 72 words, unused ones 0": clears those that are there.
+#[tactic(auto, using(crate::specs::Answers::fill_is))]
 pub fn clear_answer(out: &mut [u64], base: usize)
     ensures { out.new ≡ cleared out.old base answer_words }
 {
-    if base < out.len() {
-        if format::size::ANSWER_PLACES <= out.len() - base {
-            return clear_whole(out, base);
-        }
-        return clear_part(out, base);
-    }
-    clear_part(out, base)
+    let start = base.min(out.len());
+    let end = base
+        .saturating_add(format::size::ANSWER_PLACES)
+        .min(out.len());
+    out[start..end].fill(0);
 }

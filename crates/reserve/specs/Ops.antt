@@ -1,5 +1,5 @@
 -- What the functions of the request reserve do to the words. Assumes nothing.
-use Rattle.std.specs.Prelude.{List, [], ◌∷◌, ℕ, zero, suc, ◌-◌, min, eqb, ltb}
+use Rattle.std.specs.Prelude.{List, [], ◌∷◌, ℕ, zero, suc, ◌-◌, min, eqb, ltb, Result, Ok, Err}
 use Rattle.words.specs.Pick.{pick}
 use Rattle.layout.specs.declared.Shape.{Shape}
 use Rattle.codec.specs.Codec.{encode}
@@ -13,6 +13,8 @@ use Rattle.storage.specs.Sight.{Spot.hd}
 use Rattle.storage.specs.Ops.{seen, take_w}
 use Rattle.book.specs.Ops.{spare, open_w}
 use Rattle.growth.specs.Words.{pages_needed, grow_w, no_plan}
+use Rattle.format.specs.declared.refusal.Refusal.{Refusal}
+use Rattle.format.specs.Refusals.{number}
 use Rattle.lookup.specs.View.{table_refusal}
 use Rattle.answer.specs.Does.{Both, both, answered, refuse_r}
 
@@ -71,6 +73,11 @@ room_r ws os sh base b n x =
     (x (pages_needed m b n))
     (refuse_r ws os base (room_refusal m sh (pages_needed m b n))))
     (refuse_r ws os base (batch_refusal m sh b n))
+
+-- the same by the answer of these checks: the pages, or a refusal
+abbrev pub checked_r : List ℕ → List ℕ → ℕ → Result ℕ Refusal → (ℕ → Both) → Both
+checked_r ws os base (Ok p) x = x p
+checked_r ws os base (Err e) x = refuse_r ws os base (number e)
 
 unfoldable pub reserve_r : List ℕ → List ℕ → Shape → ℕ → ℕ → ℕ → Both
 reserve_r ws os sh base b n = room_r ws os sh base b n (open_r ws os sh base b n)

@@ -5,52 +5,52 @@
 // The request that opens a reservation: reserve. Its checks and the opening of its batch serve plans too.
 #![tactic(auto)]
 
-ghost use Rattle.std.specs.Prelude.{◌≡◌, min};
+ghost use Rattle.std.specs.Prelude.{◌≡◌, ℕ, List, min};
 ghost use Rattle.layout.specs.Layout.{load as loadAt};
 ghost use Rattle.layout.specs.Sizes.{batch_max};
 ghost use Rattle.request.specs.Answers.{puts};
-ghost use Rattle.answer.specs.Does.{both, answered};
-ghost use Rattle.reserve.specs.Ops.{batch_refusal, room_refusal, listed_w, list_w, taken_w, batch_w, values_at, batch_words, slots_r, open_r, reserve_r};
+ghost use Rattle.answer.specs.Does.{Both, both, answered};
+ghost use Rattle.format.specs.Refusals.{number_of};
+ghost use Rattle.reserve.specs.Ops.{batch_refusal, room_refusal, listed_w, list_w, taken_w, batch_w, values_at, batch_words, slots_r, open_r, room_r, checked_r, reserve_r};
 ghost use Rattle.format.specs.Fields.{table_field, count_field};
 ghost use Rattle.request.specs.Place.{field_of};
 
 use codec::HandleCodec;
+use format::field::{FIELD_COUNT, FIELD_TABLE};
+use format::op;
+use format::refusal::Refusal;
 use layout::{Shape, field, size, value};
 
-// "Reserve: 16, 17, 13": the number of the refusal of n slots in table b; 0 for none.
-pub fn batch_refusal(s: &[u64], sh: Shape, b: u64, n: u64) -> u64
-    ensures { result ≡ batch_refusal (loadAt s.now sh) sh b n }
+// "Reserve: 16, 17, 13", for n slots in table b.
+#[tactic(auto, unfolding(crate::specs::Ops::batch_refusal))]
+pub fn check_batch(s: &[u64], sh: Shape, b: u64, n: u64) -> Result<(), Refusal>
+    ensures { number_of result ≡ batch_refusal (loadAt s.now sh) sh b n }
 {
-    let known = lookup::table_refusal(s, sh, b);
-    if known == 0 {
-        if n == 0 {
-            return format::refusal::EMPTY_RESERVATION;
-        }
-        if size::BATCH_MAX < n {
-            return format::refusal::RESERVATION_TOO_LARGE;
-        }
-        return format::refusal::DONE;
+    lookup::active_table(s, sh, b)?;
+    if n == 0 {
+        return Err(Refusal::EmptyReservation);
     }
-    known
+    if n > size::BATCH_MAX {
+        return Err(Refusal::ReservationTooLarge);
+    }
+    Ok(())
 }
 
 // "15, 1, 12", for a batch that needs p pages.
-pub fn room_refusal(s: &[u64], sh: Shape, p: u64) -> u64
-    ensures { result ≡ room_refusal (loadAt s.now sh) sh p }
+#[tactic(auto, unfolding(crate::specs::Ops::room_refusal))]
+pub fn check_room(s: &[u64], sh: Shape, p: u64) -> Result<(), Refusal>
+    ensures { number_of result ≡ room_refusal (loadAt s.now sh) sh p }
 {
     if p == growth::NO_PLAN {
-        return format::refusal::TABLE_FULL;
+        return Err(Refusal::TableFull);
     }
     if layout::root_word(s, sh, field::ROOT_FREE_FRAMES) < p {
-        return format::refusal::ALLOCATION;
+        return Err(Refusal::Allocation);
     }
-    if layout::root_word(s, sh, field::ROOT_USED_ROWS) < sh.rows as u64 {
-        if layout::root_word(s, sh, field::ROOT_NEXT_ID) == book::LAST_ID {
-            return format::refusal::RESERVATION_ID_EXHAUSTED;
-        }
-        return format::refusal::DONE;
+    if !book::row_left(s, sh) {
+        return Err(Refusal::Allocation);
     }
-    format::refusal::ALLOCATION
+    book::id_left(s, sh)
 }
 
 // The first n slots of the free order of table b, from the link l on, into the items of the row in place x.
@@ -101,9 +101,8 @@ fn say_values(s: &[u64], sh: Shape, b: u64, x: u64, n: u64, out: &mut [u64], bas
     for j in 0..most {
         let k = layout::item_word(s, sh, x, j, field::ITEM_SLOT);
         let g = storage::slot_word(s, sh, b, k, field::SLOT_GENERATION);
-        let codec = HandleCodec { mask: mask };
-        let v = codec.encode(k, g);
-        request::answer_put(out, base, (j + 3) as usize, v.0);
+        let value = HandleCodec { mask }.encode(k, g);
+        request::answer_put(out, base, (j + 3) as usize, value.0);
     }
 }
 
@@ -113,7 +112,7 @@ fn say_batch(s: &[u64], sh: Shape, b: u64, n: u64, out: &mut [u64], base: usize)
 {
     let x = book::spare_place(s, sh);
     let id = layout::root_word(s, sh, field::ROOT_NEXT_ID);
-    answer::say2(out, base, id, n);
+    answer::say(out, base, &[id, n]);
     say_values(s, sh, b, x, n, out, base);
 }
 
@@ -134,37 +133,32 @@ fn reserve_slots(s: &mut [u64], sh: Shape, b: u64, n: u64, p: u64, out: &mut [u6
     open_slots(s, sh, b, n, out, base);
 }
 
-// "Reserve: 16, 17, 13, 15, 1, 12".
+// "Reserve: 16, 17, 13, 15, 1, 12": how many pages a batch of n slots in table b needs.
+#[tactic(auto, unfolding(crate::specs::Ops::room_r))]
+pub fn check_reserve(s: &[u64], sh: Shape, b: u64, n: u64) -> Result<u64, Refusal>
+    ensures { (os : List ℕ) (base : ℕ) (rest : ℕ → Both) → checked_r s.now os base result rest ≡ room_r s.now os sh base b n rest }
+{
+    check_batch(s, sh, b, n)?;
+    let p = growth::pages_needed(s, sh, b, n);
+    check_room(s, sh, p)?;
+    Ok(p)
+}
+
+// A batch of n slots of table b. Its answer has up to 66 words: they are put where they belong, since a result by value would be a large local array.
+#[tactic(auto, unfolding(crate::specs::Ops::reserve_r))]
 pub fn reserve(s: &mut [u64], sh: Shape, b: u64, n: u64, out: &mut [u64], base: usize)
     ensures { both s.new out.new ≡ reserve_r s.old out.old sh base b n }
 {
-    let wrong = batch_refusal(s, sh, b, n);
-    if wrong != 0 {
-        answer::refuse(out, base, wrong);
-        return;
+    match check_reserve(s, sh, b, n) {
+        Ok(p) => reserve_slots(s, sh, b, n, p, out, base),
+        Err(refusal) => answer::refuse(out, base, refusal),
     }
-    let p = growth::pages_needed(s, sh, b, n);
-    let full = room_refusal(s, sh, p);
-    if full != 0 {
-        answer::refuse(out, base, full);
-        return;
-    }
-    reserve_slots(s, sh, b, n, p, out, base);
 }
 
 // The request of a list at a place: its fields are read.
 pub fn serve_reserve(s: &mut [u64], sh: Shape, rq: &[u64], at: usize, out: &mut [u64], base: usize)
     ensures { both s.new out.new ≡ reserve_r s.old out.old sh base (field_of rq.now at table_field) (field_of rq.now at count_field) }
 {
-    let f = request::read_three(
-        rq,
-        at,
-        format::op::OP_RESERVE,
-        format::field::FIELD_TABLE,
-        format::field::FIELD_COUNT,
-        format::field::NO_FIELD,
-    );
-    let table = f.a;
-    let count = f.b;
+    let [table, count] = request::read_fields(rq, at, op::OP_RESERVE, [FIELD_TABLE, FIELD_COUNT]);
     reserve(s, sh, table, count, out, base);
 }

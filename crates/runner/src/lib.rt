@@ -13,8 +13,10 @@ ghost use Rattle.contract.specs.Meets.{called, Meets};
 ghost use Rattle.contract.specs.Run.{list_r};
 ghost use Rattle.contract.specs.Call.{done, requests_w, checked_w, within_w, run_w};
 ghost use Rattle.serve.specs.Serve.{one_r};
+ghost use Rattle.format.specs.Refusals.{number_of};
 
 use format::field;
+use format::refusal::{self, Refusal};
 use layout::Shape;
 
 // The request at a place, whose answer's 72 words begin at a base.
@@ -33,53 +35,57 @@ fn run_all(s: &mut [u64], sh: Shape, rq: &[u64], n: u64, out: &mut [u64])
 {
     let mut at: usize = 0;
     let mut base: usize = 0;
-    let mut left = n;
-    while 0 < left {
+    for i in 0..n {
         run_one(s, sh, rq, at, out, base);
         at = request::next_request(rq, at);
         base += format::size::ANSWER_PLACES;
-        left -= 1;
     }
 }
 
 // "answer length 20"; then every request runs.
-fn answer_all(s: &mut [u64], sh: Shape, rq: &[u64], n: u64, out: &mut [u64]) -> u64
-    ensures { called result s.new out.new ≡ pick (ltb (length out.old) (answer_words * n)) (called 20 s.old out.old) (done (list_r one_r n s.old out.old sh rq.now 0 0)) }
+fn answer_all(s: &mut [u64], sh: Shape, rq: &[u64], n: u64, out: &mut [u64]) -> Result<(), Refusal>
+    ensures { called (number_of result) s.new out.new ≡ pick (ltb (length out.old) (answer_words * n)) (called 20 s.old out.old) (done (list_r one_r n s.old out.old sh rq.now 0 0)) }
 {
     if request::answers_short(out, n) {
-        return format::refusal::ANSWER_SHORT;
+        return Err(Refusal::AnswerShort);
     }
     run_all(s, sh, rq, n, out);
-    format::refusal::DONE
+    Ok(())
 }
 
 // "list 19".
-fn run_list(s: &mut [u64], sh: Shape, rq: &[u64], out: &mut [u64]) -> u64
-    ensures { called result s.new out.new ≡ requests_w one_r well_b s.old out.old sh rq.now (read_list rq.now) }
+fn run_list(s: &mut [u64], sh: Shape, rq: &[u64], out: &mut [u64]) -> Result<(), Refusal>
+    ensures { called (number_of result) s.new out.new ≡ requests_w one_r well_b s.old out.old sh rq.now (read_list rq.now) }
 {
-    match request::list_ok(rq) {
-        None => format::refusal::MALFORMED,
-        Some(n) => answer_all(s, sh, rq, n, out),
-    }
+    let n = request::list_ok(rq).ok_or(Refusal::Malformed)?;
+    answer_all(s, sh, rq, n, out)
 }
 
 // "state check 18".
-fn run_checked(s: &mut [u64], sh: Shape, rq: &[u64], out: &mut [u64]) -> u64
-    ensures { called result s.new out.new ≡ checked_w one_r well_b s.old rq.now out.old sh }
+fn run_checked(s: &mut [u64], sh: Shape, rq: &[u64], out: &mut [u64]) -> Result<(), Refusal>
+    ensures { called (number_of result) s.new out.new ≡ checked_w one_r well_b s.old rq.now out.old sh }
 {
-    if wellformed::check(s, sh) {
-        return run_list(s, sh, rq, out);
+    if !wellformed::check(s, sh) {
+        return Err(Refusal::Misuse);
     }
-    format::refusal::MISUSE
+    run_list(s, sh, rq, out)
 }
 
 // The state's words alone: those past its end are not lent on.
-fn run_within(s: &mut [u64], sh: Shape, rq: &[u64], out: &mut [u64]) -> u64
+fn run_within(s: &mut [u64], sh: Shape, rq: &[u64], out: &mut [u64]) -> Result<(), Refusal>
     requires { total sh ≤ length s.old }
-    ensures { called result s.new out.new ≡ within_w one_r well_b s.old rq.now out.old sh }
+    ensures { called (number_of result) s.new out.new ≡ within_w one_r well_b s.old rq.now out.old sh }
 {
     let end = layout::total_of(sh) as usize;
     run_checked(&mut s[0..end], sh, rq, out)
+}
+
+// The whole call, by the shape that the header gives.
+fn run(s: &mut [u64], rq: &[u64], out: &mut [u64]) -> Result<(), Refusal>
+    ensures { called (number_of result) s.new out.new ≡ run_w one_r well_b s.old rq.now out.old }
+{
+    let sh = layout::shape_of(s).ok_or(Refusal::Misuse)?;
+    run_within(s, sh, rq, out)
 }
 
 // A list of requests on a state. The result is 18, 19 or 20 and no lent word has changed, or 0 and every request has run.
@@ -88,8 +94,5 @@ pub fn gurtxozal_run(state: &mut [u64], list: &[u64], answers: &mut [u64]) -> u6
     ensures meets { Meets state.old list.now answers.old (called result state.new answers.new) }
 {
     wellformed::are_words(state);
-    match layout::shape_of(state) {
-        None => format::refusal::MISUSE,
-        Some(sh) => run_within(state, sh, list, answers),
-    }
+    refusal::number_of(run(state, list, answers))
 }

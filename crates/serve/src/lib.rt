@@ -26,7 +26,7 @@ pub fn serve(s: &mut [u64], sh: Shape, rq: &[u64], at: usize, op: u64, out: &mut
         op::OP_REPLACE => close::serve_replace(s, sh, rq, at, out, base),
         op::OP_CLOSE => close::serve_close(s, sh, rq, at, out, base),
         op::OP_SCAN_HANDLES => lookup::serve_scan_handles(s, sh, rq, at, out, base),
-        op::OP_PREPARE_TRANSFER => transfer::prepare_transfer(s, sh, rq, at, out, base),
+        op::OP_PREPARE_TRANSFER => transfer::serve_prepare_transfer(s, sh, rq, at, out, base),
         op::OP_PREPARE_CONSUMPTION => transfer::serve_prepare_consumption(s, sh, rq, at, out, base),
         op::OP_ROLLBACK => claim::serve_rollback(s, sh, rq, at, out, base),
         op::OP_COMMIT => claim::serve_commit(s, sh, rq, at, out, base),

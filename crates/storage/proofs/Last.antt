@@ -14,7 +14,7 @@ use Rattle.representation.specs.Represents.{word_in, frame_of, slot_word}
 use Rattle.head.specs.declared.TableHead.{TableHead}
 use Rattle.head.specs.Head.{head_at, freed_by, taken_by, empty_by, free_p, orders_p}
 use Rattle.head.specs.Apart.{save_off, load_off}
-use Rattle.storage.specs.Sight.{look, Spot.hd, Spot.pg, cell_p, slot_p, link_frame}
+use Rattle.storage.specs.Sight.{look, Spot.pg, cell_p, slot_p, link_frame}
 use Rattle.storage.specs.Ops.{up, publish_p, reserve_p, publish_w, mark_w, join_w, leave_w, reserve_w, lower_w, raise_w, vacate_w, take_w}
 use Rattle.storage.specs.Late.{frame_from, link_from, frame_of_law, link_of, vacant_w, held_w, marked_w, linked_w, unlinked_w, first_without, fewer_w, fewer_by, more_w, more_by, vacant_keeps, held_keeps, marked_keeps, mark_by, join_by, leave_by, marked_last, linked_last, unlinked_last, without_last}
 
@@ -135,7 +135,3 @@ take_is ws sh b k r j h t u fr g n nf w₁ w₂ w₃ e₁ e₂ e₃ e₄ e₅ a�
     ∙ raise_last v sh b (k / page_size) (slot_word m b k slot_generation) (taken_by (head_at m b) x)
     (sym (held_keeps ws sh b head_first_entry (frame_of m b k) k (link_frame m b x) x r j)) (sym (held_keeps ws sh b head_first_empty (frame_of m b k) k (link_frame m b x) x r j))) in
     a₃ ∙ rw (a₂, e₇) (sym z)
-
-pub free_first : (ws : List ℕ) (sh : Shape) (b : ℕ) (h : TableHead) (k : ℕ) → h ≡ head_at (load ws sh) b → k ≡ h.first_free - 1 → k ≡ look (load ws sh) b (hd head_first_free) - 1
-unfolding head_at look
-free_first ws sh b h k e q = rw (q, e)

@@ -1,8 +1,7 @@
 pub mod Ops
-pub mod Code
 pub mod Checks
 pub mod Preparing
-pub mod TransferCode
+pub mod Code
 pub mod Plain
 pub mod Seen
 pub mod Stored

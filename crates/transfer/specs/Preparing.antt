@@ -1,4 +1,5 @@
 -- What the functions of the request prepare transfer do to the words. Assumes nothing.
+use Rattle.std.specs.Prelude.{Option as CodeOption, Some, None}
 use Rattle.std.specs.Prelude.{List, [], ◌∷◌, ◌++◌, ℕ, suc, ◌-◌, length, eqb}
 use Rattle.std.proofs.Math.Option.{Option}
 use Rattle.words.specs.Pick.{pick}
@@ -32,6 +33,11 @@ view_link (Holds h) = up h.object
 -- the object of the handle that an item copies, plus 1; 0 for an item that moves
 unfoldable pub copy_link : Mem → ℕ → Item → ℕ
 copy_link m b q = pick (is_copy q.operation) (view_link (view_of m b q.value)) 0
+
+-- the link of an object that was found
+abbrev pub link_of : CodeOption ℕ → ℕ
+link_of None = 0
+link_of (Some o) = up o
 
 -- a number, 0 for no refusal, and the words that are left
 pub record Tried : Type 0 where

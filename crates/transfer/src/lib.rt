@@ -5,45 +5,45 @@
 // The requests that open a claim: prepare transfer and prepare consumption.
 #![tactic(auto)]
 
-ghost use Rattle.std.specs.Prelude.{◌≡◌, not, [], ◌<◌, ◌%◌, ◌^◌, length, eqb};
+ghost use Rattle.std.specs.Prelude.{◌≡◌, [], ◌<◌, ◌%◌, ◌^◌, length, eqb};
 ghost use Rattle.std.specs.Int.Bits.{bit_or};
-ghost use Rattle.authority.specs.Rights.{contains};
-ghost use Rattle.model.specs.Base.{or_else, agrees, bans, member};
+ghost use Rattle.model.specs.Base.{member};
 ghost use Rattle.model.specs.Words.{must, operation_of};
 ghost use Rattle.model.specs.Transfer.{is_copy};
 ghost use Rattle.format.specs.Fields.{value_field, table_field, rights_field, kind_field, koid_field};
+ghost use Rattle.format.specs.Format.{transfer_item_must};
+ghost use Rattle.format.specs.Refusals.{number, number_of};
 ghost use Rattle.layout.specs.Layout.{item, place, load as loadAt};
 ghost use Rattle.layout.specs.Fields.{item_operation};
-ghost use Rattle.request.specs.Place.{fields_at, end_at, item_at, field_of};
+ghost use Rattle.request.specs.Place.{fields_at, end_at, item_at, has_map, field_of};
 ghost use Rattle.book.specs.Ops.{spare};
-ghost use Rattle.answer.specs.Does.{both};
-ghost use Rattle.transfer.specs.Ops.{moved_w, mark_item_w, marked_w, claim_w, consume_refusal, consumed_r, consumption_r};
-ghost use Rattle.transfer.specs.Checks.{as_option, item_by, looked_at, RulesAt, items_at, earlier_at, transfer_refusal, copy_denied, route_bars, rights_refusal, object_refusal, handle_refusal, item_refusal, items_refusal};
+ghost use Rattle.answer.specs.Does.{both, reply, Gives};
+ghost use Rattle.transfer.specs.Ops.{id_words, moved_w, mark_item_w, marked_w, claim_w, consume_refusal, consumed_r, consumption_r};
+ghost use Rattle.transfer.specs.Checks.{as_option, item_by, looked_at, RulesAt, items_at, earlier_at, transfer_refusal, route_bars, rights_refusal, object_refusal, handle_refusal, item_refusal, items_refusal};
 ghost use Rattle.transfer.specs.Seen.{bit_of, Seen};
-ghost use Rattle.transfer.specs.Preparing.{copy_link, tried, raised_item, raised_items, lowered_item, lowered_items, copied_w, handle_entry_w, entry_w, entries_w, refuse_spent_r, items_r, transfer_at};
+ghost use Rattle.transfer.specs.Preparing.{copy_link, link_of, tried, raised_item, raised_items, lowered_item, lowered_items, copied_w, handle_entry_w, entry_w, entries_w, refuse_spent_r, items_r, transfer_at};
 
 use authority::Rights;
-use codec::{HandleValue, Koid};
+use codec::{HandleValue, Koid, ReservationId};
+use format::refusal::Refusal;
 use layout::{Shape, field, place, size, value};
-use lookup::{Opened, PreparedHandle, View};
+use lookup::PreparedHandle;
 use object::ObjectRecord;
-use request::Optional;
 
 // Where item j of the row in place x stands; where there is none, the length.
 fn item_place(s: &[u64], sh: Shape, x: u64, j: u64) -> usize
     ensures stands { result ≡ place (length s.now) sh (item x j item_operation) }
     ensures room { result < 2 ^ 62 }
 {
-    if j < size::BATCH_MAX {
-        if x < sh.rows as u64 {
-            let rows = layout::region_of(sh, layout::region::REGION_ROW);
-            return (rows.low + (x * size::ROW_BLOCKS + j + 1) * size::BLOCK_SIZE) as usize;
-        }
+    if j < size::BATCH_MAX && x < sh.rows as u64 {
+        let rows = layout::region_of(sh, layout::region::REGION_ROW);
+        return (rows.low + (x * size::ROW_BLOCKS + j + 1) * size::BLOCK_SIZE) as usize;
     }
     s.len()
 }
 
-// The handle h moves, in item j of the row in place x; its receiver gets the rights r.
+// The handle h moves, in item j of the row in place x; its receiver gets the rights r. Six words of one item: its place is computed once, which
+// six calls of `layout::put_item` would do six times.
 fn put_moved(s: &mut [u64], sh: Shape, x: u64, j: u64, h: PreparedHandle, r: u64)
     ensures words { s.new ≡ moved_w s.old sh x j h r }
 {
@@ -57,6 +57,7 @@ fn put_moved(s: &mut [u64], sh: Shape, x: u64, j: u64, h: PreparedHandle, r: u64
 }
 
 // The slot that item j of the claim in place x moves is TransferReserved by it; a copy marks none.
+#[tactic(auto, unfolding(crate::specs::Ops::mark_item_w))]
 fn mark_item(s: &mut [u64], sh: Shape, b: u64, x: u64, j: u64)
     ensures words { s.new ≡ mark_item_w s.old sh b x j }
 {
@@ -67,6 +68,7 @@ fn mark_item(s: &mut [u64], sh: Shape, b: u64, x: u64, j: u64)
 }
 
 // So for its first n items.
+#[tactic(auto, using(crate::specs::Code::marked_next, crate::specs::Code::marked_none))]
 fn mark_items(s: &mut [u64], sh: Shape, b: u64, x: u64, n: u64)
     ensures words { s.new ≡ marked_w s.old sh b x 0 n }
 {
@@ -76,6 +78,7 @@ fn mark_items(s: &mut [u64], sh: Shape, b: u64, x: u64, n: u64)
 }
 
 // A claim of table b opens, whose n items stand in its place already, and marks the slots that they move.
+#[tactic(auto, unfolding(crate::specs::Ops::claim_w))]
 fn open_claim(s: &mut [u64], sh: Shape, b: u64, n: u64)
     ensures words { s.new ≡ claim_w s.old sh b n }
 {
@@ -84,32 +87,33 @@ fn open_claim(s: &mut [u64], sh: Shape, b: u64, n: u64)
     mark_items(s, sh, b, x, n);
 }
 
-// "Consumption: 16, 1, 2 or 3, 5, 4, 2, 12": from 5 on; 0 for no refusal.
-fn consume_refusal(
+// "Consumption: 16, 1, 2 or 3, 5, 4, 2, 12": from 5 on.
+#[tactic(auto, unfolding(crate::specs::Ops::consume_refusal))]
+fn check_consumption(
     s: &[u64],
     sh: Shape,
     h: PreparedHandle,
     required: Rights,
     kind: u64,
     koid: Koid,
-) -> u64
-    ensures { result ≡ consume_refusal (loadAt s.now sh) h required.0 kind koid.0 }
+) -> Result<(), Refusal>
+    ensures { number_of result ≡ consume_refusal (loadAt s.now sh) h required.0 kind koid.0 }
 {
-    let held = Rights(h.rights);
-    if held.contains(required) {
-        let info = lookup::info_of(s, sh, h);
-        if info.kind == kind {
-            if info.koid.0 == koid.0 {
-                return book::id_refusal(s, sh);
-            }
-            return format::refusal::INVALID_HANDLE;
-        }
-        return format::refusal::WRONG_OBJECT_TYPE;
+    if !Rights(h.rights).contains(required) {
+        return Err(Refusal::AccessDenied);
     }
-    format::refusal::ACCESS_DENIED
+    let info = lookup::info_of(s, sh, h);
+    if info.kind != kind {
+        return Err(Refusal::WrongObjectType);
+    }
+    if info.koid.0 != koid.0 {
+        return Err(Refusal::InvalidHandle);
+    }
+    book::id_left(s, sh)
 }
 
 // The rest of `prepare_consumption`, on the handle found.
+#[tactic(auto, unfolding(crate::specs::Ops::consumed_r))]
 fn consume_handle(
     s: &mut [u64],
     sh: Shape,
@@ -118,24 +122,19 @@ fn consume_handle(
     required: Rights,
     kind: u64,
     koid: Koid,
-    out: &mut [u64],
-    base: usize,
-)
-    ensures { both s.new out.new ≡ consumed_r s.old out.old sh base b required.0 kind koid.0 h }
+) -> Result<ReservationId, Refusal>
+    ensures { Gives s.new (reply id_words result) (λ os base. consumed_r s.old os sh base b required.0 kind koid.0 h) }
 {
-    let n = consume_refusal(s, sh, h, required, kind, koid);
-    if n == 0 {
-        let id = layout::root_word(s, sh, field::ROOT_NEXT_ID);
-        let x = book::spare_place(s, sh);
-        put_moved(s, sh, x, 0, h, h.rights);
-        open_claim(s, sh, b, 1);
-        answer::say1(out, base, id);
-        return;
-    }
-    answer::refuse(out, base, n);
+    check_consumption(s, sh, h, required, kind, koid)?;
+    let id = layout::root_word(s, sh, field::ROOT_NEXT_ID);
+    let x = book::spare_place(s, sh);
+    put_moved(s, sh, x, 0, h, h.rights);
+    open_claim(s, sh, b, 1);
+    Ok(ReservationId(id))
 }
 
 // "Consumption: 16, 1, 2 or 3, 5, 4, 2, 12": the handle is the one entry of a claim, with all its rights.
+#[tactic(auto, unfolding(crate::specs::Ops::consumption_r, lookup::specs::View::open_of))]
 pub fn prepare_consumption(
     s: &mut [u64],
     sh: Shape,
@@ -144,36 +143,23 @@ pub fn prepare_consumption(
     required: Rights,
     kind: u64,
     koid: Koid,
-    out: &mut [u64],
-    base: usize,
-)
-    ensures { both s.new out.new ≡ consumption_r s.old out.old sh base b v.0 required.0 kind koid.0 }
+) -> Result<ReservationId, Refusal>
+    ensures { Gives s.new (reply id_words result) (λ os base. consumption_r s.old os sh base b v.0 required.0 kind koid.0) }
 {
-    let n = lookup::table_refusal(s, sh, b);
-    if n == 0 {
-        if book::row_left(s, sh) {
-            match lookup::open_handle(s, sh, b, v) {
-                Opened::Refused(k) => {
-                    answer::refuse(out, base, k);
-                }
-                Opened::Handle(h) => {
-                    consume_handle(s, sh, b, h, required, kind, koid, out, base);
-                }
-            }
-            return;
-        }
-        answer::refuse(out, base, format::refusal::ALLOCATION);
-        return;
+    lookup::active_table(s, sh, b)?;
+    if !book::row_left(s, sh) {
+        return Err(Refusal::Allocation);
     }
-    answer::refuse(out, base, n);
+    let h = lookup::find_handle(s, sh, b, v)?;
+    consume_handle(s, sh, b, h, required, kind, koid)
 }
 
 // What a transfer bars: classes by its route, an object by its koid, and a kind.
 #[derive(Clone, Copy)]
 pub struct TransferRules {
     pub route: u64,
-    pub forbidden_object: Optional,
-    pub forbidden_kind: Optional,
+    pub forbidden_object: Option<u64>,
+    pub forbidden_kind: Option<u64>,
 }
 
 // An item: "One source handle and its attenuated rights in a transfer transaction".
@@ -182,240 +168,178 @@ pub struct HandleTransferRequest {
     pub operation: u64,
     pub value: HandleValue,
     pub rights: Rights,
-    pub offered_rights: Optional,
-    pub offered_kind: Optional,
-    pub expected_kind: Optional,
+    pub offered_rights: Option<u64>,
+    pub offered_kind: Option<u64>,
+    pub expected_kind: Option<u64>,
+}
+
+impl HandleTransferRequest {
+    // Whether the item copies.
+    fn copies(self) -> bool
+        ensures { result ≡ is_copy (operation_of self.operation) }
+    {
+        self.operation != value::OPERATION_MOVE
+    }
 }
 
 // What the transfer whose record stands at a place bars.
 fn read_rules(rq: &[u64], at: usize) -> TransferRules
     ensures { RulesAt rq.now at result }
 {
-    let route = request::field(rq, at, format::field::FIELD_ROUTE);
-    let object = request::find(rq, at, format::field::FIELD_FORBIDDEN_OBJECT);
-    let kind = request::find(rq, at, format::field::FIELD_FORBIDDEN_KIND);
     TransferRules {
-        route: route,
-        forbidden_object: object,
-        forbidden_kind: kind,
+        route: request::field(rq, at, format::field::FIELD_ROUTE),
+        forbidden_object: request::find(rq, at, format::field::FIELD_FORBIDDEN_OBJECT),
+        forbidden_kind: request::find(rq, at, format::field::FIELD_FORBIDDEN_KIND),
     }
+}
+
+// Whether the item whose record stands at a place has no optional field: its words are read where they stand, which `request::field` would
+// count anew from the map for each field.
+#[tactic(auto, unfolding(request::specs::Place::has_map))]
+fn is_plain(rq: &[u64], at: usize) -> bool
+    ensures { result ≡ has_map rq.now at transfer_item_must }
+{
+    at < rq.len() && rq[at] == format::maps::TRANSFER_ITEM_MUST
 }
 
 // The item whose record stands at a place, whatever its map.
+#[tactic(auto, unfolding(crate::specs::Checks::item_by, request::specs::Place::item_at), using(crate::specs::Code::as_found))]
 fn any_item(rq: &[u64], at: usize) -> HandleTransferRequest
     ensures { item_by result ≡ item_at rq.now at }
 {
-    let operation = request::field(rq, at, format::field::FIELD_OP);
-    let value = request::field(rq, at, format::field::FIELD_VALUE);
-    let rights = request::field(rq, at, format::field::FIELD_RIGHTS);
-    let offered_rights = request::find(rq, at, format::field::FIELD_OFFERED_RIGHTS);
-    let offered_kind = request::find(rq, at, format::field::FIELD_OFFERED_KIND);
-    let expected_kind = request::find(rq, at, format::field::FIELD_EXPECTED_KIND);
     HandleTransferRequest {
-        operation: operation,
-        value: HandleValue(value),
-        rights: Rights(rights),
-        offered_rights: offered_rights,
-        offered_kind: offered_kind,
-        expected_kind: expected_kind,
+        operation: request::field(rq, at, format::field::FIELD_OP),
+        value: HandleValue(request::field(rq, at, format::field::FIELD_VALUE)),
+        rights: Rights(request::field(rq, at, format::field::FIELD_RIGHTS)),
+        offered_rights: request::find(rq, at, format::field::FIELD_OFFERED_RIGHTS),
+        offered_kind: request::find(rq, at, format::field::FIELD_OFFERED_KIND),
+        expected_kind: request::find(rq, at, format::field::FIELD_EXPECTED_KIND),
     }
 }
 
-// The item whose record stands at a place; the words of one with no optional field are read where they stand.
+// The item whose record stands at a place.
+#[tactic(auto, unfolding(crate::specs::Checks::item_by), using(crate::specs::Plain::plain_there, crate::specs::Plain::plain_item))]
 fn read_item(rq: &[u64], at: usize) -> HandleTransferRequest
     ensures { item_by result ≡ item_at rq.now at }
 {
-    if at < rq.len() {
-        if rq[at] == format::maps::TRANSFER_ITEM_MUST {
-            let operation = words::word(rq, at + 1);
-            let value = words::word(rq, at + 2);
-            let rights = words::word(rq, at + 3);
-            return HandleTransferRequest {
-                operation: operation,
-                value: HandleValue(value),
-                rights: Rights(rights),
-                offered_rights: Optional::Absent,
-                offered_kind: Optional::Absent,
-                expected_kind: Optional::Absent,
-            };
-        }
+    if is_plain(rq, at) {
+        return HandleTransferRequest {
+            operation: words::word(rq, at + 1),
+            value: HandleValue(words::word(rq, at + 2)),
+            rights: Rights(words::word(rq, at + 3)),
+            offered_rights: None,
+            offered_kind: None,
+            expected_kind: None,
+        };
     }
     any_item(rq, at)
 }
 
 // Its value.
+#[tactic(auto, using(crate::specs::Plain::plain_there, crate::specs::Plain::plain_value))]
 fn item_value(rq: &[u64], at: usize) -> u64
     ensures { result ≡ must (fields_at rq.now at) value_field }
 {
-    if at < rq.len() {
-        if rq[at] == format::maps::TRANSFER_ITEM_MUST {
-            return words::word(rq, at + 2);
-        }
+    if is_plain(rq, at) {
+        return words::word(rq, at + 2);
     }
     request::field(rq, at, format::field::FIELD_VALUE)
 }
 
 // The place after its record.
+#[tactic(auto, using(crate::specs::Plain::plain_there, crate::specs::Plain::plain_end))]
 fn item_end(rq: &[u64], at: usize) -> usize
     ensures { result ≡ end_at rq.now at }
 {
-    if at < rq.len() {
-        if rq[at] == format::maps::TRANSFER_ITEM_MUST {
-            return at + 4;
-        }
+    if is_plain(rq, at) {
+        return at + 4;
     }
     request::record_end(rq, at)
 }
 
-// "Transfer: 16, 17, 13, 1, 12", for n items from table b; 0 for no refusal.
-fn transfer_refusal(s: &[u64], sh: Shape, b: u64, n: u64) -> u64
-    ensures { result ≡ transfer_refusal (loadAt s.now sh) sh b n }
+// "Transfer: 16, 17, 13, 1, 12", for n items from table b.
+#[tactic(auto, unfolding(crate::specs::Checks::transfer_refusal))]
+fn check_transfer(s: &[u64], sh: Shape, b: u64, n: u64) -> Result<(), Refusal>
+    ensures { number_of result ≡ transfer_refusal (loadAt s.now sh) sh b n }
 {
-    let known = lookup::table_refusal(s, sh, b);
-    if known != 0 {
-        return known;
-    }
+    lookup::active_table(s, sh, b)?;
     if n == 0 {
-        return format::refusal::EMPTY_RESERVATION;
+        return Err(Refusal::EmptyReservation);
     }
     if size::BATCH_MAX < n {
-        return format::refusal::RESERVATION_TOO_LARGE;
+        return Err(Refusal::ReservationTooLarge);
     }
-    if book::row_left(s, sh) {
-        return book::id_refusal(s, sh);
+    if !book::row_left(s, sh) {
+        return Err(Refusal::Allocation);
     }
-    format::refusal::ALLOCATION
-}
-
-// Whether a right of those asked for is not held.
-fn lacks(held: Rights, asked: Rights) -> bool
-    ensures { result ≡ not (contains held.0 asked.0) }
-{
-    if held.contains(asked) {
-        return false;
-    }
-    true
-}
-
-// Whether an item copies.
-fn copies(operation: u64) -> bool
-    ensures { result ≡ is_copy (operation_of operation) }
-{
-    operation != value::OPERATION_MOVE
-}
-
-// "a copy without DUPLICATE".
-fn copy_denied(held: Rights, operation: u64) -> bool
-    ensures { result ≡ copy_denied held.0 (operation_of operation) }
-{
-    if copies(operation) {
-        return lacks(held, Rights::DUPLICATE);
-    }
-    false
-}
-
-// "absent rights mean the source's".
-fn rights_offered(offered: Optional, held: Rights) -> Rights
-    ensures { result.0 ≡ or_else (as_option offered) held.0 }
-{
-    match offered {
-        Optional::Word(w) => Rights(w),
-        Optional::Absent => held,
-    }
-}
-
-// A ban that may be absent.
-fn banned(ban: Optional, x: u64) -> bool
-    ensures { result ≡ bans (as_option ban) x }
-{
-    match ban {
-        Optional::Word(w) => w == x,
-        Optional::Absent => false,
-    }
-}
-
-// A kind that may be absent: "any other absence means no test".
-fn differs(kind: Optional, x: u64) -> bool
-    ensures { result ≡ not (agrees (as_option kind) x) }
-{
-    match kind {
-        Optional::Word(w) => w != x,
-        Optional::Absent => false,
-    }
+    book::id_left(s, sh)
 }
 
 // mod.rs `permits`, turned round: Buffered bars RendezvousOnly, every route bars Never.
+#[tactic(auto, unfolding(crate::specs::Checks::route_bars))]
 fn route_bars(route: u64, class: u64) -> bool
     ensures { result ≡ route_bars route class }
 {
-    if class == value::CLASS_LEAF {
-        return false;
+    match class {
+        value::CLASS_LEAF => false,
+        value::CLASS_RENDEZVOUS_ONLY => route == value::ROUTE_BUFFERED,
+        _ => true,
     }
-    if class == value::CLASS_RENDEZVOUS_ONLY {
-        return route == value::ROUTE_BUFFERED;
-    }
-    true
 }
 
-// "5 (rights)" of an item: no TRANSFER, a copy without DUPLICATE, offered beyond the source's, requested beyond the offered.
-fn rights_refusal(held: Rights, q: HandleTransferRequest) -> u64
-    ensures { result ≡ rights_refusal held.0 (item_by q) }
+// "5 (rights)" of an item: no TRANSFER, a copy without DUPLICATE, offered beyond the source's, requested beyond the offered; "absent rights mean the source's".
+#[tactic(auto, unfolding(crate::specs::Checks::rights_refusal, crate::specs::Checks::item_by))]
+fn check_rights(held: Rights, q: HandleTransferRequest) -> Result<(), Refusal>
+    ensures { number_of result ≡ rights_refusal held.0 (item_by q) }
 {
-    if lacks(held, Rights::TRANSFER) {
-        return format::refusal::ACCESS_DENIED;
+    if !held.contains(Rights::TRANSFER) {
+        return Err(Refusal::AccessDenied);
     }
-    if copy_denied(held, q.operation) {
-        return format::refusal::ACCESS_DENIED;
+    if q.copies() && !held.contains(Rights::DUPLICATE) {
+        return Err(Refusal::AccessDenied);
     }
-    let given = q.offered_rights;
-    let offered = rights_offered(given, held);
-    if lacks(held, offered) {
-        return format::refusal::ACCESS_DENIED;
+    let offered = Rights(q.offered_rights.unwrap_or(held.0));
+    if !held.contains(offered) {
+        return Err(Refusal::AccessDenied);
     }
-    let asked = q.rights;
-    if lacks(offered, asked) {
-        return format::refusal::ACCESS_DENIED;
+    if !offered.contains(q.rights) {
+        return Err(Refusal::AccessDenied);
     }
-    format::refusal::DONE
+    Ok(())
 }
 
-// "8 (kind), 5 (object), 8 (route), 4" of an item whose object has the record x.
-fn object_refusal(x: ObjectRecord, q: HandleTransferRequest, t: TransferRules) -> u64
-    ensures { result ≡ object_refusal x t.route (as_option t.forbidden_object) (as_option t.forbidden_kind) (item_by q) }
+// "8 (kind), 5 (object), 8 (route), 4" of an item whose object has the record x; "any other absence means no test".
+#[tactic(auto, unfolding(crate::specs::Checks::object_refusal, crate::specs::Checks::item_by))]
+fn check_object(x: ObjectRecord, q: HandleTransferRequest, t: TransferRules) -> Result<(), Refusal>
+    ensures { number_of result ≡ object_refusal x t.route (as_option t.forbidden_object) (as_option t.forbidden_kind) (item_by q) }
 {
-    let kind = t.forbidden_kind;
-    if banned(kind, x.kind) {
-        return format::refusal::UNSUPPORTED_TRANSFER;
+    if t.forbidden_kind == Some(x.kind) {
+        return Err(Refusal::UnsupportedTransfer);
     }
-    let object = t.forbidden_object;
-    if banned(object, x.koid.0) {
-        return format::refusal::ACCESS_DENIED;
+    if t.forbidden_object == Some(x.koid.0) {
+        return Err(Refusal::AccessDenied);
     }
     if route_bars(t.route, x.class) {
-        return format::refusal::UNSUPPORTED_TRANSFER;
+        return Err(Refusal::UnsupportedTransfer);
     }
-    let offered = q.offered_kind;
-    if differs(offered, x.kind) {
-        return format::refusal::WRONG_OBJECT_TYPE;
+    if q.offered_kind.is_some_and(|kind| kind != x.kind) {
+        return Err(Refusal::WrongObjectType);
     }
-    let expected = q.expected_kind;
-    if differs(expected, x.kind) {
-        return format::refusal::WRONG_OBJECT_TYPE;
+    if q.expected_kind.is_some_and(|kind| kind != x.kind) {
+        return Err(Refusal::WrongObjectType);
     }
-    format::refusal::DONE
+    Ok(())
 }
 
 // What the checks look at of object o, its koid, kind and class, in a record whose other words are 0.
+#[tactic(auto, unfolding(crate::specs::Checks::looked_at))]
 fn look_at(s: &[u64], sh: Shape, o: u64) -> ObjectRecord
     ensures { result ≡ looked_at (loadAt s.now sh) o }
 {
-    let koid = layout::object_word(s, sh, o, field::OBJECT_KOID);
-    let kind = layout::object_word(s, sh, o, field::OBJECT_KIND);
-    let class = layout::object_word(s, sh, o, field::OBJECT_CLASS);
     ObjectRecord {
-        koid: Koid(koid),
-        kind: kind,
-        class: class,
+        koid: Koid(layout::object_word(s, sh, o, field::OBJECT_KOID)),
+        kind: layout::object_word(s, sh, o, field::OBJECT_KIND),
+        class: layout::object_word(s, sh, o, field::OBJECT_CLASS),
         supported: 0,
         exportable: 0,
         stage: 0,
@@ -425,31 +349,28 @@ fn look_at(s: &[u64], sh: Shape, o: u64) -> ObjectRecord
 }
 
 // The checks of an item that names the handle h, from its rights on.
-fn handle_refusal(
+#[tactic(auto, unfolding(crate::specs::Checks::handle_refusal, crate::specs::Checks::object_refusal, crate::specs::Checks::looked_at, object::specs::Words::record_at))]
+fn check_handle(
     s: &[u64],
     sh: Shape,
     h: PreparedHandle,
     q: HandleTransferRequest,
     t: TransferRules,
-) -> u64
-    ensures { result ≡ handle_refusal (loadAt s.now sh) h t.route (as_option t.forbidden_object) (as_option t.forbidden_kind) (item_by q) }
+) -> Result<(), Refusal>
+    ensures { number_of result ≡ handle_refusal (loadAt s.now sh) h t.route (as_option t.forbidden_object) (as_option t.forbidden_kind) (item_by q) }
 {
-    let n = rights_refusal(Rights(h.rights), q);
-    if n != 0 {
-        return n;
-    }
-    let x = look_at(s, sh, h.object);
-    object_refusal(x, q, t)
+    check_rights(Rights(h.rights), q)?;
+    check_object(look_at(s, sh, h.object), q, t)
 }
 
 // Whether a value stands in the first n items: "A value listed twice in one transfer gives InvalidHandle, even if one is Copy".
+#[tactic(auto, unfolding(request::specs::Place::item_at), using(crate::specs::Code::earlier_none, crate::specs::Code::earlier_more, crate::specs::Code::earlier_hit, crate::specs::Code::place_first, request::specs::Laws::place_next))]
 fn listed(rq: &[u64], at: usize, n: u64, v: u64) -> bool
     ensures { result ≡ member v (earlier_at rq.now at n) }
 {
     let mut place = at;
     for i in 0..n {
-        let other = item_value(rq, place);
-        if v == other {
+        if v == item_value(rq, place) {
             return true;
         }
         place = item_end(rq, place);
@@ -458,64 +379,64 @@ fn listed(rq: &[u64], at: usize, n: u64, v: u64) -> bool
 }
 
 // Bits of a word.
-const WORD_BITS: u64 = 64;
+const WORD_BITS: u64 = u64::BITS as u64;
 
-// Whether the bit of a value, by its remainder, stands in a set of bits.
-fn in_set(seen: u64, v: u64) -> bool
-    ensures { result ≡ eqb (bit_of seen v) 1 }
-{
-    let k = v % WORD_BITS;
-    (seen >> k) % 2 == 1
+// A set of values by their remainders: a bit that does not stand tells that no value of that remainder is in it.
+#[derive(Clone, Copy)]
+struct SeenValues(u64);
+
+impl SeenValues {
+    // Whether the bit of a value stands.
+    #[tactic(auto, unfolding(crate::specs::Seen::bit_of))]
+    fn may_have(self, v: u64) -> bool
+        ensures { result ≡ eqb (bit_of self.0 v) 1 }
+    {
+        (self.0 >> (v % WORD_BITS)) % 2 == 1
+    }
+
+    // The set with a value.
+    fn with(self, v: u64) -> SeenValues
+        ensures { result.0 ≡ bit_or self.0 (2 ^ (v % 64)) }
+    {
+        SeenValues(self.0 | 1 << (v % WORD_BITS))
+    }
 }
 
-// The set with that bit.
-fn joined(seen: u64, v: u64) -> u64
-    ensures { result ≡ bit_or seen (2 ^ (v % 64)) }
-{
-    let one: u64 = 1;
-    let k = v % WORD_BITS;
-    seen | (one << k)
-}
-
-// Whether a value stands in the first n items, whose values' bits stand in a set: no item is read where its own bit does not.
-fn twice(rq: &[u64], at: usize, n: u64, seen: u64, v: u64) -> bool
-    requires { Seen rq.now at n seen }
+// Whether a value stands in the first n items, which a set has: no item is read where the set does not have it.
+#[tactic(auto, using(crate::specs::Seen::seen_not))]
+fn twice(rq: &[u64], at: usize, n: u64, seen: SeenValues, v: u64) -> bool
+    requires { Seen rq.now at n seen.0 }
     ensures { result ≡ member v (earlier_at rq.now at n) }
 {
-    if in_set(seen, v) {
-        return listed(rq, at, n, v);
-    }
-    false
+    seen.may_have(v) && listed(rq, at, n, v)
 }
 
-// The checks of an item before which n others stand, in the printed order; 0 for no refusal.
-fn item_refusal(
+// The checks of an item before which n others stand, in the printed order.
+#[tactic(auto, unfolding(crate::specs::Checks::item_refusal, crate::specs::Checks::item_by))]
+fn check_item(
     s: &[u64],
     sh: Shape,
     rq: &[u64],
     at: usize,
     n: u64,
-    seen: u64,
+    seen: SeenValues,
     b: u64,
     q: HandleTransferRequest,
     t: TransferRules,
-) -> u64
-    requires { Seen rq.now at n seen }
-    ensures { result ≡ item_refusal (loadAt s.now sh) b t.route (as_option t.forbidden_object) (as_option t.forbidden_kind) (earlier_at rq.now at n) (item_by q) }
+) -> Result<(), Refusal>
+    requires { Seen rq.now at n seen.0 }
+    ensures { number_of result ≡ item_refusal (loadAt s.now sh) b t.route (as_option t.forbidden_object) (as_option t.forbidden_kind) (earlier_at rq.now at n) (item_by q) }
 {
-    let value = q.value;
-    if twice(rq, at, n, seen, value.0) {
-        return format::refusal::INVALID_HANDLE;
+    if twice(rq, at, n, seen, q.value.0) {
+        return Err(Refusal::InvalidHandle);
     }
-    match lookup::find_handle(s, sh, b, value) {
-        View::Invalid => format::refusal::INVALID_HANDLE,
-        View::Busy => format::refusal::BUSY,
-        View::Holds(h) => handle_refusal(s, sh, h, q, t),
-    }
+    let h = lookup::find_handle(s, sh, b, q.value)?;
+    check_handle(s, sh, h, q, t)
 }
 
 // "item by item": the first refusal of the items, `count` records from `at` on.
-fn items_refusal(
+#[tactic(auto, using(crate::specs::Code::checked_step, crate::specs::Code::number_some))]
+fn check_items(
     s: &[u64],
     sh: Shape,
     rq: &[u64],
@@ -523,98 +444,92 @@ fn items_refusal(
     count: u64,
     b: u64,
     t: TransferRules,
-) -> u64
-    ensures { result ≡ items_refusal (loadAt s.now sh) b t.route (as_option t.forbidden_object) (as_option t.forbidden_kind) [] (items_at rq.now at count) }
+) -> Result<(), Refusal>
+    ensures { number_of result ≡ items_refusal (loadAt s.now sh) b t.route (as_option t.forbidden_object) (as_option t.forbidden_kind) [] (items_at rq.now at count) }
 {
     let mut place = at;
-    let mut seen: u64 = 0;
+    let mut seen = SeenValues(0);
     for i in 0..count {
         let q = read_item(rq, place);
-        let n = item_refusal(s, sh, rq, at, i, seen, b, q, t);
-        if n != 0 {
-            return n;
-        }
-        seen = joined(seen, q.value.0);
+        check_item(s, sh, rq, at, i, seen, b, q, t)?;
+        seen = seen.with(q.value.0);
         place = item_end(rq, place);
     }
-    format::refusal::DONE
+    Ok(())
 }
 
-// The object of the handle that an item copies, plus 1; 0 for an item that moves.
-fn copied_object(s: &[u64], sh: Shape, b: u64, q: HandleTransferRequest) -> u64
-    ensures { result ≡ copy_link (loadAt s.now sh) b (item_by q) }
+// The object of the handle that an item copies; none of an item that moves.
+#[tactic(auto, unfolding(crate::specs::Preparing::copy_link, crate::specs::Checks::item_by))]
+fn copied_object(s: &[u64], sh: Shape, b: u64, q: HandleTransferRequest) -> Option<u64>
+    ensures { link_of result ≡ copy_link (loadAt s.now sh) b (item_by q) }
 {
-    if copies(q.operation) {
-        let value = q.value;
-        return match lookup::find_handle(s, sh, b, value) {
-            View::Invalid => 0,
-            View::Busy => 0,
-            View::Holds(h) => h.object.saturating_add(1),
-        };
+    if !q.copies() {
+        return None;
     }
-    0
+    let h = lookup::find_handle(s, sh, b, q.value).ok()?;
+    Some(h.object)
 }
 
 // The object of an item that copies gets one handle more, or refuses.
-fn raise_item(s: &mut [u64], sh: Shape, b: u64, q: HandleTransferRequest) -> u64
-    ensures { tried result s.new ≡ raised_item s.old sh b (item_by q) }
+#[tactic(auto, unfolding(crate::specs::Preparing::raised_item), using(crate::specs::Code::same_refusal, crate::specs::Code::same_step))]
+fn raise_item(s: &mut [u64], sh: Shape, b: u64, q: HandleTransferRequest) -> Result<(), Refusal>
+    ensures { tried (number_of result) s.new ≡ raised_item s.old sh b (item_by q) }
 {
-    let link = copied_object(s, sh, b, q);
-    if link == 0 {
-        return format::refusal::DONE;
+    if let Some(o) = copied_object(s, sh, b, q) {
+        object::may_raise(s, sh, o)?;
+        object::raise_object(s, sh, o);
     }
-    let o = link.saturating_sub(1);
-    let n = object::raise_refusal(s, sh, o);
-    if n != 0 {
-        return n;
-    }
-    object::raise_object(s, sh, o);
-    format::refusal::DONE
+    Ok(())
 }
 
 // The object of an item that copies has one handle fewer.
+#[tactic(auto, unfolding(crate::specs::Preparing::lowered_item), using(crate::specs::Code::same_step))]
 fn lower_item(s: &mut [u64], sh: Shape, b: u64, q: HandleTransferRequest)
     ensures words { s.new ≡ lowered_item s.old sh b (item_by q) }
 {
-    let link = copied_object(s, sh, b, q);
-    if link == 0 {
-        return;
+    if let Some(o) = copied_object(s, sh, b, q) {
+        object::lower_object(s, sh, o);
     }
-    object::lower_object(s, sh, link.saturating_sub(1));
 }
 
 // So for the first n items. The counts do not depend on the order, so that no record is sought backwards.
+#[tactic(auto, using(crate::specs::Code::lowered_none, crate::specs::Code::lowered_next, crate::specs::Code::place_first, request::specs::Laws::place_next))]
 fn lower_items(s: &mut [u64], sh: Shape, rq: &[u64], at: usize, n: u64, b: u64)
     ensures words { s.new ≡ lowered_items s.old sh b (items_at rq.now at n) }
 {
     let mut place = at;
-    let mut more = n;
-    while 0 < more {
+    for i in 0..n {
         let q = read_item(rq, place);
         lower_item(s, sh, b, q);
         place = item_end(rq, place);
-        more -= 1;
     }
 }
 
 // Each copy's object gets one handle more, in order. Where one refuses, those before it are lowered again.
-fn raise_items(s: &mut [u64], sh: Shape, rq: &[u64], at: usize, count: u64, b: u64) -> u64
-    ensures { tried result s.new ≡ raised_items s.old sh b [] (items_at rq.now at count) }
+#[tactic(auto, using(crate::specs::Code::items_none, crate::specs::Code::place_first, request::specs::Laws::place_next))]
+fn raise_items(
+    s: &mut [u64],
+    sh: Shape,
+    rq: &[u64],
+    at: usize,
+    count: u64,
+    b: u64,
+) -> Result<(), Refusal>
+    ensures { tried (number_of result) s.new ≡ raised_items s.old sh b [] (items_at rq.now at count) }
 {
     let mut place = at;
     for i in 0..count {
         let q = read_item(rq, place);
-        let n = raise_item(s, sh, b, q);
-        if n != 0 {
+        if let Err(refusal) = raise_item(s, sh, b, q) {
             lower_items(s, sh, rq, at, i, b);
-            return n;
+            return Err(refusal);
         }
         place = item_end(rq, place);
     }
-    format::refusal::DONE
+    Ok(())
 }
 
-// A copy of the handle h with the rights r, in item j of the row in place x.
+// A copy of the handle h with the rights r, in item j of the row in place x. By places, as in `put_moved`.
 fn put_copied(s: &mut [u64], sh: Shape, x: u64, j: u64, h: PreparedHandle, r: u64)
     ensures words { s.new ≡ copied_w s.old sh x j h r }
 {
@@ -626,6 +541,7 @@ fn put_copied(s: &mut [u64], sh: Shape, x: u64, j: u64, h: PreparedHandle, r: u6
 }
 
 // An item that names the handle h, as its claim keeps it, in item j of the row in place x.
+#[tactic(auto, unfolding(crate::specs::Preparing::handle_entry_w, crate::specs::Checks::item_by))]
 fn put_handle_entry(
     s: &mut [u64],
     sh: Shape,
@@ -636,28 +552,25 @@ fn put_handle_entry(
 )
     ensures words { s.new ≡ handle_entry_w s.old sh x j (item_by q) h }
 {
-    if copies(q.operation) {
+    if q.copies() {
         put_copied(s, sh, x, j, h, q.rights.0);
-        return;
+    } else {
+        put_moved(s, sh, x, j, h, q.rights.0);
     }
-    put_moved(s, sh, x, j, h, q.rights.0);
 }
 
 // So for the handle that its value names.
+#[tactic(auto, unfolding(crate::specs::Preparing::entry_w, crate::specs::Checks::item_by))]
 fn put_entry(s: &mut [u64], sh: Shape, b: u64, x: u64, j: u64, q: HandleTransferRequest)
     ensures words { s.new ≡ entry_w s.old sh b x j (item_by q) }
 {
-    let value = q.value;
-    match lookup::find_handle(s, sh, b, value) {
-        View::Invalid => {}
-        View::Busy => {}
-        View::Holds(h) => {
-            put_handle_entry(s, sh, x, j, h, q);
-        }
+    if let Ok(h) = lookup::find_handle(s, sh, b, q.value) {
+        put_handle_entry(s, sh, x, j, h, q);
     }
 }
 
 // So for every item, in the row that opens next.
+#[tactic(auto, using(crate::specs::Code::entries_none, crate::specs::Code::entries_next, crate::specs::Code::place_first, request::specs::Laws::place_next))]
 fn put_entries(s: &mut [u64], sh: Shape, rq: &[u64], at: usize, count: u64, b: u64)
     ensures words { s.new ≡ entries_w s.old sh b (spare (loadAt s.old sh)) 0 (items_at rq.now at count) }
 {
@@ -671,14 +584,16 @@ fn put_entries(s: &mut [u64], sh: Shape, rq: &[u64], at: usize, count: u64, b: u
 }
 
 // A refusal from the id step on: the id is spent, and nothing else.
-fn refuse_spent(s: &mut [u64], sh: Shape, n: u64, out: &mut [u64], base: usize)
-    ensures { both s.new out.new ≡ refuse_spent_r s.old out.old sh base n }
+#[tactic(auto, unfolding(crate::specs::Preparing::refuse_spent_r))]
+fn refuse_spent(s: &mut [u64], sh: Shape, refusal: Refusal) -> Result<ReservationId, Refusal>
+    ensures { Gives s.new (reply id_words result) (λ os base. refuse_spent_r s.old os sh base (number refusal)) }
 {
     book::spend_id(s, sh);
-    answer::refuse(out, base, n);
+    Err(refusal)
 }
 
 // The rest of `prepare_transfer`, from the id step on.
+#[tactic(auto, unfolding(crate::specs::Preparing::items_r, crate::specs::Preparing::opened_r), using(crate::specs::Code::items_length, crate::specs::Code::number_some))]
 fn prepare_items(
     s: &mut [u64],
     sh: Shape,
@@ -687,30 +602,42 @@ fn prepare_items(
     count: u64,
     b: u64,
     t: TransferRules,
-    out: &mut [u64],
-    base: usize,
-)
-    ensures { both s.new out.new ≡ items_r s.old out.old sh base b t.route (as_option t.forbidden_object) (as_option t.forbidden_kind) (items_at rq.now at count) }
+) -> Result<ReservationId, Refusal>
+    ensures { Gives s.new (reply id_words result) (λ os base. items_r s.old os sh base b t.route (as_option t.forbidden_object) (as_option t.forbidden_kind) (items_at rq.now at count)) }
 {
-    let n = items_refusal(s, sh, rq, at, count, b, t);
-    if n != 0 {
-        refuse_spent(s, sh, n, out, base);
-        return;
+    if let Err(refusal) = check_items(s, sh, rq, at, count, b, t) {
+        return refuse_spent(s, sh, refusal);
     }
-    let k = raise_items(s, sh, rq, at, count, b);
-    if k != 0 {
-        refuse_spent(s, sh, k, out, base);
-        return;
+    if let Err(refusal) = raise_items(s, sh, rq, at, count, b) {
+        return refuse_spent(s, sh, refusal);
     }
     let id = layout::root_word(s, sh, field::ROOT_NEXT_ID);
     put_entries(s, sh, rq, at, count, b);
     open_claim(s, sh, b, count);
-    answer::say1(out, base, id);
+    Ok(ReservationId(id))
 }
 
 // "Transfer: 16, 17, 13, 1, 12; then item by item 2 (twice), 2 or 3 (lookup), 5 (rights), 8 (kind), 5 (object), 8 (route), 4; then copies
 // 9, 11". The request's record stands at `at` in the request list, and its items after it.
+#[tactic(auto, unfolding(crate::specs::Preparing::transfer_at, crate::specs::Preparing::transfer_r), using(crate::specs::Code::items_length, crate::specs::Code::number_some))]
 pub fn prepare_transfer(
+    s: &mut [u64],
+    sh: Shape,
+    rq: &[u64],
+    at: usize,
+) -> Result<ReservationId, Refusal>
+    ensures { Gives s.new (reply id_words result) (λ os base. transfer_at s.old os sh base rq.now at) }
+{
+    let b = request::field(rq, at, format::field::FIELD_TABLE);
+    let count = request::field(rq, at, format::field::FIELD_COUNT);
+    check_transfer(s, sh, b, count)?;
+    let t = read_rules(rq, at);
+    let first = request::record_end(rq, at);
+    prepare_items(s, sh, rq, first, count, b, t)
+}
+
+// The request of a list at a place.
+pub fn serve_prepare_transfer(
     s: &mut [u64],
     sh: Shape,
     rq: &[u64],
@@ -720,19 +647,14 @@ pub fn prepare_transfer(
 )
     ensures { both s.new out.new ≡ transfer_at s.old out.old sh base rq.now at }
 {
-    let b = request::field(rq, at, format::field::FIELD_TABLE);
-    let count = request::field(rq, at, format::field::FIELD_COUNT);
-    let n = transfer_refusal(s, sh, b, count);
-    if n != 0 {
-        answer::refuse(out, base, n);
-        return;
+    match prepare_transfer(s, sh, rq, at) {
+        Ok(id) => answer::say(out, base, &[id.0]),
+        Err(refusal) => answer::refuse(out, base, refusal),
     }
-    let t = read_rules(rq, at);
-    let first = request::record_end(rq, at);
-    prepare_items(s, sh, rq, first, count, b, t, out, base);
 }
 
 // The request of a list at a place: its fields are read.
+#[tactic(auto, unfolding(request::specs::Place::three_at))]
 pub fn serve_prepare_consumption(
     s: &mut [u64],
     sh: Shape,
@@ -759,20 +681,8 @@ pub fn serve_prepare_consumption(
         format::field::FIELD_KOID,
         format::field::NO_FIELD,
     );
-    let table = f.a;
-    let value = f.b;
-    let rights = f.c;
-    let kind = g.a;
-    let koid = g.b;
-    prepare_consumption(
-        s,
-        sh,
-        table,
-        HandleValue(value),
-        Rights(rights),
-        kind,
-        Koid(koid),
-        out,
-        base,
-    );
+    match prepare_consumption(s, sh, f.a, HandleValue(f.b), Rights(f.c), g.a, Koid(g.b)) {
+        Ok(id) => answer::say(out, base, &[id.0]),
+        Err(refusal) => answer::refuse(out, base, refusal),
+    }
 }

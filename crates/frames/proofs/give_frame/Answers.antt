@@ -1,6 +1,8 @@
-use Rattle.frames.specs.Ops.{give_is}
+use Rattle.storage.specs.Ops.{up}
+use Rattle.frames.specs.Ops.{give_frame_w}
 use borrow.Author.Rules.{rules}
 use Rattle.frames.proofs.give_frame.Goals as goal
 
 pub returns : goal.returns
-returns c = record { words = give_is c.args.s.now _ c.args.sh c.args.f _ _ _ _ _ _ _ _ c.load.ensures c.load-2.ensures c.load-3.ensures c.root_word.ensures c.saturating_add-a.ensures c.saturating_add-b.ensures c.saturating_add-c.ensures c.saturating_add-n.ensures c.put_pool.ensures }
+unfolding give_frame_w
+returns c = record { words = c.count_frame.ensures up (λ x r p. search rules) }

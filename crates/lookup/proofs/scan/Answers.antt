@@ -1,4 +1,4 @@
-use Rattle.std.proofs.Common.{refl, ap, ◌∙◌, ◌≡◌, ◌≤◌, ◌<◌, ◌+◌, ◌-◌, ℕ, eq-eqb, ne_eqb, arith}
+use Rattle.std.proofs.Common.{refl, ap, ◌∙◌, ◌≡◌, ◌+◌, ◌-◌, ℕ, eq-eqb, ne_eqb, arith}
 use Rattle.model.specs.State.{max_slots}
 use Rattle.layout.specs.Layout.{load}
 use Rattle.lookup.specs.Scan.{ended_of}
@@ -19,16 +19,20 @@ returns-then-len-ge-SCAN_ENTRIES-clause-page c = scan_end _ _ _ _ _ _ _ _ c.loop
 pub loop-at-preserved-then-tag_in-ne-TAG_OCCUPIED : goal.loop-at-preserved-then-tag_in-ne-TAG_OCCUPIED
 unfolding max_slots
 loop-at-preserved-then-tag_in-ne-TAG_OCCUPIED c =
-    let e : c.min-stop.result - (c.loop-at.at + 1) ≡ c.min-stop.result - c.loop-at.at - 1 = omega arith in
-    (omega arith, λ h. frame_next (load c.args.s.now c.args.sh) c.args.b _ _ (omega (arith, c.table_length-length.ensures, c.min-stop.ensures)) c.frame_on-fr.ensures,
-    rw e (scan_past _ _ _ _ _ _ _ _ c.loop-at.invariant.2 (omega arith) (omega arith) _ _ _ c.frame_on-fr.ensures c.tag_in.ensures refl (ne_eqb _ _ c.if-tag_in-ne-TAG_OCCUPIED.true)))
+    let e : c.min-stop.result - (c.loop-at.at + 1) ≡ c.min-stop.result - c.loop-at.at - 1 = omega arith in (
+      omega arith,
+      λ h. frame_next (load c.args.s.now c.args.sh) c.args.b _ _ (omega (arith, c.table_length-length.ensures, c.min-stop.ensures)) c.frame_on-fr.ensures,
+      rw e (scan_past _ _ _ _ _ _ _ _ c.loop-at.invariant.2 (omega arith) (omega arith) _ _ _ c.frame_on-fr.ensures c.tag_in.ensures refl (ne_eqb _ _ c.if-tag_in-ne-TAG_OCCUPIED.true)),
+    )
 
 pub loop-at-preserved : goal.loop-at-preserved
 unfolding max_slots
 loop-at-preserved c =
-    let e : c.min-stop.result - (c.loop-at.at + 1) ≡ c.min-stop.result - c.loop-at.at - 1 = omega arith in
-    (omega arith, λ h. frame_next (load c.args.s.now c.args.sh) c.args.b _ _ (omega (arith, c.table_length-length.ensures, c.min-stop.ensures)) c.frame_on-fr.ensures,
-    rw e (scan_took _ _ _ _ _ _ _ _ c.loop-at.invariant.2 (omega arith) (omega arith) _ _ _ c.frame_on-fr.ensures c.tag_in.ensures refl _ _ _ (eq-eqb _ _ c.if-tag_in-ne-TAG_OCCUPIED.false) c.head_word-mask.ensures c.cell_in-w.ensures c.snapshot_by.ensures))
+    let e : c.min-stop.result - (c.loop-at.at + 1) ≡ c.min-stop.result - c.loop-at.at - 1 = omega arith in (
+      omega arith,
+      λ h. frame_next (load c.args.s.now c.args.sh) c.args.b _ _ (omega (arith, c.table_length-length.ensures, c.min-stop.ensures)) c.frame_on-fr.ensures,
+      rw e (scan_took _ _ _ _ _ _ _ _ c.loop-at.invariant.2 (omega arith) (omega arith) _ _ _ c.frame_on-fr.ensures c.tag_in.ensures refl _ _ _ (eq-eqb _ _ c.if-tag_in-ne-TAG_OCCUPIED.false) c.head_word-mask.ensures c.cell_in-w.ensures c.snapshot_by.ensures),
+    )
 
 pub returns-clause-page : goal.returns-clause-page
 returns-clause-page c =

@@ -1,12 +1,6 @@
-use borrow.Author.Rules.{rules}
-use mathlib.Core.Path.{◌≡◌, refl}
-use lib.ListN.{length}
-use Rattle.parcel.specs.Publishing.{ids_at, published_w}
-use Rattle.parcel.specs.PublishCode.{published_turn, published_end}
+use Rattle.std.proofs.Common.{◌≡◌}
+use Rattle.parcel.specs.Publishing.{ids_left, published_w}
 use Rattle.parcel.proofs.fill_slots.Given as goal
 
-abbrev pub invariant-loop-more : goal.invariant-loop-more
-invariant-loop-more l = (length l.s ≡ length l.initial.s) × (published_w l.initial.s l.sh l.b l.x 0 (ids_at l.rq l.at l.count) ≡ published_w l.s l.sh l.b l.x l.p (ids_at l.rq l.place l.more))
-
-abbrev pub decreases-loop-more : goal.decreases-loop-more
-decreases-loop-more l = l.more
+abbrev pub invariant-loop-id : goal.invariant-loop-id
+invariant-loop-id l = published_w l.fn.s l.sh l.b l.x 0 (ids_left l.parcels) ≡ published_w l.s l.sh l.b l.x l.p (ids_left l.id-iterator)

@@ -1,19 +1,17 @@
-use Rattle.std.proofs.Common.{eq-eqb, ne_eqb}
-use borrow.Author.Rules.{rules}
+use Rattle.std.proofs.Common.{rules, tests, ◌≡◌, ℕ, List, [], ◌∷◌, refl, eqb, ◌∙◌}
+use Rattle.std.specs.List.{list_any}
+use Rattle.std.proofs.lemmas.Iterator.Consumers.{YieldsList-from_first}
+use Rattle.std.proofs.lemmas.Iterator.Search.{any_from_yields_List}
+use Rattle.words.specs.Pick.{bool}
 use Rattle.model.specs.Base.{member}
-use mathlib.Core.Path.{◌≡◌, refl}
-use Rattle.parcel.specs.Publishing.{ids_at}
-use Rattle.parcel.specs.PublishCode.{named_end, named_yes, named_turn}
+use Rattle.parcel.specs.Publishing.{ids_left}
 use Rattle.parcel.proofs.named.Goals as goal
 
-pub loop-more-init : goal.loop-more-init
-loop-more-init c = refl
-
-pub returns-then-id-other : goal.returns-then-id-other
-returns-then-id-other c = named_yes c.args.rq.now _ c.args.id _ _ c.loop-more.invariant c.loop-more-test.true _ c.item_id-other.ensures _ refl (eq-eqb _ _ c.if-id-other.true)
-
-pub loop-more-preserved : goal.loop-more-preserved
-loop-more-preserved c = named_turn c.args.rq.now _ c.args.id _ _ c.loop-more.invariant c.loop-more-test.true _ c.item_id-other.ensures _ refl _ (ne_eqb _ _ c.if-id-other.false) c.item_end-place.ensures
+any_member : (k : ℕ) (xs : List ℕ) → list_any (λ x. eqb k x) xs ≡ member k xs
+any_member k [] = refl
+any_member k (x ∷ xs) = bool (eqb k x) (λ e. rw e) (λ e. rw e (any_member k xs))
 
 pub returns : goal.returns
-returns c = named_end c.args.rq.now _ c.args.id _ _ c.loop-more.invariant c.loop-more-test.false
+returns c =
+    any_from_yields_List (λ x. eqb c.args.id x) c.any.new.self _ _ c.any.ensures.ran (YieldsList-from_first (λ x. x) ids_left {s = c.args.parcels} _ refl) (λ x b q k. search (rules, tests))
+    ∙ any_member c.args.id _

@@ -1,5 +1,4 @@
 use Rattle.transfer.specs.Stored.{copied_by}
-use borrow.Author.Rules.{rules}
 use Rattle.transfer.proofs.put_copied.Goals as goal
 
 pub returns : goal.returns

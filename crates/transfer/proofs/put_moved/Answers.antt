@@ -1,5 +1,4 @@
 use Rattle.transfer.specs.Stored.{moved_by}
-use borrow.Author.Rules.{rules}
 use Rattle.transfer.proofs.put_moved.Goals as goal
 
 pub returns : goal.returns

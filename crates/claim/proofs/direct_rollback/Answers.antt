@@ -1,9 +1,0 @@
-use Rattle.claim.specs.Code.{undirect_none, undirect_done}
-use borrow.Author.Rules.{rules}
-use Rattle.claim.proofs.direct_rollback.Goals as goal
-
-pub returns-then-paired : goal.returns-then-paired
-returns-then-paired c = undirect_done c.args.s.now c.args.out.now c.args.sh c.args.base c.args.id.0 c.args.destination.0 _ _ _ c.claim_of-l.ensures c.reservation_of-k.ensures c.paired.ensures _ _ _ c.if-paired.true c.saturating_sub.ensures c.rollback_row.ensures.words c.abort.ensures
-
-pub returns : goal.returns
-returns c = undirect_none c.args.s.now c.args.out.now c.args.sh c.args.base c.args.id.0 c.args.destination.0 _ _ _ c.claim_of-l.ensures c.reservation_of-k.ensures c.paired.ensures _ c.if-paired.false c.refuse.ensures

@@ -1,6 +1,0 @@
-use Rattle.request.specs.Laws.{three_read}
-use Rattle.claim.specs.Ops.{direct_commit_r}
-use Rattle.claim.proofs.serve_direct_commit.Goals as goal
-
-pub returns : goal.returns
-returns c = three_read (λ x y z. direct_commit_r c.args.s.now c.args.out.now c.args.sh c.args.base x y) _ _ _ _ _ _ c.read_three-f.ensures c.direct_commit.ensures
