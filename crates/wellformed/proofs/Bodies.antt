@@ -44,12 +44,15 @@ module _ (m : Mem) (sh : Shape) (h : ℕ) (eh : h ≡ counted (book_b m sh) (hel
   unfolding quiet_b
   no_book z = rw (counted_none (book_b m sh) (held_frames m) h eh z)
 
-  module _ (some : h ≡ 0 → ⊥) (a : Bool) (ea : a ≡ outline_b m sh (h - 1)) where
+  module _ (k : ℕ) (eh' : h ≡ suc k) (a : Bool) (ea : a ≡ outline_b m sh k) where
     book : (book_b m sh ≡ true) × (h - 1 ≡ held_frames m)
-    book = counted_is (book_b m sh) (held_frames m) h eh some
+    book = counted_is (book_b m sh) (held_frames m) h eh (λ z. omega arith)
+
+    held : k ≡ held_frames m
+    held = omega (arith, book.1)
 
     outline : a ≡ outline_b m sh (held_frames m)
-    outline = ea ∙ ap (outline_b m sh) book.1
+    outline = ea ∙ ap (outline_b m sh) held
 
     rest : (r : Bool) → r ≡ (outline_b m sh (held_frames m) && (orders_b m sh && objects_b m sh)) → r ≡ quiet_b m sh
     unfolding quiet_b

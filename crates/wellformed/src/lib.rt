@@ -22,11 +22,8 @@ fn check_parts(s: &[u64], sh: Shape) -> Option<u64>
     requires { total sh ≤ length s.now }
     ensures { result ≡ read_if (quiet_b (loadAt s.now sh) sh) (used_to (loadAt s.now sh) sh.objects) }
 {
-    let book = ledger::check_book(s, sh);
-    if book == 0 {
-        return None;
-    }
-    if !structure::check_outline(s, sh, book - 1) {
+    let held = ledger::check_book(s, sh)?;
+    if !structure::check_outline(s, sh, held) {
         return None;
     }
     if !orders::check_orders(s, sh) {

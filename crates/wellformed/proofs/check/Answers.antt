@@ -13,10 +13,10 @@ pub check_parts-requires : goal.check_parts-requires
 check_parts-requires c = omega (arith, c.total_of-t.ensures)
 
 pub check_handles-requires : goal.check_handles-requires
-check_handles-requires c = record { sh_in_bounds = omega (arith, c.total_of-t.ensures); sh_value = read_used (quiet_b (load c.args.s.now c.args.sh) c.args.sh) (used_to (load c.args.s.now c.args.sh) c.args.sh.objects) _ _ c.check_parts.ensures c.in-Used.is }
+check_handles-requires c = record { sh_in_bounds = omega (arith, c.total_of-t.ensures); sh_value = read_used (quiet_b (load c.args.s.now c.args.sh) c.args.sh) (used_to (load c.args.s.now c.args.sh) c.args.sh.objects) _ _ c.check_parts.ensures c.in-Some.is }
 
-pub returns-in-Bad : goal.returns-in-Bad
-returns-in-Bad c = record { kept = refl; answer = no_parts c.args.s.now c.args.sh _ c.check_parts.ensures c.in-Bad.is }
+pub returns-in-None : goal.returns-in-None
+returns-in-None c = record { kept = refl; answer = no_parts c.args.s.now c.args.sh _ c.check_parts.ensures c.in-None.is }
 
-pub returns-in-Used : goal.returns-in-Used
-returns-in-Used c = record { kept = c.check_handles.ensures.kept; answer = c.check_handles.ensures.answer }
+pub returns-in-Some : goal.returns-in-Some
+returns-in-Some c = record { kept = c.check_handles.ensures.kept; answer = c.check_handles.ensures.answer }
