@@ -127,7 +127,7 @@ fn walk_frame(
             return false;
         }
         note_slot(s, sh, c);
-        count += structure::present(c.tag);
+        count += u64::from(c.tag != 0);
         j = k + 1;
     }
     count == w
@@ -171,7 +171,7 @@ fn walk_table(s: &mut [u64], sh: Shape, used: u64, b: u64) -> bool
     let mut p: u32 = 0;
     while (p as u64) < n {
         let page = walk_page(s, sh, b, bound, e, p);
-        ok = counts::both(ok, page);
+        ok &= page;
         p += 1;
     }
     ok
@@ -188,7 +188,7 @@ pub fn walk_slots(s: &mut [u64], sh: Shape, used: u64) -> bool
     let mut ok = true;
     for b in 0..n {
         let table = walk_table(s, sh, used, b);
-        ok = counts::both(ok, table);
+        ok &= table;
     }
     ok
 }

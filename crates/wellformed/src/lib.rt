@@ -43,7 +43,7 @@ fn check_handles(s: &mut [u64], sh: Shape, used: u64) -> bool
     let slots = survey::walk_slots(s, sh, used);
     let top = counts::note_rows(s, sh, used);
     let counted = counts::settle(s, sh, top);
-    counts::both(slots, counted)
+    slots & counted
 }
 
 // Whether the words of a shape represent a well-formed state.

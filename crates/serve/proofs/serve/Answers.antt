@@ -56,7 +56,7 @@ returns-in-13 c = at_op _ 13 _ _ _ _ _ _ _ c.in-13.is c.serve_scan_handles.ensur
 
 pub returns-in-14 : goal.returns-in-14
 unfolding serve_r
-returns-in-14 c = at_op _ 14 _ _ _ _ _ _ _ c.in-14.is c.prepare_transfer.ensures
+returns-in-14 c = at_op _ 14 _ _ _ _ _ _ _ c.in-14.is c.serve_prepare_transfer.ensures
 
 pub returns-in-15 : goal.returns-in-15
 unfolding serve_r

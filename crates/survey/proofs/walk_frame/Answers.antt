@@ -42,7 +42,7 @@ pub note_slot-requires : goal.note_slot-requires
 note_slot-requires c = record { object_lt_objects = λ e. omega (arith, c.requires.bound_le_objects, slot_holds _ c.args.sh _ _ _ _ _ _ c.slot_ok.ensures (not-false _ c.if-not-slot_ok.false-raw) e); sh_in_bounds = omega (arith, c.requires.sh_in_bounds) }
 
 pub overflow_add-count-in-loop-j : goal.overflow_add-count-in-loop-j
-overflow_add-count-in-loop-j c = omega (arith, c.present-count.ensures, bit_small (not (eqb c.cell_in-c.result.tag 0)), c.walk_held-k.ensures.within.0, c.walk_held-k.ensures.within.1, c.requires.n_le_page_size.0)
+overflow_add-count-in-loop-j c = omega (arith, c.from-count.ensures, bit_small (not (eqb c.cell_in-c.result.tag 0)), c.walk_held-k.ensures.within.0, c.walk_held-k.ensures.within.1, c.requires.n_le_page_size.0)
 
 pub overflow_add-j : goal.overflow_add-j
 overflow_add-j c = omega (arith, c.walk_held-k.ensures.within.0, c.walk_held-k.ensures.within.1, c.requires.n_le_page_size.0)
@@ -51,7 +51,7 @@ pub loop-j-smaller : goal.loop-j-smaller
 loop-j-smaller c = omega (arith, c.walk_held-k.ensures.within.0, c.walk_held-k.ensures.within.1, c.requires.n_le_page_size.0)
 
 pub loop-j-preserved : goal.loop-j-preserved
-loop-j-preserved c = (omega (arith, c.walk_held-k.ensures.within.0, c.walk_held-k.ensures.within.1, c.requires.n_le_page_size.0), search rules, done_more c.args.s.now _ _ c.args.sh c.args.b c.args.p c.args.bound c.args.high c.args.f c.walk_held-k.result _ _ _ _ _ _ (further_by _ c.args.sh c.args.b c.args.p c.args.bound c.args.high c.args.f c.loop-j.j _ c.args.s.now _ c.loop-j.count _ c.walk_held-k.ensures.noted c.loop-j.invariant.2 refl) c.cell_in-c.ensures refl c.slot_ok.ensures (not-false _ c.if-not-slot_ok.false-raw) c.note_slot.ensures c.present-count.ensures refl, omega (arith, c.present-count.ensures, bit_small (not (eqb c.cell_in-c.result.tag 0)), c.walk_held-k.ensures.within.0, c.walk_held-k.ensures.within.1, c.requires.n_le_page_size.0))
+loop-j-preserved c = (omega (arith, c.walk_held-k.ensures.within.0, c.walk_held-k.ensures.within.1, c.requires.n_le_page_size.0), search rules, done_more c.args.s.now _ _ c.args.sh c.args.b c.args.p c.args.bound c.args.high c.args.f c.walk_held-k.result _ _ _ _ _ _ (further_by _ c.args.sh c.args.b c.args.p c.args.bound c.args.high c.args.f c.loop-j.j _ c.args.s.now _ c.loop-j.count _ c.walk_held-k.ensures.noted c.loop-j.invariant.2 refl) c.cell_in-c.ensures refl c.slot_ok.ensures (not-false _ c.if-not-slot_ok.false-raw) c.note_slot.ensures c.from-count.ensures refl, omega (arith, c.from-count.ensures, bit_small (not (eqb c.cell_in-c.result.tag 0)), c.walk_held-k.ensures.within.0, c.walk_held-k.ensures.within.1, c.requires.n_le_page_size.0))
 
 pub returns : goal.returns
 returns c = record { noted = noted_end c.args.s.now _ c.args.sh c.args.f c.loop-j.j c.loop-j.invariant.2.0 c.args.b c.args.p c.args.bound c.args.high c.args.n c.loop-j.invariant.2.1 (omega arith); answer = slots_end (load c.args.s.now c.args.sh) c.args.sh c.args.b c.args.p c.args.bound c.args.high c.args.f c.args.n c.args.w c.loop-j.j c.loop-j.count c.loop-j.invariant.2.1 c.loop-j.invariant.2.2 (omega arith) }

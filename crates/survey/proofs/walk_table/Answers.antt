@@ -21,7 +21,7 @@ pub overflow_add-p : goal.overflow_add-p
 overflow_add-p c = omega (arith, c.min-n.ensures)
 
 pub loop-p-preserved : goal.loop-p-preserved
-loop-p-preserved c = (search rules, search rules, turn_more c.args.sh unit (λ (m : Mem) (k : ℕ). page_found m c.args.sh c.args.b c.bound_of-bound.result c.head_word-e.result k) (λ m n h k. page_found_same m n h c.args.sh c.args.b c.bound_of-bound.result c.head_word-e.result k) c.args.s.now _ _ _ c.loop-p.invariant.2 c.walk_page-page.ensures.noted, test_more c.args.sh unit (λ (m : Mem) (k : ℕ). page_b m c.args.sh c.args.b c.bound_of-bound.result c.head_word-e.result k) (λ m n h k. page_same m n h c.args.sh c.args.b c.bound_of-bound.result c.head_word-e.result k) c.args.s.now _ (gather c.loop-p.p (page_found (load c.args.s.now c.args.sh) c.args.sh c.args.b c.bound_of-bound.result c.head_word-e.result)) _ _ _ _ c.loop-p.invariant.3 c.loop-p.invariant.2 c.walk_page-page.ensures.answer c.both-ok.ensures)
+loop-p-preserved c = (search rules, search rules, turn_more c.args.sh unit (λ (m : Mem) (k : ℕ). page_found m c.args.sh c.args.b c.bound_of-bound.result c.head_word-e.result k) (λ m n h k. page_found_same m n h c.args.sh c.args.b c.bound_of-bound.result c.head_word-e.result k) c.args.s.now _ _ _ c.loop-p.invariant.2 c.walk_page-page.ensures.noted, test_more c.args.sh unit (λ (m : Mem) (k : ℕ). page_b m c.args.sh c.args.b c.bound_of-bound.result c.head_word-e.result k) (λ m n h k. page_same m n h c.args.sh c.args.b c.bound_of-bound.result c.head_word-e.result k) c.args.s.now _ (gather c.loop-p.p (page_found (load c.args.s.now c.args.sh) c.args.sh c.args.b c.bound_of-bound.result c.head_word-e.result)) _ _ _ _ c.loop-p.invariant.3 c.loop-p.invariant.2 c.walk_page-page.ensures.answer refl)
 
 pub returns : goal.returns
 returns c = record { noted = found_by c.args.s.now c.args.sh c.args.used c.args.b _ _ _ _ _ _ c.head_word-life.ensures c.head_word-size.ensures c.head_word-e.ensures c.bound_of-bound.ensures c.min-n.ensures (turn_end c.args.sh unit (λ (m : Mem) (k : ℕ). page_found m c.args.sh c.args.b c.bound_of-bound.result c.head_word-e.result k) (λ m n h k. page_found_same m n h c.args.sh c.args.b c.bound_of-bound.result c.head_word-e.result k) c.args.s.now _ c.loop-p.p c.min-n.result c.loop-p.invariant.2 (omega arith)); answer = table_by (load c.args.s.now c.args.sh) c.args.sh c.args.used c.args.b _ _ _ _ _ _ c.head_word-life.ensures c.head_word-size.ensures c.head_word-e.ensures c.bound_of-bound.ensures c.min-n.ensures (test_end c.args.sh unit (λ (m : Mem) (k : ℕ). page_b m c.args.sh c.args.b c.bound_of-bound.result c.head_word-e.result k) (λ m n h k. page_same m n h c.args.sh c.args.b c.bound_of-bound.result c.head_word-e.result k) c.args.s.now c.loop-p.p c.min-n.result _ c.loop-p.invariant.3 (omega arith)) }
