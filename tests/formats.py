@@ -1,7 +1,7 @@
 #!/usr/bin/env python3
 """Compares docs/formats.md with the constants of crates/format and with the definitions that the model reads requests by: fields with their bits and kinds,
-op numbers and names, must and may maps, the items' maps, the numbers of refusals (the enum's, its definition's and the answers' that stand for none), and the order of the model's table of
-requests. Then its tables of the state's words with the names
+op numbers and names, must and may maps, the items' maps, the numbers of refusals, and the order of the model's table of requests. Of the enums of refusals and of kinds each variant must have
+its line in the definition that gives its number, and no other. Then its tables of the state's words with the names
 of crates/layout: regions, each field's word, each word that stands for a case, sizes and limits. Then with the C headers. WRONG has slips of the page: each is made in memory and must be found."""
 import collections
 import re
