@@ -48,19 +48,32 @@ def skip(text, at):
     return at
 
 
+def past_generics(text, at):
+    """The place after a name's `<..>`, where it has that: a `>` of an arrow closes nothing."""
+    if at >= len(text) or text[at] != "<":
+        return at
+    depth = 0
+    for i in range(at, len(text)):
+        depth += (text[i] == "<") - (text[i] == ">" and text[i - 1] != "-")
+        if depth == 0:
+            return skip(text, i + 1)
+    raise Unread("`<` is not closed")
+
+
 class Function:
     """One function of a text that is blanked: `before` is what stands between the last `;`, `{` or `}` and its `fn`."""
 
     def __init__(self, text, start):
         self.before = re.split(r"[;{}]", text[:start])[-1]
-        head = re.compile(r"fn\s+(\w+)\s*(?:<[^>]*>)?\s*").match(text, start)
+        head = re.compile(r"fn\s+(\w+)\s*").match(text, start)
         self.name = head.group(1) if head else "?"
         self.public = re.search(r"\bpub\b", self.before) is not None
         self.outside = re.search(r'\bextern\b|\bno_mangle\b', self.before) is not None
-        if not head or text[head.end()] != "(":
+        first = past_generics(text, head.end()) if head else len(text)
+        if text[first : first + 1] != "(":
             raise Unread("no parameters after its name")
-        end = balanced(text, head.end(), "(", ")")
-        self.parameters = text[head.end() + 1 : end - 1]
+        end = balanced(text, first, "(", ")")
+        self.parameters = text[first + 1 : end - 1]
         at = skip(text, end)
         self.result = ""
         if text.startswith("->", at):
@@ -204,6 +217,11 @@ FORMS = [  # name, text, what must be found ("" for nothing)
     ("an ensures that says nothing of the result", "pub fn free(x: u64) -> u64\n    ensures { ⊤ }\n{\n    x\n}\n" + GOOD, "free has no ensures that speaks of its result"),
     ("an ensures of something called after the result", "pub fn free(x: u64) -> u64\n    ensures { x ≡ x.result }\n{\n    x\n}\n" + GOOD, "free has no ensures that speaks of its result"),
     ("an ensures that leaves lent words free", "pub fn free(s: &mut [u64])\n    ensures { s.old ≡ s.old }\n{\n}\n" + GOOD, "free has no ensures that speaks of what `s` refers to"),
+    ("a private generic function beside right ones", "fn step<F: FnOnce(Rights) -> Result<u64, Vec<u64>>, const N: usize>(f: F) -> u64 { 0 }\n" + GOOD, ""),
+    ("a function of a closure with no clause", "pub fn silent<F: FnOnce(u64) -> u64>(f: F) -> u64 {\n    f(1)\n}\n" + GOOD, "silent has no ensures"),
+    ("a function with a const parameter with no clause", "pub fn silent<const N: usize>(x: [u64; N]) -> [u64; N] {\n    x\n}\n" + GOOD, "silent has no ensures"),
+    ("a function of a closure that leaves lent words free", "pub fn free<F: Fn(&mut [u64], u64) -> u64>(s: &mut [u64], f: F) -> u64\n    ensures { result ≡ 0 }\n{\n    0\n}\n" + GOOD, "free has no ensures that speaks of what `s` refers to"),
+    ("a generic function with a requires", "pub fn asks<F: Fn(u64) -> Option<u64>>(f: F) -> u64\n    requires { F.IsAlwaysCallable f }\n    ensures { result ≡ 0 }\n{\n    0\n}\n" + GOOD, "asks has a requires"),
     ("a C function's assumed contract", 'unsafe extern "C" { fn magic() -> u64 ensures { result ≡ 8 }; }\n' + GOOD, "magic can't be read"),
 ]
 LIBRARY = """

@@ -1,6 +1,7 @@
 #!/usr/bin/env python3
 """Compares docs/formats.md with the constants of crates/format and with the definitions that the model reads requests by: fields with their bits and kinds,
-op numbers and names, must and may maps, the items' maps, the numbers of refusals, and the order of the model's table of requests. Then its tables of the state's words with the names
+op numbers and names, must and may maps, the items' maps, the numbers of refusals, and the order of the model's table of requests. Of the enums of refusals and of kinds each variant must have
+its line in the definition that gives its number, and no other. Then its tables of the state's words with the names
 of crates/layout: regions, each field's word, each word that stands for a case, sizes and limits. Then with the C headers. WRONG has slips of the page: each is made in memory and must be found."""
 import collections
 import re
@@ -13,6 +14,8 @@ source = {name: (root / "crates/format/src" / f"{name}.rt").read_text() for name
 spec = (root / "crates/format/specs/Format.antt").read_text()
 fields = (root / "crates/format/specs/Fields.antt").read_text()
 ops = (root / "crates/format/specs/Ops.antt").read_text()
+kinds = (root / "crates/format/specs/Kinds.antt").read_text()
+numbers = (root / "crates/format/specs/Refusals.antt").read_text()
 model = (root / "crates/model/specs/Words.antt").read_text()
 limits = {name: int(number) for name, number in re.findall(r"^(\w+) = (\d+)$", (root / "crates/model/specs/State.antt").read_text(), flags=re.M)}
 layout = root / "crates/layout"
@@ -60,6 +63,24 @@ WRONG = [
 def constant(text, name):
     found = re.search(r"const %s: \S+ = ([\d_]+);" % name, text)
     return int(found.group(1).replace("_", "")) if found else None
+
+
+def variants(text, name):
+    """The variants of an enum, in their order, each with its number (None where it is given none). Another item than a variant is a fault."""
+    found, out = re.search(r"^pub enum %s \{\n(.*?)^\}" % name, text, flags=re.S | re.M), []
+    for line in re.sub(r"//.*", "", found.group(1)).splitlines() if found else ():
+        item = re.fullmatch(r" {4}(\w+)(?: = (\d+))?,", line.rstrip())
+        if item:
+            out.append((item.group(1), int(item.group(2)) if item.group(2) else None))
+        elif line.strip():
+            out.append((line.strip(), "no variant"))
+    return out
+
+
+def cases_of(text, name):
+    """The cases of a definition over an enum, in their order: its variant, and what it gives."""
+    found = re.search(r"^abbrev pub %s : [^\n]*\n((?:%s [^\n]*\n)*)" % (name, name), text + "\n", flags=re.M)
+    return re.findall(r"^%s (.+) = (.+)$" % name, found.group(1), flags=re.M) if found else []
 
 
 def array(name):
@@ -177,9 +198,13 @@ class Compare:
             if field_kinds[-1] in largest:
                 same(f"the largest word of field {name}", malformed.strip(), f"above {largest[field_kinds[-1]]:,}")
         same("the fields", len(self.bits), 18)
-        kind_names = dict(zip("any_word number32 a_koid a_route an_op an_operation zero_word".split(), "WORD NUMBER_32 KOID ROUTE OP OPERATION ZERO".split()))
-        for name, word in kind_names.items():
-            same(f"the kind {name}", defined(fields, name), constant(source["field"], "KIND_" + word))
+        kind_names = dict(zip("any_word number32 a_koid a_route an_op an_operation zero_word".split(), "Word Number32 Koid Route Op Operation Zero".split()))
+        of_kind = dict(cases_of(kinds, "kind_number"))
+        for number, (name, word) in enumerate(kind_names.items()):
+            same(f"the kind {name}", defined(fields, name), number)
+            same(f"the definition of the kind {word}", of_kind.get(word), name)
+        same("the kinds, in their order", variants(source["field"], "FieldKind"), [(word, None) for word in kind_names.values()])
+        same("the definitions of the kinds", len(cases_of(kinds, "kind_number")), len(kind_names))
         for name in ("number_32_max", "route_last", "operation_last"):
             same(f"{name} in the definitions", defined(fields, snake_of(name)), constant(source["size"], name.upper()))
         found = re.search(r"\nfield_kinds =(.*?)∷ \[\]", spec, flags=re.S)
@@ -211,8 +236,14 @@ class Compare:
             for part, value in (("MUST", int(must)), ("MAY", int(may))):
                 same(f"{item.upper()}_ITEM_{part}", constant(source["maps"], f"{item.upper()}_ITEM_{part}"), value)
                 same(f"{item}_item_{part.lower()}", definition(f"{item}_item_{part.lower()}"), value)
-        for number, word in enumerate(REFUSALS):
-            same(f"the number {word}", constant(source["refusal"], upper(word)), number)
+        enum, of_refusal = variants(source["refusal"], "Refusal"), dict(cases_of(numbers, "number"))
+        same("the number Done", constant(source["refusal"], "DONE"), 0)
+        same("the number Done in the definitions", cases_of(numbers, "number_of"), [("(Ok a)", "0"), ("(Err e)", "number e")])
+        for number, word in list(enumerate(REFUSALS))[1:]:
+            same(f"the number {word}", dict(enum).get(word), number)
+            same(f"the number {word} in the definitions", of_refusal.get(word), str(number))
+        same("the refusals", [word for word, _ in enum], REFUSALS[1:])
+        same("the definitions of the refusals", [word for word, _ in cases_of(numbers, "number")], REFUSALS[1:])
         for number, word in self.find(r"(?<![\d,])(\d+) (%s)\b" % "|".join(REFUSALS[1:])):
             same(f"the number {word}, on the page", int(number), REFUSALS.index(word))
         same("ANSWER_WORDS", constant(source["size"], "ANSWER_WORDS"), 72)

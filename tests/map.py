@@ -19,7 +19,8 @@ from viewer.crates import above, below, dependencies  # noqa: E402
 PAGE = root / "docs" / "map.md"
 DEPS = dependencies()
 START, OP, FOLLOWED = ("runner", "gurtxozal_run"), "serve_close", ("runner", "serve", "close")  # the request whose way is drawn, and the crates whose functions are followed
-SMALL = ("words", "layout")  # reads of lent words: left out of the way, but for what START calls
+SMALL = ("words", "layout")  # reads of lent words: left out of the way, but for what the call itself (CALL) asks for
+CALL = (START, ("runner", "run"))
 
 # The way of the proof: file, name that stands there, what it says, and a name that the file must have
 PROOF = [
@@ -97,9 +98,9 @@ def calls(at):
 def way(at=START, depth=0):
     """The way of the request, a function on each line."""
     yield "  " * depth + "::".join(at), FUNCTIONS[at][0]
-    if at[0] in FOLLOWED or at == ("lookup", "open_handle") or at == ("lookup", "open_value"):
+    if at[0] in FOLLOWED or at in (("lookup", "open_handle"), ("lookup", "find_handle")):
         for to in calls(at):
-            if (at != ("serve", "serve") or to[1] == OP) and (to[0] not in SMALL or at == START):
+            if (at != ("serve", "serve") or to[1] == OP) and (to[0] not in SMALL or at in CALL):
                 yield from way(to, depth + 1)
 
 

@@ -3,11 +3,13 @@
 
 What is a fault, with file, line and numeral:
 
-  a  a field argument that is no name of crates/layout's field.rt, and one of a record's field that is no name of crates/format's. A function has a field argument if it hands a
-     parameter on as one; the first are layout's place_in and request's field_in. An accessor of ACCESSORS takes fields of its own record
+  a  a field argument that is no name of crates/layout's field.rt, and one of a record's field that is no name of crates/format's. A function, or a closure that has a name, has a field
+     argument if it hands a parameter on as one, or each of an array's in turn; the first are layout's place_in and request's field_in. Of an array each of its words is looked at. An
+     accessor of ACCESSORS takes fields of its own record
   b  a numeral compared with, stored in, or passed as a word that stands for a case: a name of CASES, what a field of CASE_FIELDS holds, what is compared with a name of value.rt,
-     and parameters that are given such a word; and one stored in a state's word by its place
-  c  an arm of a match that is a numeral
+     and parameters that are given such a word; and one stored in a state's word by its place. The ends of a range that is asked for a word, and what a match or `matches!` asks it for, are
+     compared with it
+  c  an arm of a match that is a numeral, or has one, or what `matches!` asks for
   d  a numeral in an index of the state's words, but what is taken off
   e  any other numeral above 1
   f  a numeral in a constant that is made of no other
@@ -43,7 +45,7 @@ HIGHEST = 2**64 - 1
 STATE = {"s", "state"}  # what functions call the state's words
 ONE_WORD = {"REGION_OWNER", "REGION_GROUP_16", "REGION_GROUP_256", "REGION_GROUP_4096"}  # regions whose things have one word, field 0
 NO_CASES = {"KNOWN_FLAGS"}  # of value.rt
-ANY_WORD = {"words", "layout", "answer", "request", ("structure", "present")}  # crates and functions that are given any word
+ANY_WORD = {"words", "layout", "answer", "request"}  # crates and functions that are given any word
 # Functions that must have a field argument, by crate; and the record whose fields it is
 ACCESSORS = """layout: load save place_in
 layout ROOT: root_word put_root
@@ -55,7 +57,7 @@ layout ROW: row_word put_row
 layout ITEM: item_word put_item
 storage ENTRY: page_word put_page put_page_link
 storage SLOT: frame_word put_frame slot_word put_slot_word put_slot_link
-request: field_in field find read_three fits_too"""
+request: field_in field has find field_known fields_found fields_known read_fields read_three fit_one"""
 RECORDS = {(line.split()[0], name): line.split(":")[0].split()[1] for line in ACCESSORS.splitlines() if " " in line.split(":")[0] for name in line.split(": ")[1].split()}
 GROUPS = "free frames are counted in groups of 16, of 256 and of 4,096 (docs/formats.md, the regions)"
 PARAMETERS = "creation's parameters: 4 words, 2 for each table, 6 for each object (docs/formats.md)"
@@ -68,44 +70,43 @@ BITS = "the bits of a word"
 REPLAY = "the replaying program's own: its input's bytes and records, its rooms"
 # What may stand: file, texts, reason. A text stands for each place where it stands, in whatever lines.
 EXCUSED = [
-    ("answer/src/lib.rt", ["answer_put(out, base, 2, b)", "answer_put(out, base, 3, c)", "answer_put(out, base, 4, d)", "answer_put(out, base, 5, e)", "answer_put(out, base, 6, f)", "answer_put(out, base, 7, g)"], ANSWER),
     ("authority/src/lib.rt", ["const NONE: Rights = Rights(0);", "Rights = Rights(1);", "Rights = Rights(2);", "const PROPAGATION_MASK: u64 = 3;", "= PropagationRights(1);", "= PropagationRights(2);"], DOCUMENT_01),
     ("basket/src/main.rt", ["total(&[420, 180, 950]) == 1550", "total(&[950, 420, 180]) == 1550"], "prices of an example"),
     ("book/src/lib.rt", ["let half = n / 2;"], HALF),
     ("codec/src/lib.rt", ["const SLOT_LIMIT: u64 = 16_777_214;", "const GENERATION_LIMIT: u64 = 4_294_967_295;", "const PREFIX: u64 = 0x4800_0000_0000_0000;", "const PREFIX_MASK: u64 = 0xff00_0000_0000_0000;", "const PAYLOAD_MASK: u64 = 0x00ff_ffff_ffff_ffff;", "const GENERATION_UNIT: u64 = 0x100_0000;"], DOCUMENT_01),
     ("counts/src/lib.rt", ["exportable / 2 != 0"], HALF),
+    ("counts/src/lib.rt", ["s[at] == 0 && object_ok"], "an object's active count, which is a number"),
     ("create/src/lib.rt", ["4 + (b as usize) * 2", "4 + (k as usize) * 2", "4 + (t as u32) * 2", "base + (k as u32) * 6", "4 + t * 2 + o * 6", "4 + (sh.tables as usize) * 2 + (o as usize) * 6"], PARAMETERS),
     ("create/src/lib.rt", ["words::word(p, 2)", "words::word(p, 3)", "words::word(p, i + 2)", "words::word(p, i + 4)", "words::word(p, i + 5)", "words::word(p, at + 2)", "words::word(p, at + 3)", "words::word(p, at + 4)", "words::word(p, at + 5)"], PARAMETERS),
-    ("create/src/lib.rt", ["layout::region::REGION_GROUP_16, 16, ((f + 15) / 16)", "layout::region::REGION_GROUP_256, 256, ((f + 255) / 256)", "layout::region::REGION_GROUP_4096, 4096, ((f + 4095) / 4096)"], GROUPS),
-    ("create/src/lib.rt", ["words::put(s, k as usize, 0)"], "every word is 0 before creation"),
+    ("create/src/lib.rt", ["region::REGION_GROUP_16, 16", "region::REGION_GROUP_256, 256", "region::REGION_GROUP_4096, 4096"], GROUPS),
     ("frames/src/lib.rt", ["from ≤ 1000000"], "more than a scan of groups comes to: so sums stay words"),
     ("frames/src/lib.rt", ["k) from 16", "from + 16", "c * 16", "b * 16", "a * 16", "layout::region::REGION_GROUP_16, f / 16", "layout::region::REGION_GROUP_256, f / 256", "layout::region::REGION_GROUP_4096, f / 4096"], GROUPS),
     ("growth/src/lib.rt", ["+ (j as u64) + 2"], "the slot after, as a link: each plus 1"),
     ("layout/src/lib.rt", ["(f + 15) / 16", "(f + 255) / 256", "(f + 4095) / 4096"], GROUPS),
-    ("lookup/src/lib.rt", ["answer_put(out, base, i + 2, x.info.kind)", "answer_put(out, base, i + 3, x.info.rights)", "answer_put(out, base, i + 4, x.info.flags)", "put_entry(out, base, 5 + k * 5, x)", "base 5 (entry_list"], ANSWER),
+    ("lookup/src/lib.rt", ["answer_put(out, base, i + 2, x.info.kind)", "answer_put(out, base, i + 3, x.info.rights)", "answer_put(out, base, i + 4, x.info.flags)", "put_entry(out, base, 5 + k * 5, *entry)", "base 5 (entry_list", "pub fn words(self) -> [u64; 4]"], ANSWER),
     ("lookup/src/lib.rt", [".examined ≤ 256"], "the most slots that a scan looks at, format's SCAN_SLOTS (document 01)"),
-    ("parcel/src/lib.rt", ["words::word(rq, at + 2)", "return at + 3;"], RECORD),
+    ("parcel/src/lib.rt", ["words::word(rq, at + 2)", "end: at + 3,"], RECORD),
     ("replay/src/main.rt", ["const PATTERN: u64 = 0x5c5c_c5c5_5c5c_c5c5;", "const FILL: u64 = 0xa5a5_5a5a_a5a5_5a5a;", "[u64; 16384]", "[0; 16384]", "[u64; 512]", "[0; 512]"], REPLAY),
     ("replay/src/main.rt", ["b as u16 * 256", "b as u32 * 65536", "b as u64 * 4294967296", "b: &[u8; 8]", "pair(b[2], b[3])", "pair(b[4], b[5]), pair(b[6], b[7])", "[0u8; 8]", "if n < 8 {"], REPLAY),
     ("replay/src/main.rt", ["16384 ≡ length result", "512 ≡ length result", "a + 256 * b", "a + 65536 * b", "a + 4294967296 * b"], REPLAY),
     ("replay/src/main.rt", ["kind == 1", "kind == 2", "kind == 3", "kind == 4"], REPLAY),
     ("request/src/lib.rt", ["map % 2 == 1"], HALF),
     ("request/src/lib.rt", ["bit < 64"], BITS),
-    ("request/src/lib.rt", ["const NARROW: u64 = 251_456;"], "the map of the fields that do not take every word, by name here"),
-    ("reserve/src/lib.rt", ["answer_put(out, base, (j + 3) as usize, v.0)", "base 3 (values_at"], ANSWER),
+    ("reserve/src/lib.rt", ["answer_put(out, base, (j + 3) as usize, value.0)", "base 3 (values_at"], ANSWER),
     ("runner/src/lib.rt", ["called 20"], DOCUMENT_01),
     ("lookup/src/lib.rt", ["tag: 0,"], NO_FRAME),
-    ("storage/src/lib.rt", ["tag: 0,"], NO_FRAME),
-    ("structure/src/lib.rt", ["(16 * size)", "while i < 16 {", "(g as u32) * 16", "16, ((f + 15) / 16)", "16, ((f + 255) / 256)", "256, ((f + 4095) / 4096)"], GROUPS),
+    ("lookup/src/lib.rt", ["const NO_ENTRY: SnapshotEntry = SnapshotEntry { value: HandleValue(0), info: HandleInfo { koid: Koid(0), kind: 0, rights: 0, flags: 0, }, };"], "the entry of no handle, whose words are all 0"),
+    ("structure/src/lib.rt", ["(16 * size)", "{ size < 4096 }", "for i in 0..16 {", "(g as u32) * 16", "groups_ok(s, sh, 0, 16)", "sums_ok(s, sh, 0, 16)", "sums_ok(s, sh, 1, 256)"], GROUPS),
     ("transfer/src/lib.rt", ["words::word(rq, at + 2)", "words::word(rq, at + 3)", "return at + 4;"], RECORD),
     ("transfer/src/lib.rt", ["exportable: 0, stage: 0, count: 0"], "a record of which three other words are looked at"),
-    ("transfer/src/lib.rt", ["const WORD_BITS: u64 = 64;", "(v % 64)"], BITS),
-    ("transfer/src/lib.rt", ["(seen >> k) % 2"], HALF),
+    ("transfer/src/lib.rt", ["(v % 64)"], BITS),
+    ("transfer/src/lib.rt", ["(self.0 >> (v % WORD_BITS)) % 2"], HALF),
     ("wellformed/src/lib.rt", ["let _ = words::word(s, 0);"], "any word: what it holds is not used"),
 ]
 EXCEPTIONS = [(f"crates/{file}", text, reason) for file, texts, reason in EXCUSED for text in texts]
 OPERATORS = {"==", "!=", "<", ">", "<=", ">="}
 OPEN, CLOSE = {"(": ")", "[": "]", "{": "}"}, {")", "]", "}"}
+BEFORE_CLOSURE = {"(", "[", "{", ",", ";", "=", "=>", "&&", "||", "return", "move", "else"}
 TOKEN = re.compile(
     r"(?P<number>(?:0x[0-9a-fA-F_]+?|\d[\d_]*?)(?:[ui](?:8|16|32|64|128)|usize|isize)?(?![\w]))|(?P<name>[A-Za-z_]\w*)"
     r"|(?P<sign>::|->|=>|==|!=|<=|>=|<<=|>>=|<<|>>|&&|\|\||\.\.=|\.\.|[-+*/%&|^]=|[^\s\w])"
@@ -178,9 +179,23 @@ def parts(tokens, closing, start, end):
 
 
 class Function:
-    def __init__(self, crate, name, params, start, end):
-        self.crate, self.name, self.params, self.start, self.end = crate, name, params, start, end
+    """A function, or a closure in one (`outer`): `name` is what it is bound to, if to anything. `same` has a local name and the name whose words it has, or in turn has: `let a = b;`, `for a in &b`."""
+
+    def __init__(self, crate, name, params, start, end, outer=None):
+        self.crate, self.name, self.params, self.start, self.end, self.outer, self.same = crate, name, params, start, end, outer, {}
         self.field, self.bits, self.cases = None, set(), {p for p in params if p in CASE_PARTS}
+
+    def whose(self, name):
+        """The function or closure whose a name is: the innermost that has it as a parameter, or else the function."""
+        return self if name in self.params or self.outer is None else self.outer.whose(name)
+
+    def first(self, name):
+        """The name whose words a local name has, and the function or closure whose it is."""
+        holder, seen = self.whose(name), set()
+        while name not in holder.params and name in holder.same and name not in seen:
+            seen.add(name)
+            name = holder.same[name]
+        return holder, name
 
 
 Call = collections.namedtuple("Call", "target args at inside")
@@ -197,14 +212,94 @@ class Source:
         self.functions, self.calls = [], []
         t = self.tokens
         for at, token in enumerate(t):
-            if token.text == "fn" and at + 2 < len(t) and t[at + 2].text == "(":
-                close = self.closing[at + 2]
-                params = [next((t[p].text for p in part if t[p].kind == "name" and t[p].text != "mut"), "") for part in parts(t, self.closing, at + 3, close)]
+            if token.text == "fn" and at + 2 < len(t) and t[at + 1].kind == "name":
+                first = self.past_generics(at + 2)
+                if t[first].text != "(":
+                    sys.exit(f"{file}:{token.line}: a function whose parameters are not found")
+                close = self.closing[first]
                 body = close + 1
                 while body < len(t) and t[body].text not in ("{", ";"):
                     body = self.closing.get(body, body) + 1
-                self.functions.append(Function(self.crate, t[at + 1].text, params, body, self.closing.get(body, body)))
+                self.functions.append(Function(self.crate, t[at + 1].text, self.params(first + 1, close), body, self.closing.get(body, body)))
         self.inside = {at: f for f in self.functions for at in range(f.start, f.end + 1)}
+        self.closures = []
+        for at in range(1, len(t)):
+            if t[at].text in ("|", "||") and t[at - 1].text in BEFORE_CLOSURE and at in self.inside and not (t[at - 1].text in ("(", "{", ",") and self.in_pattern(at)):
+                self.closure(at)
+        self.paths = self.imports()
+        for f in self.functions:
+            self.locals(f)
+
+    def params(self, start, end):
+        """The names of parameters, each the first name of what stands between two commas."""
+        return [next((self.tokens[p].text for p in part if self.tokens[p].kind == "name" and self.tokens[p].text != "mut"), "") for part in parts(self.tokens, self.closing, start, end)]
+
+    def past_generics(self, at):
+        """The place after `<..>`, where a name has that."""
+        t, depth = self.tokens, 0
+        while t[at].text == "<" or depth:
+            depth += {"<": 1, ">": -1, ">>": -2}.get(t[at].text, 0)
+            at = self.closing.get(at, at) + 1
+        return at
+
+    def in_pattern(self, at):
+        """Whether a `|` begins an arm of a match: an arrow comes before the next comma, and no other `|`'s body."""
+        p = at + 1
+        while p < len(self.tokens) and self.tokens[p].text not in ("=>", ",", ";", "{", "}", ")"):
+            p = self.closing.get(p, p) + 1
+        return self.tokens[p].text == "=>"
+
+    def closure(self, at):
+        """Notes the closure that begins at a place: its body ends before the next comma or bracket."""
+        t, close = self.tokens, at
+        if t[at].text == "|":
+            close = at + 1
+            while t[close].text != "|":
+                close = self.closing.get(close, close) + 1
+        body = end = close + 1
+        while end < len(t) and t[end].text not in (",", ";") and t[end].text not in CLOSE:
+            end = self.closing.get(end, end) + 1
+        bound = t[at - 2].text if t[at - 1].text == "=" and t[at - 2].kind == "name" else ""
+        made = Function(self.crate, bound, self.params(at + 1, close) if close > at else [], body, end - 1, self.inside[at])
+        self.closures.append(made)
+        self.inside.update((p, made) for p in range(body, end))
+
+    def imports(self):
+        """What each imported name stands for, as a path."""
+        t, out = self.tokens, {}
+
+        def tree(at, before):
+            """One path of an import, from a place on."""
+            path = list(before)
+            while True:
+                if t[at].text == "{":
+                    for part in parts(t, self.closing, at + 1, self.closing[at]):
+                        tree(part[0], path)
+                    return
+                path += [t[at].text] if t[at].text != "self" or not path else []
+                if t[at + 1].text != "::":
+                    break
+                at += 2
+            out[t[at + 2].text if t[at + 1].text == "as" else path[-1]] = path
+
+        for at, token in enumerate(t):
+            if token.text == "use" and token.kind == "name":
+                tree(at + 1, [])
+        return out
+
+    def locals(self, function):
+        """Which local names have the words of another name."""
+        t = self.tokens
+        for at in range(function.start, function.end):
+            words = [x.text for x in t[at : at + 9]]
+            if words[0] == "let":
+                words = [w for w in words if w != "mut"]
+                if len(words) > 4 and words[2] == "=" and words[4] == ";" and re.fullmatch(r"[a-z_]\w*", words[3]):
+                    function.same[words[1]] = words[3]
+            elif words[0] == "for" and words[2] == "in":
+                words = [w for w in words if w not in ("mut", "&")]
+                if words[4] == "{" and re.fullmatch(r"[a-z_]\w*", words[3]):
+                    function.same[words[1]] = words[3]
 
     def text(self, places):
         return [self.tokens[p].text for p in places]
@@ -214,27 +309,33 @@ class Source:
 
     def find_calls(self, known):
         t = self.tokens
-        imported = {}
         for at, token in enumerate(t):
-            if token.text == "use" and at + 4 < len(t) and t[at + 2].text == "::" and t[at + 4].text == ";":
-                imported[t[at + 3].text] = t[at + 1].text
-        for at, token in enumerate(t):
-            if token.kind != "name" or at + 1 >= len(t) or t[at + 1].text != "(" or at and t[at - 1].text in ("fn", "."):
+            opening = at + 1
+            if token.kind == "name" and at + 2 < len(t) and t[at + 1].text == "::" and t[at + 2].text == "<":
+                opening = self.past_generics(at + 2)
+            if token.kind != "name" or opening >= len(t) or t[opening].text != "(" or at and t[at - 1].text in ("fn", "."):
                 continue
-            crate = self.crate if (self.crate, token.text) in known else imported.get(token.text)
+            path = self.paths.get(token.text, ())
+            crate = self.crate if (self.crate, token.text) in known else path[0] if len(path) == 2 else None
             if at > 1 and t[at - 1].text == "::":
-                crate = self.crate if t[at - 2].text in ("crate", "self") else t[at - 2].text
+                before = t[at - 2].text
+                crate = self.crate if before in ("crate", "self", "Self") or re.match("[A-Z]", before) and (self.crate, token.text) in known else before
             target = known.get((crate, token.text))
-            self.calls.append(Call((crate, token.text, target), parts(t, self.closing, at + 2, self.closing[at + 1]), at, self.around(at)))
+            if at and t[at - 1].text != "::" and (here := self.around(at)) is not None:
+                bound = [c for c in self.closures if c.name == token.text and c.end < at and (c.outer is here or c.outer.start <= here.start and here.end <= c.outer.end)]
+                crate, target = (self.crate, bound[-1]) if bound else (crate, target)
+            self.calls.append(Call((crate, token.text, target), parts(t, self.closing, opening + 1, self.closing[opening]), at, self.around(at)))
         self.called = {call.at: call for call in self.calls}
 
 
 def strip(source, places):
-    """Without brackets around the whole, and without `as` and a type behind it."""
+    """Without brackets around the whole, without `as` and a type behind it, and without `&` or `*` before it."""
     t = source.tokens
     while True:
         if len(places) > 2 and t[places[-2]].text == "as":
             places = places[:-2]
+        elif len(places) > 1 and t[places[0]].text in ("&", "*"):
+            places = places[1:]
         elif len(places) > 2 and t[places[0]].text == "(" and source.closing.get(places[0]) == places[-1]:
             places = places[1:-1]
         else:
@@ -274,23 +375,48 @@ class Look:
             for source in self.sources:
                 for call in source.calls:
                     target, inside = call.target[2], call.inside
-                    if target and target.field is not None and inside and inside.field is None and len(call.args) > target.field:
-                        given = source.text(call.args[target.field])
-                        if len(given) == 1 and given[0] in inside.params:
-                            inside.field, more = inside.params.index(given[0]), True
-                    for bit in target.bits if target and inside else ():
-                        given = source.text(call.args[bit])
-                        if len(given) == 1 and given[0] in inside.params and inside.params.index(given[0]) not in inside.bits:
-                            inside.bits.add(inside.params.index(given[0]))
-                            more = True
+                    if target and target.field is not None and len(call.args) > target.field:
+                        handed = self.handed(source, call.args[target.field], inside)
+                        if handed and handed[0].field is None:
+                            handed[0].field, more = handed[1], True
+                    for bit in list(target.bits) if target else ():
+                        for word in self.each_of(source, call.args[bit]):
+                            handed = self.handed(source, word, inside)
+                            if handed and handed[1] not in handed[0].bits:
+                                handed[0].bits.add(handed[1])
+                                more = True
+
+    @staticmethod
+    def each_of(source, places):
+        """An argument, or each of an array's words."""
+        places = strip(source, places)
+        if len(places) > 1 and source.tokens[places[0]].text == "[" and source.closing.get(places[0]) == places[-1]:
+            return parts(source.tokens, source.closing, places[0] + 1, places[-1]) or [places]
+        return [places]
+
+    @staticmethod
+    def handed(source, places, inside):
+        """The function, and the number of its parameter, that is handed on by an argument; a closure without a name is called where it can't be seen."""
+        given = source.text(strip(source, places))
+        if inside is None or len(given) != 1:
+            return None
+        holder, name = inside.first(given[0])
+        return (holder, holder.params.index(name)) if name in holder.params and holder.name else None
+
+    @staticmethod
+    def named(source, places):
+        """The name of a field, given as `field::NAME` or as a name that is imported from there."""
+        given = source.text(strip(source, places))
+        if len(given) > 2 and given[-3:-1] == ["field", "::"]:
+            return given[-1]
+        return given[0] if len(given) == 1 and source.paths.get(given[0], [""])[-2:] == ["field", given[0]] else None
 
     def field_of(self, source, call):
         """The name of the field that an accessor's call is given."""
         target = call.target[2]
         if target is None or target.field is None or len(call.args) <= target.field:
             return None
-        given = source.text(call.args[target.field])
-        return given[-1] if len(given) > 2 and given[-3:-1] == ["field", "::"] else None
+        return self.named(source, call.args[target.field])
 
     def is_case(self, source, places, inside):
         """Whether an expression is a word that stands for a case."""
@@ -301,7 +427,7 @@ class Look:
         if len(text) > 2 and text[-3:-1] == ["value", "::"] and text[-1] in self.names["value"]:
             return True
         if len(text) == 1:
-            return text[0] in CASE_PARTS or inside is not None and text[0] in inside.cases
+            return text[0] in CASE_PARTS or inside is not None and text[0] in inside.whose(text[0]).cases
         if text[-2] == "." and all(source.tokens[p].kind != "sign" or source.tokens[p].text == "." for p in places):
             return text[-1] in CASE_PARTS
         if text[-1] == "]":
@@ -316,7 +442,7 @@ class Look:
 
     def sides(self, source, at):
         """The two operands of the operator at a place."""
-        t, stop = source.tokens, {",", ";", "&&", "||", "=", "=>", "return", "if", "while", "let", "else", "!", "{", "(", "[", "..", "mut"} | OPERATORS
+        t, stop = source.tokens, {",", ";", "&&", "||", "=", "=>", "return", "if", "while", "let", "else", "!", "{", "(", "[", "..", "..=", "mut"} | OPERATORS
         left, p = [], at - 1
         while p >= 0:
             if p in source.opening and t[p].text != "}":
@@ -343,9 +469,73 @@ class Look:
                 if token.text == "=" and ":" in source.text(left):
                     left = left[: source.text(left).index(":")]
                 yield left, right, source.around(at)
-        for call in source.calls:
-            if call.target[0] == "words" and call.target[1] in ("eq", "ne", "lt", "le", "smaller") and len(call.args) == 2:
-                yield call.args[0], call.args[1], call.inside
+            if token.text in ("contains", "min", "max") and at > 1 and t[at - 1].text == "." and t[at + 1].text == "(":
+                asked = list(range(at + 2, source.closing[at + 1]))
+                if token.text != "contains":
+                    yield self.sides(source, at - 1)[0], asked, source.around(at)
+                elif t[at - 2].text == ")":
+                    low = source.opening[at - 2] + 1
+                    cuts = [p for p in range(low, at - 2) if t[p].text in ("..", "..=")]
+                    for end in (range(low, cuts[0]), range(cuts[0] + 1, at - 2)) if cuts else ():
+                        yield list(end), asked, source.around(at)
+                elif t[at - 2].text == "]":
+                    for one in parts(t, source.closing, source.opening[at - 2] + 1, at - 2):
+                        yield one, asked, source.around(at)
+            for value, pattern in self.arms(source, at):
+                values = self.tuple_of(source, value)
+                for one in self.alternatives(source, pattern):
+                    words = self.tuple_of(source, one)
+                    for left, right in zip(values, words) if len(values) == len(words) else ((value, one),):
+                        if right and t[right[0]].kind != "number":  # one that is a numeral is a fault by itself
+                            yield left, right, source.around(at)
+
+    @staticmethod
+    def arms(source, at):
+        """The value of the `match` or `matches!` at a place, with the pattern of each of its arms."""
+        t = source.tokens
+        if t[at].text == "matches" and at + 2 < len(t) and t[at + 1].text == "!":
+            value, *pattern = parts(t, source.closing, at + 3, source.closing[at + 2])
+            yield value, sum(pattern, [])
+        elif t[at].text == "match" and t[at].kind == "name":
+            body = at + 1
+            while t[body].text != "{":
+                body = source.closing.get(body, body) + 1
+            value, p = list(range(at + 1, body)), body + 1
+            while p < source.closing[body]:
+                pattern, guard = [], False
+                while t[p].text != "=>":
+                    guard = guard or t[p].text == "if"
+                    end = source.closing.get(p, p)
+                    pattern += [] if guard else range(p, end + 1)
+                    p = end + 1
+                yield value, pattern
+                p += 1
+                if t[p].text == "{":
+                    p = source.closing[p] + 1
+                else:
+                    while p < source.closing[body] and t[p].text != ",":
+                        p = source.closing.get(p, p) + 1
+                if t[p].text == ",":
+                    p += 1
+
+    @staticmethod
+    def alternatives(source, places):
+        """A pattern, cut at its `|` and at the signs of a range."""
+        out, now, p = [], [], 0
+        while p < len(places):
+            if source.tokens[places[p]].text in ("|", "..", "..="):
+                out, now, p = [*out, now], [], p + 1
+                continue
+            end = places.index(source.closing.get(places[p], places[p]))
+            now, p = now + places[p : end + 1], end + 1
+        return [one for one in [*out, now] if one]
+
+    @staticmethod
+    def tuple_of(source, places):
+        """The parts of a tuple, or the whole."""
+        if len(places) > 2 and source.tokens[places[0]].text == "(" and source.closing.get(places[0]) == places[-1]:
+            return parts(source.tokens, source.closing, places[0] + 1, places[-1])
+        return [places]
 
     def find_cases(self):
         """Names that hold a case: compared with one, assigned one, or given one. Whether there is a new one."""
@@ -353,6 +543,7 @@ class Look:
 
         def add(function, name):
             nonlocal new
+            function = function and function.whose(name)
             if function is not None and name not in function.cases:
                 function.cases.add(name)
                 new = True
@@ -398,9 +589,9 @@ class Look:
             if target.field is not None and len(call.args) > target.field:
                 given = call.args[target.field]
                 text = source.text(given)
-                inside = call.inside
+                handed = self.handed(source, given, call.inside)
                 region = source.text(call.args[target.params.index("k")])[-1:] if name in ("load", "save") and target.crate == "layout" else [""]
-                passed = len(text) == 1 and inside is not None and inside.field is not None and inside.params[inside.field] == text[0]
+                passed = handed is not None and handed[0].field == handed[1]
                 if text == ["0"] and name in ("load", "save") and (region[0] in ONE_WORD or re.fullmatch(r"[a-z_]\w*", region[0])):
                     pass
                 elif not passed and not (self.field_of(source, call) in self.names["field"]):
@@ -420,11 +611,11 @@ class Look:
                 if name == "put" and (p := numeral(call.args[2])) is not None:
                     fault(p, "b", "stored in a state's word by its place")
             for bit in target.bits:
-                text, inside = source.text(call.args[bit]), call.inside
-                passed = len(text) == 1 and inside is not None and text[0] in [inside.params[b] for b in inside.bits]
-                if not passed and not (len(text) > 2 and text[-3:-1] == ["field", "::"] and text[-1] in self.names["bit"]):
-                    for p in numerals(call.args[bit]) or call.args[bit][:1]:
-                        fault(p, "a", f"the field of a record, for {name}")
+                for word in self.each_of(source, call.args[bit]):
+                    handed = self.handed(source, word, call.inside)
+                    if not (handed and handed[1] in handed[0].bits) and self.named(source, word) not in self.names["bit"]:
+                        for p in numerals(word) or word[:1]:
+                            fault(p, "a", f"the field of a record, for {name}")
             for param, arg in zip(target.params, call.args):
                 if param in target.cases | {"kind"} and (p := numeral(arg)) is not None and target.crate not in ("words", "layout"):
                     fault(p, "b", f"passed as {param} of {name}")
@@ -441,15 +632,12 @@ class Look:
                 value = range(*(next(p for p in range(at, len(t)) if t[p].text == sign) for sign in ("=", ";")))
                 for p in numerals(value) if not any(re.fullmatch("[A-Z][A-Z_0-9]+", x) for x in source.text(value)) else ():
                     fault(p, "f", "in a constant outside the tables")
-            if token.text == "match":
-                body = at + 1
-                while t[body].text != "{":
-                    body = source.closing.get(body, body) + 1
-                p = body + 1
-                while p < source.closing[body]:
-                    if t[p].kind == "number" and t[p + 1].text in ("=>", "|", "..", "..=") and t[p - 1].text in ("{", ",", "}", "|", "..", "..="):
+            for _, pattern in self.arms(source, at):
+                for p in pattern:
+                    if t[p].kind == "number":
                         fault(p, "c", "an arm of a match")
-                    p = source.closing.get(p, p) + 1
+            if token.text in STATE and at + 3 < len(t) and t[at + 1].text == "." and t[at + 2].text in ("get", "get_mut") and t[at + 3].text == "(":
+                index(range(at + 4, source.closing[at + 3]))
             if token.text == "[" and at and t[at - 1].text in STATE:
                 inner = range(at + 1, source.closing[at])
                 if ".." not in source.text(inner):
@@ -490,18 +678,18 @@ WRONG = [
     ("crates/orders/src/lib.rt", "let tag = layout::cell_word(s, sh, fr - 1, k % size::PAGE_SIZE, field::SLOT_TAG);", "let tag = layout::cell_word(\n        s,\n        sh,\n        fr - 1,\n        k % size::PAGE_SIZE,\n        0,\n    );", "a", "0"),
     ("crates/growth/src/lib.rt", "storage::put_page(s, sh, e, p, field::ENTRY_BUSY, 0);", "storage::put_page(s, sh, e, p, 2, 0);", "a", "2"),
     ("crates/storage/src/lib.rt", "layout::cell_word(s, sh, fr - 1, j, f)", "layout::cell_word(s, sh, fr - 1, j, f + 1)", "a", "1"),
-    ("crates/head/src/lib.rt", "let life = layout::head_word(s, sh, b, field::HEAD_LIFECYCLE);", "let two = 1;\n    let life = layout::head_word(s, sh, b, two);", "a", "two"),
+    ("crates/head/src/lib.rt", "TableHead {\n        life: layout::head_word(s, sh, b, field::HEAD_LIFECYCLE),", "let two = 1;\n    TableHead {\n        life: layout::head_word(s, sh, b, two),", "a", "two"),
     ("crates/runner/src/lib.rt", "let op = request::field(rq, at, field::FIELD_OP);", "let op = request::field(rq, at, 0);", "a", "0"),
     ("crates/orders/src/lib.rt", "if tag != value::TAG_VACANT {", "if tag != 0 {", "b", "0"),
-    ("crates/lookup/src/lib.rt", "words::eq(w.tag, value::TAG_TRANSFER_RESERVED)", "words::eq(w.tag, 2)", "b", "2"),
-    ("crates/ledger/src/lib.rt", "if w == value::KIND_RESERVATION {", "if w == 1 {", "b", "1"),
-    ("crates/object/src/lib.rt", "with_count(x, value::STAGE_ACTIVE, 1)", "with_count(x, 1, 1)", "b", "1"),
+    ("crates/lookup/src/lib.rt", "if w.tag == value::TAG_TRANSFER_RESERVED {", "if w.tag == 2 {", "b", "2"),
+    ("crates/ledger/src/lib.rt", "    w == value::KIND_PARCEL\n", "    w == 3\n", "b", "3"),
+    ("crates/object/src/lib.rt", "stage: value::STAGE_ACTIVE,", "stage: 1,", "b", "1"),
     ("crates/head/src/lib.rt", "layout::put_head(s, sh, b, field::HEAD_LIFECYCLE, h.life);", "layout::put_head(s, sh, b, field::HEAD_LIFECYCLE, 1);", "b", "1"),
-    ("crates/head/src/lib.rt", "life: life,\n        cursor: cursor,\n        epoch: h.epoch,", "life: 1,\n        cursor: cursor,\n        epoch: h.epoch,", "b", "1"),
-    ("crates/request/src/lib.rt", "if op == format::op::OP_PUBLISH {\n        return records_end", "if op == 8 {\n        return records_end", "b", "8"),
+    ("crates/head/src/lib.rt", "life: value::LIFE_TEARING_DOWN,", "life: 1,", "b", "1"),
+    ("crates/request/src/lib.rt", "if op == format::op::OP_PUBLISH || op == format::op::OP_PREPARE_TRANSFER {", "if op == 8 || op == format::op::OP_PREPARE_TRANSFER {", "b", "8"),
     ("crates/serve/src/lib.rt", "op::OP_NEW_OBJECT => parcel::serve_new_object", "1 => parcel::serve_new_object", "c", "1"),
     ("crates/serve/src/lib.rt", "op::OP_TRIM => claim::serve_trim", "6 => claim::serve_trim", "c", "6"),
-    ("crates/teardown/src/lib.rt", "if words::eq(tag, value::TAG_OCCUPIED) {", "if words::eq(k % 64, 1) {", "e", "64"),
+    ("crates/teardown/src/lib.rt", "*j % size::PAGE_SIZE, field::SLOT_TAG)", "*j % 64, field::SLOT_TAG)", "e", "64"),
     ("crates/transfer/src/lib.rt", "(rows.low + (x * size::ROW_BLOCKS + j + 1) * size::BLOCK_SIZE)", "(rows.low + (x * 65 + j + 1) * size::BLOCK_SIZE)", "e", "65"),
     ("crates/layout/src/lib.rt", "s[at + place::SLOT_GENERATION]", "s[at + 1]", "d", "1"),
     ("crates/layout/src/lib.rt", "words::word(s, place::ROOT_TABLES)", "words::word(s, 1)", "d", "1"),
@@ -509,10 +697,22 @@ WRONG = [
     ("crates/head/src/lib.rt", "layout::put_head(s, sh, b, field::HEAD_CURSOR, h.cursor);", "layout::put_head(s, sh, b, field::ROOT_OBJECTS, h.cursor);", "a", "ROOT_OBJECTS"),
     ("crates/storage/src/lib.rt", "// Into the page of a link; through 0 nothing.", "const ZERO: u64 = 0;", "f", "0"),
     ("crates/teardown/src/lib.rt", "sh b life_retired 0", "sh b 2 0", "g", "2"),
-    ("crates/transfer/src/lib.rt", "words::eq(route, value::ROUTE_BUFFERED)", "words::eq(route, 0)", "b", "0"),
-    ("crates/format/src/lib.rt", "op::OP_TRIM => maps::MUST[op::OP_TRIM as usize],", "6 => maps::MUST[op::OP_TRIM as usize],", "c", "6"),
-    ("crates/format/src/lib.rt", "op::OP_TRIM => maps::MAY[op::OP_TRIM as usize],", "op::OP_TRIM => maps::MAY[6],", "e", "6"),
+    ("crates/transfer/src/lib.rt", "route == value::ROUTE_BUFFERED", "route == 0", "b", "0"),
+    ("crates/ledger/src/lib.rt", "value::KIND_CLAIM => claim_ok", "2 => claim_ok", "c", "2"),
+    ("crates/ledger/src/lib.rt", "value::KIND_RESERVATION..=value::KIND_PARCEL => list_ok", "1..=value::KIND_PARCEL => list_ok", "c", "1"),
+    ("crates/transfer/src/lib.rt", "value::CLASS_LEAF => false,", "0 => false,", "c", "0"),
+    ("crates/format/src/lib.rt", "maps::MAY.get(op as usize)", "maps::MAY.get(6)", "e", "6"),
     ("crates/format/src/lib.rt", "word <= size::ROUTE_LAST", "word <= 2", "e", "2"),
+    ("crates/close/src/lib.rt", "op::OP_CLOSE, [FIELD_TABLE, FIELD_VALUE]", "op::OP_CLOSE, [FIELD_TABLE, 4]", "a", "4"),
+    ("crates/lookup/src/lib.rt", "op::OP_GET_INFO, [FIELD_TABLE, FIELD_VALUE]", "op::OP_GET_INFO, [FIELD_TABLE, Rights::NONE]", "a", "Rights"),
+    ("crates/plan/src/lib.rt", "let id = request::field(rq, at, FIELD_ID);\n    use_plan", "let id = request::field(rq, at, op::OP_CLOSE);\n    use_plan", "a", "op"),
+    ("crates/detach/src/lib.rt", "use format::field::FIELD_TABLE;", "const FIELD_TABLE: u64 = op::OP_CLOSE;", "a", "FIELD_TABLE"),
+    ("crates/request/src/lib.rt", "*word = field_known(rq, at, map, *word);", "*word = field_known(rq, at, map, 3);", "a", "3"),
+    ("crates/request/src/lib.rt", "read_fields(rq, at, op, [a, b, c])", "read_fields(rq, at, op, [a, 5, c])", "a", "5"),
+    ("crates/request/src/lib.rt", "fits(format::field::FIELD_ROUTE, FieldKind::Route)", "fits(12, FieldKind::Route)", "a", "12"),
+    ("crates/counts/src/lib.rt", "matches!(stage, value::STAGE_NEW | value::STAGE_RETIRED)", "matches!(stage, value::STAGE_NEW | 2)", "c", "2"),
+    ("crates/counts/src/lib.rt", "(value::KIND_CLAIM..=value::KIND_PARCEL).contains(&kind)", "(2..=value::KIND_PARCEL).contains(&kind)", "b", "2"),
+    ("crates/layout/src/lib.rt", "object: s[at + place::SLOT_OBJECT],", "object: *s.get(at + 2).unwrap_or(&0),", "d", "2"),
 ]
 PLAIN = """// 64 of 65
 pub fn f(t: HandleValue, s: &mut [u64]) -> u64

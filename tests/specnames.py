@@ -204,7 +204,7 @@ WRONG = [
     ("growth Attach", "b p f region_owner g 0 0 (λ", "b p f 3 g 0 0 (λ", "3"),
     ("create Memory", "new_size b = new_head b head_pages ∙", "new_size b = new_head b 5 ∙", "5"),
     ("book Close", "next = p.roots root_next_id;", "next = p.roots 5;", "5"),
-    ("counts Objects", "(field_at (i + object_stage) object_stage (omega arith) refl)", "(field_at (i + object_stage) 5 (omega arith) refl)", "5"),
+    ("counts Objects", "at _ object_stage (omega arith) refl,", "at _ 5 (omega arith) refl,", "5"),
     ("representation Represents", "m (item r j item_moved) ≡ k", "m (item r j 1) ≡ k", "1"),
     ("representation Represents", "m (row r row_count) ≡ n", "m (row r 4) ≡ n", "4"),
     ("representation Represents", "m (item r 0 item_free_slots) ≡ w.free_slots", "m (item r 0 2) ≡ w.free_slots", "2"),

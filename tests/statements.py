@@ -62,7 +62,7 @@ SAID = {
 FOLDER = root / "docs" / "statements"
 
 # names that the printed statements show short, and that are not listed below a definition where they are these
-IMPORTS = """use Rattle.std.specs.Prelude.{◌≡◌, Bool, true, false, not, ◌&&◌, ◌||◌, List, [], ◌∷◌, ◌++◌, map, ℕ, zero, suc, ◌+◌, ◌-◌, ◌*◌, ◌/◌, ◌%◌, ◌^◌, ◌≤◌, ◌<◌, length, get_or, take, drop, eqb, ltb, leb}
+IMPORTS = """use Rattle.std.specs.Prelude.{◌≡◌, Bool, true, false, not, ◌&&◌, ◌||◌, List, [], ◌∷◌, ◌++◌, map, ℕ, zero, suc, ◌+◌, ◌-◌, ◌*◌, ◌/◌, ◌%◌, ◌^◌, ◌≤◌, ◌<◌, length, get_or, take, drop, eqb, ltb, leb, Some}
 use Rattle.std.proofs.Math.Option.{Option, none, some}
 """
 NAME = r"[^\s(){};,.‹›`]+"
