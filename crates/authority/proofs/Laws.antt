@@ -137,12 +137,3 @@ transfer_only held = propagation_only held transfer_right refl
 -- rights with equal halves are equal
 pub halves_equal : (r s : ℕ) → operations r ≡ operations s → propagation r ≡ propagation s → r ≡ s
 halves_equal r s p q = sym (split_rejoined r) ∙ ap₂ rejoin p q ∙ split_rejoined s
-
--- both of two tests, as an early answer has them
-pub both_yes : (r p q : Bool) → p ≡ true → r ≡ q → r ≡ (p && q)
-both_yes r true q e f = f
-both_yes r false q e f = cc
-
-pub both_no : (r p q : Bool) → p ≡ false → r ≡ false → r ≡ (p && q)
-both_no r true q e f = cc
-both_no r false q e f = f

@@ -55,12 +55,15 @@ impl Rights {
         Rights(self.0 & other.0)
     }
 
+    // Three types have this test. A trait with one default method for them was tried: it proves, but it is longer than the three, and each crate that calls one must name it.
+    #[tactic(auto, unfolding(crate::specs::Rights::contains))]
     pub fn contains(self, required: Rights) -> bool
         ensures { result ≡ contains self.0 required.0 }
     {
         self.intersection(required).0 == required.0
     }
 
+    #[tactic(auto, unfolding(crate::specs::Rights::operations, crate::specs::Rights::propagation), using(crate::proofs::Laws::operations_is, crate::proofs::Laws::propagation_is))]
     pub fn decompose(self) -> HandleRights
         ensures { result ≡ decomposed self.0 }
     {
@@ -72,6 +75,7 @@ impl Rights {
 }
 
 impl HandleRights {
+    #[tactic(auto, unfolding(crate::specs::Rights::rejoin))]
     pub fn union(self) -> Rights
         ensures { result.0 ≡ rejoin self.operations.0 self.propagation.0 }
     {
@@ -81,11 +85,8 @@ impl HandleRights {
     pub fn contains(self, required: HandleRights) -> bool
         ensures { result ≡ (contains self.operations.0 required.operations.0 && contains self.propagation.0 required.propagation.0) }
     {
-        if self.operations.contains(required.operations) {
-            self.propagation.contains(required.propagation)
-        } else {
-            false
-        }
+        self.operations.contains(required.operations)
+            && self.propagation.contains(required.propagation)
     }
 
     pub fn propagation(self) -> PropagationRights
@@ -96,6 +97,7 @@ impl HandleRights {
 }
 
 impl OperationRights {
+    #[tactic(auto, unfolding(crate::specs::Rights::contains))]
     pub fn contains(self, required: OperationRights) -> bool
         ensures { result ≡ contains self.0 required.0 }
     {
@@ -108,6 +110,7 @@ impl PropagationRights {
 
     pub const TRANSFER: PropagationRights = PropagationRights(2);
 
+    #[tactic(auto, unfolding(crate::specs::Rights::contains))]
     pub fn contains(self, required: PropagationRights) -> bool
         ensures { result ≡ contains self.0 required.0 }
     {

@@ -1,5 +1,5 @@
 -- What the code's loops and stores say, in the terms of the definitions. Assumes nothing.
-use Rattle.std.specs.Prelude.{◌≡◌, Bool, true, false, List, ℕ, zero, suc, ◌+◌, ◌-◌, ◌/◌, ◌≤◌, ◌<◌, min, ltb, Option, Some, None, SomeIff}
+use Rattle.std.specs.Prelude.{◌≡◌, Bool, true, false, List, ℕ, zero, suc, ◌+◌, ◌-◌, ◌/◌, ◌≤◌, ◌<◌, min, ltb, Option, Some, None}
 use Rattle.std.proofs.Math.Path.{refl, sym, ap}
 use Rattle.std.proofs.Common.{◌∙◌, arith, eq-eqb, ne_eqb}
 use Rattle.std.proofs.Math.Dec.{eqb}
@@ -9,23 +9,9 @@ use Rattle.layout.specs.Layout.{Mem, root, index, rank, row, item, load, save}
 use Rattle.layout.specs.Fields.{root_next_id, root_used_rows, row_id, row_kind, row_table, row_length, item_slot}
 use Rattle.layout.specs.Sizes.{batch_max}
 use Rattle.storage.specs.Ops.{up, vacate_w}
-use Rattle.book.specs.Ops.{id_at, link_from, place_of, used_of, likely_rank, likely_link, row_link, kind_link, row_left, spare, open_p, open_w, shift_w, close_w, vacate_items_w}
-
--- a link and the place that it names
-pub place_is : (l x : ℕ) → place_of l ≡ Some x → l ≡ suc x
-place_is zero x e = absurd (let z : ◌≡◌ {A = ℕ} 0 1 = cc in omega arith)
-place_is (suc y) x e = cc
-
-pub no_place : (l : ℕ) → place_of l ≡ None → l ≡ 0
-no_place zero e = refl
-no_place (suc y) e = absurd (let z : ◌≡◌ {A = ℕ} 0 1 = cc in omega arith)
-
--- `checked_sub` of 1
-pub place_by : (l : ℕ) (r : Option ℕ) → SomeIff r (1 ≤ l) (l - 1) → r ≡ place_of l
-place_by zero None f = refl
-place_by zero (Some x) f = absurd (omega (arith, f.0))
-place_by (suc y) None f = absurd (f (omega arith))
-place_by (suc y) (Some x) f = let z : suc y - 1 ≡ y = omega arith in ap Some (f.1 ∙ z)
+use Rattle.storage.specs.Links.{place_of}
+pub use Rattle.storage.specs.Links.{place_is, no_place, place_by}
+use Rattle.book.specs.Ops.{id_at, link_from, used_of, likely_rank, likely_link, row_link, kind_link, row_left, spare, open_p, open_w, shift_w, close_w, vacate_items_w}
 
 -- the row of a kind with an id
 module _ (what : ℕ) (m : Mem) (sh : Shape) (i : ℕ) (r : Option ℕ) (e : r ≡ place_of (row_link m sh i)) where

@@ -1,5 +1,5 @@
 -- The operations on rows: the stores that each makes, and the words that it leaves. Assumes nothing.
-use Rattle.std.specs.Prelude.{◌≡◌, refl, Bool, List, [], ◌∷◌, ℕ, zero, suc, ◌+◌, ◌-◌, ◌/◌, ◌≤◌, min, length, eqb, ltb, Option, Some, None}
+use Rattle.std.specs.Prelude.{◌≡◌, refl, Bool, List, [], ◌∷◌, ℕ, zero, suc, ◌+◌, ◌-◌, ◌/◌, ◌≤◌, min, length, eqb, ltb}
 use Rattle.std.proofs.Common.{◌∙◌, arith}
 use Rattle.std.proofs.Math.Bool.{and-false}
 use Rattle.words.specs.Pick.{pick, bool}
@@ -9,6 +9,7 @@ use Rattle.layout.specs.Layout.{Addr.reg, Mem, total, root, index, rank, row, it
 use Rattle.layout.specs.Fields.{root_next_id, root_used_rows, row_id, row_kind, row_table, row_length, item_slot, item_object, item_rights, item_flags}
 use Rattle.layout.specs.Values.{kind_reservation, kind_plan}
 use Rattle.layout.specs.RegionNames.{region_row}
+pub use Rattle.storage.specs.Links.{place_of}
 use Rattle.storage.specs.Ops.{up, vacate_w}
 
 -- the id of the row of rank i
@@ -30,11 +31,6 @@ likely_rank m id n = n - (m (root root_next_id) - id)
 -- the row of that rank, if it has the id: its place plus 1, else 0
 unfoldable pub likely_link : Mem → ℕ → ℕ → ℕ
 likely_link m id n = pick (ltb (likely_rank m id n) n) (pick (eqb (id_at m (likely_rank m id n)) id) (up (m (index (likely_rank m id n)))) 0) 0
-
--- the place that a link names; none where it is 0
-abbrev pub place_of : ℕ → Option ℕ
-place_of zero = None
-place_of (suc x) = Some x
 
 -- how many rows are in use, at most those that there are
 abbrev pub used_of : Mem → Shape → ℕ

@@ -1,11 +1,10 @@
 -- Handles are counted in the upper halves of the objects' count words. Settling compares the halves and leaves the lower ones. Assumes nothing.
-use Rattle.std.specs.Prelude.{◌≡◌, Bool, true, false, ◌&&◌, length, set, eqb, ltb}
+use Rattle.std.specs.Prelude.{◌≡◌, Bool, true, false, length, set, eqb, ltb}
 use Rattle.std.proofs.Math.Path.{refl, sym, ap, fun_ext}
 use Rattle.std.proofs.Common.{◌∙◌, get_or-set_same}
 use mathlib.Core.List.{List, [], ◌∷◌}
 use Prim.Native.Nat.{ℕ, zero, suc, ◌+◌, ◌*◌, ◌/◌, ◌%◌, ◌≤◌, ◌<◌, min}
 use native.Mathlib.Omega.{arith}
-use Rattle.std.proofs.Math.Numerals.{add-one}
 use Rattle.std.proofs.Math.ListN.{get_or, length-set, length-append}
 use Rattle.std.proofs.Math.Seq.{set_out}
 use Rattle.std.proofs.lemmas.List.{set-get_or}
@@ -18,12 +17,12 @@ use Rattle.model.specs.State.{till, max_slots}
 use Rattle.model.specs.Storage.{slots_of}
 use Rattle.model.proofs.Tests.{bit_small}
 use Rattle.layout.specs.declared.Shape.{Shape}
-use Rattle.layout.specs.Layout.{Addr, Addr.reg, Mem, total, root, head, entry, cell, row, item, index, objects_at, object, is_in, in_no, same, same_all, place, place_low, in_object, load, save, load_out, length_save, save_past, loads_same}
+use Rattle.layout.specs.Layout.{Addr, Addr.reg, Mem, total, root, head, entry, cell, row, item, index, object, is_in, in_no, same, same_all, place, place_low, in_object, load, save, load_out, length_save, save_past, loads_same}
 use Rattle.layout.specs.Fields.{root_used_rows, head_pages, head_first_entry, entry_frame, slot_tag, slot_object, object_active, row_kind, row_length, item_object}
-use Rattle.layout.specs.Sizes.{page_size, slots_max, batch_max, object_size}
+use Rattle.layout.specs.Sizes.{page_size, slots_max, batch_max}
 use Rattle.layout.specs.RegionNames.{region_object}
 use Rattle.counts.specs.Found.{gather, is_occupied, holds_handles, on_link, in_cell, in_page, in_table, in_row, in_book, found, handles, counts_b}
-use Rattle.counts.specs.Shift.{plus, unit, shift_w, shifted, length_shift, length_shifted, load_other, object_load, object_save}
+use Rattle.counts.specs.Shift.{plus, unit, shift_w, shifted, length_shift, length_shifted, load_other}
 use Rattle.counts.specs.Objects.{objects_b, objects_sound}
 
 -- the halves of a word are equal
@@ -62,6 +61,10 @@ module _ (ws : List ℕ) (sh : Shape) (a : Addr) (v : ℕ) where
   unfolding load save
   own_past h = let z : get_or ws (place (length ws) sh a) 0 ≡ 0 = get_past ws (place (length ws) sh a) h in
       (rw (set_out ws (place (length ws) sh a) v h) z, z)
+
+-- a store of what stands there
+pub set_own : (ws : List ℕ) (i v : ℕ) → get_or ws i 0 ≡ v → set ws i v ≡ ws
+set_own ws i v e = rw (← e) (set-get_or ws i 0)
 
 -- ---- settling, word by word
 
@@ -270,45 +273,3 @@ pub halves_few : (ws : List ℕ) (sh : Shape) (os : List ℕ) (n : ℕ) → n �
     → halves_to (load (shifted ws sh unit os) sh) n ≡ halves_to (load (shifted ws sh unit os) sh) sh.objects
 halves_few ws sh os n h within none = all_less n sh.objects _ h
     (λ o k l. ap half_b (shifted_none sh ws os o (within_none sh n os within o l k) ∙ none o k l))
-
--- ---- what the functions' bodies go by
-
-module _ (ws : List ℕ) (sh : Shape) where
-  -- `settle_one`
-  module _ (first o : ℕ) (h : first ≡ objects_at sh) (l : o < sh.objects) where
-    count_at : get_or ws (first + o * object_size + object_active) 0 ≡ load ws sh (object o object_active)
-    count_at = object_load ws sh first o h l (first + o * object_size + object_active) object_active (omega arith) refl
-
-    pub one_none : get_or ws (first + o * object_size + object_active) 0 ≡ 0 → (ws ≡ lower_w ws sh o) × (true ≡ half_b (load ws sh (object o object_active)))
-    unfolding lower_w
-    one_none z = let c : load ws sh (object o object_active) ≡ 0 = sym count_at ∙ z in
-        (sym (set-get_or ws (first + o * object_size + object_active) 0) ∙ object_save ws sh first o h l (first + o * object_size + object_active) object_active (omega arith) refl (get_or ws (first + o * object_size + object_active) 0) ∙ rw (z, c), rw c)
-
-    pub one_words : (vs : List ℕ) → vs ≡ set ws (first + o * object_size + object_active) (get_or ws (first + o * object_size + object_active) 0 % 4294967296) → vs ≡ lower_w ws sh o
-    unfolding lower_w
-    one_words vs e = e ∙ object_save ws sh first o h l (first + o * object_size + object_active) object_active (omega arith) refl (get_or ws (first + o * object_size + object_active) 0 % 4294967296)
-        ∙ ap (λ (x : ℕ). save ws sh (object o object_active) (x % 4294967296)) count_at
-
-    pub one_answer : (r : Bool) → r ≡ eqb (get_or ws (first + o * object_size + object_active) 0 % 4294967296) (get_or ws (first + o * object_size + object_active) 0 / 4294967296) → r ≡ half_b (load ws sh (object o object_active))
-    one_answer r e = e ∙ ap half_b count_at
-
-  -- `settle`
-  pub settle_none : (ws ≡ lowered ws sh 0) × (true ≡ halves_to (load ws sh) 0)
-  unfolding lowered all
-  settle_none = (refl, refl)
-
-  pub words_more : (o : ℕ) (vs us : List ℕ) → vs ≡ lowered ws sh o → us ≡ lower_w vs sh o → us ≡ lowered ws sh (o + 1)
-  unfolding lowered
-  words_more o vs us a b = rw add-one (b ∙ ap (λ (w : List ℕ). lower_w w sh o) a)
-
-  pub halves_more : (o : ℕ) (vs : List ℕ) (e t r : Bool) → vs ≡ lowered ws sh o → e ≡ halves_to (load ws sh) o → t ≡ half_b (load vs sh (object o object_active)) → r ≡ (e && t) → r ≡ halves_to (load ws sh) (o + 1)
-  unfolding all
-  halves_more o vs e t r a p q b =
-      let d : t ≡ half_b (load ws sh (object o object_active)) = q ∙ ap (λ (w : List ℕ). half_b (load w sh (object o object_active))) a ∙ ap half_b (lowered_later ws sh o o (omega arith)) in
-      rw add-one (b ∙ rw (p, d))
-
-  pub words_end : (o n : ℕ) (vs : List ℕ) → vs ≡ lowered ws sh o → o ≡ n → vs ≡ lowered ws sh n
-  words_end o n vs a e = a ∙ ap (lowered ws sh) e
-
-  pub halves_end : (o n : ℕ) (r : Bool) → r ≡ halves_to (load ws sh) o → o ≡ n → r ≡ halves_to (load ws sh) n
-  halves_end o n r a e = a ∙ ap (halves_to (load ws sh)) e

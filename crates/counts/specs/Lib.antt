@@ -6,3 +6,4 @@ pub mod Decide
 pub mod Objects
 pub mod Used
 pub mod Halves
+pub mod Each

@@ -1,17 +1,18 @@
 -- The fields of an object's record: their ranges, and the object that they show. Assumes nothing.
-use Rattle.std.specs.Prelude.{◌≡◌, refl, Bool, true, false, ◌&&◌, ◌||◌, List, [], ◌∷◌, ℕ, zero, suc, ◌+◌, ◌*◌, ◌/◌, ◌^◌, ◌≤◌, ◌<◌, get_or, eqb, leb}
+use Rattle.std.specs.Prelude.{◌≡◌, refl, Bool, true, false, ◌&&◌, ◌||◌, List, ℕ, zero, suc, ◌+◌, ◌*◌, ◌^◌, ◌≤◌, ◌<◌, get_or, eqb, leb}
 use Rattle.std.proofs.Math.Path.{sym}
-use Rattle.std.proofs.Common.{◌∙◌, arith}
-use borrow.Author.Tests.{eq-eqb, ne_eqb, eqb-true, eqb-false, le-leb, leb-true}
+use Rattle.std.proofs.Common.{arith}
+use Rattle.std.proofs.lemmas.Bool.Decides.{nat_tests}
+use borrow.Author.Tests.{eq-eqb, eqb-true, eqb-false, le-leb, leb-true}
 use Rattle.words.specs.Pick.{bool, clash, both}
-use Rattle.words.specs.All.{all, all_at, all_yes, all_more, all_stop}
+use Rattle.words.specs.All.{all, all_at, all_yes}
 use Rattle.model.specs.Base.{bit}
 use Rattle.model.specs.State.{till, Stage, Stage.still_new, Stage.now_active, Stage.now_retired, Object, State, max_limit}
 use Rattle.model.specs.Create.{class_of}
 use Rattle.model.specs.WellFormed.{ObjectRange, StageCount, WellFormed}
 use Rattle.model.proofs.Tests.{bit_small}
 use Rattle.layout.specs.declared.Shape.{Shape}
-use Rattle.layout.specs.Layout.{Addr.reg, Mem, objects_at, object, load}
+use Rattle.layout.specs.Layout.{Mem, objects_at, object, load}
 use Rattle.layout.specs.Fields.{object_koid, object_kind, object_class, object_supported, object_exportable, object_stage, object_active, object_limit}
 use Rattle.layout.specs.Values.{stage_new, stage_active, stage_retired, class_never}
 use Rattle.layout.specs.Sizes.{number32_max, object_size}
@@ -85,10 +86,6 @@ module _ (m : Mem) (o : ℕ) where
         le-leb (m (object o object_limit)) number32_max f.limit,
         le-leb (m (object o object_active)) (m (object o object_limit)) f.within,
       ) f.staged
-
-  -- a failed test
-  pub object_bad : (ObjectFits m o → ⊥) → false ≡ object_b m o
-  object_bad h = bool (object_b m o) (λ e. absurd (h (object_sound e))) (λ e. sym e)
 
 pub objects_sound : (m : Mem) (sh : Shape) → objects_b m sh ≡ true → (o : ℕ) → o < sh.objects → ObjectFits m o
 unfolding objects_b
@@ -187,62 +184,33 @@ objects_fit sh m s r w = objects_complete m sh (λ o l. let i : o < s.object_cou
 
 -- ---- what the code's tests say
 
--- a stage and a count of 0: new or retired
-pub stage_none : (g n : ℕ) (r : Bool) → n ≡ 0 → r ≡ (eqb g stage_new || eqb g stage_retired) → r ≡ stage_b g n
-stage_none zero n r h q = q ∙ rw h
-stage_none (suc zero) n r h q = q ∙ rw h
-stage_none (suc (suc zero)) n r h q = q
-stage_none (suc (suc (suc g))) n r h q = q ∙ rw (ne_eqb (suc (suc (suc g))) 0 (λ e. omega arith), ne_eqb (suc (suc (suc g))) 2 (λ e. omega arith))
+-- a new or retired object may have no count, an active or retired one may have some
+stage_is : (g n : ℕ) → stage_b g n ≡ ((eqb n 0 && (eqb g stage_new || eqb g stage_retired)) || (leb 1 n && (eqb g stage_active || eqb g stage_retired)))
+stage_is zero n = grind (arith, nat_tests)
+stage_is (suc zero) n = grind (arith, nat_tests)
+stage_is (suc (suc zero)) n = grind (arith, nat_tests)
+stage_is (suc (suc (suc g))) n = grind (arith, nat_tests)
 
--- a stage and a count above 0: active or retired
-pub stage_some : (g n : ℕ) (r : Bool) → 1 ≤ n → r ≡ (eqb g stage_active || eqb g stage_retired) → r ≡ stage_b g n
-stage_some zero n r h q = q ∙ sym (ne_eqb n 0 (λ e. omega arith))
-stage_some (suc zero) n r h q = q ∙ sym (le-leb 1 n h)
-stage_some (suc (suc zero)) n r h q = q
-stage_some (suc (suc (suc g))) n r h q = q ∙ rw (ne_eqb (suc (suc (suc g))) 1 (λ e. omega arith), ne_eqb (suc (suc (suc g))) 2 (λ e. omega arith))
-
--- a memory in which every object has these fields; supported rights 0
-abbrev pub fields : ℕ → ℕ → ℕ → ℕ → ℕ → ℕ → ℕ → Mem
-fields koid kind class exportable stage count limit (reg k x y f) = get_or (koid ∷ kind ∷ class ∷ 0 ∷ exportable ∷ stage ∷ count ∷ limit ∷ []) f 0
-
--- the tests look at an object's fields alone
-pub fields_are : (m : Mem) (o a b c d g f e : ℕ) (r : Bool) → a ≡ m (object o object_koid) → b ≡ m (object o object_kind) → c ≡ m (object o object_class) → d ≡ m (object o object_exportable) → g ≡ m (object o object_stage) → f ≡ m (object o object_active)
-    → e ≡ m (object o object_limit) → r ≡ object_b (fields a b c d g f e) 0 → r ≡ object_b m o
+-- the tests read one record
+pub object_is : (ws : List ℕ) (sh : Shape) (first o : ℕ) → first ≡ objects_at sh → o < sh.objects → object_b (load ws sh) o
+    ≡ (leb 1 (get_or ws (first + o * object_size) 0)
+    && (leb (get_or ws (first + o * object_size + object_kind) 0) number32_max
+    && (leb (get_or ws (first + o * object_size + object_class) 0) class_never
+    && (leb (get_or ws (first + o * object_size + object_exportable) 0) 1
+    && (leb (get_or ws (first + o * object_size + object_limit) 0) number32_max
+    && (leb (get_or ws (first + o * object_size + object_active) 0) (get_or ws (first + o * object_size + object_limit) 0)
+    && ((eqb (get_or ws (first + o * object_size + object_active) 0) 0 && (eqb (get_or ws (first + o * object_size + object_stage) 0) stage_new || eqb (get_or ws (first + o * object_size + object_stage) 0) stage_retired))
+    || (leb 1 (get_or ws (first + o * object_size + object_active) 0) && (eqb (get_or ws (first + o * object_size + object_stage) 0) stage_active || eqb (get_or ws (first + o * object_size + object_stage) 0) stage_retired)))))))))
 unfolding object_b
-fields_are m o a b c d g f e r pa pb pc pd pg pf pe q = q ∙ rw (pa, pb, pc, pd, pg, pf, pe)
-
--- `object_ok`: the fields stand one after the other
-module _ (ws : List ℕ) (sh : Shape) (first o : ℕ) (h : first ≡ objects_at sh) (l : o < sh.objects) where
-  field_at : (i f : ℕ) → f < object_size → i ≡ first + o * object_size + f → get_or ws i 0 ≡ load ws sh (object o f)
-  field_at i f k e = object_load ws sh first o h l i f k e
-
-  pub fields_read : (r : Bool)
-      → r ≡ object_b (fields (get_or ws (first + o * object_size) 0) (get_or ws (first + o * object_size + object_kind) 0) (get_or ws (first + o * object_size + object_class) 0) (get_or ws (first + o * object_size + object_exportable) 0) (get_or ws (first + o * object_size + object_stage) 0)
-      (get_or ws (first + o * object_size + object_active) 0) (get_or ws (first + o * object_size + object_limit) 0)) 0
-      → r ≡ object_b (load ws sh) o
-  fields_read r q = let i : ℕ = first + o * object_size in
-      fields_are (load ws sh) o _ _ _ _ _ _ _ r (field_at i object_koid (omega arith) (omega arith)) (field_at (i + object_kind) object_kind (omega arith) refl) (field_at (i + object_class) object_class (omega arith) refl)
-      (field_at (i + object_exportable) object_exportable (omega arith) refl) (field_at (i + object_stage) object_stage (omega arith) refl) (field_at (i + object_active) object_active (omega arith) refl) (field_at (i + object_limit) object_limit (omega arith) refl) q
-
--- `fields_ok`: no upper part stands, and with every test before the last passed
-pub object_last : (m : Mem) (o a b c d e f g : ℕ) (r : Bool) → a ≡ m (object o object_koid) → b ≡ m (object o object_kind) → c ≡ m (object o object_class) → d ≡ m (object o object_exportable) → e ≡ m (object o object_limit) → f ≡ m (object o object_active)
-    → g ≡ m (object o object_stage) → b / 4294967296 + e / 4294967296 + d / 2 ≡ 0 → 1 ≤ a → c ≤ 2 → f ≤ e → r ≡ stage_b g f → r ≡ object_b m o
-unfolding object_b
-object_last m o a b c d e f g r pa pb pc pd pe pf pg hw ha hc hf q =
-    q ∙ rw (pg, pf) (rw (
-      le-leb 1 (m (object o object_koid)) (omega arith),
-      le-leb (m (object o object_kind)) number32_max (omega arith),
-      le-leb (m (object o object_class)) class_never (omega arith),
-      le-leb (m (object o object_exportable)) 1 (omega arith),
-      le-leb (m (object o object_limit)) number32_max (omega arith),
-      le-leb (m (object o object_active)) (m (object o object_limit)) (omega arith),
-    ))
-
--- `check_objects`
-module _ (m : Mem) (sh : Shape) where
-  pub objects_stop : (o : ℕ) (t : Bool) → o < sh.objects → t ≡ object_b m o → t ≡ false → false ≡ objects_b m sh
-  unfolding objects_b
-  objects_stop o t l e d = sym (all_stop sh.objects (object_b m) o l (sym e ∙ d))
-
-  pub objects_more : (o : ℕ) (t : Bool) → all o (object_b m) ≡ true → t ≡ object_b m o → t ≡ true → all (o + 1) (object_b m) ≡ true
-  objects_more o t h e d = all_more o (object_b m) h (sym e ∙ d)
+object_is ws sh first o h l =
+    let at : (i f : ℕ) → f < object_size → i ≡ first + o * object_size + f → load ws sh (object o f) ≡ get_or ws i 0 = λ i f k e. sym (object_load ws sh first o h l i f k e) in
+    rw (
+      at (first + o * object_size) object_koid (omega arith) (omega arith),
+      at _ object_kind (omega arith) refl,
+      at _ object_class (omega arith) refl,
+      at _ object_exportable (omega arith) refl,
+      at _ object_stage (omega arith) refl,
+      at _ object_active (omega arith) refl,
+      at _ object_limit (omega arith) refl,
+      stage_is,
+    )

@@ -83,8 +83,10 @@ module _ (ws : List ℕ) (sh : Shape) (first o : ℕ) (h : first ≡ objects_at 
   unfolding save
   object_save v = ap (λ (j : ℕ). set ws j v) object_place
 
--- `note_handle`
-pub shift_at : (ws vs : List ℕ) (sh : Shape) (first o : ℕ) → first ≡ objects_at sh → o < sh.objects → vs ≡ set ws (first + o * object_size + object_active) (plus (get_or ws (first + o * object_size + object_active) 0) unit) → vs ≡ shift_w ws sh unit o
-unfolding shift_w
-shift_at ws vs sh first o h l e = let i : ℕ = first + o * object_size + object_active in
-    e ∙ object_save ws sh first o h l i object_active (omega arith) refl (plus (get_or ws i 0) unit) ∙ ap (λ (c : ℕ). save ws sh (object o object_active) (plus c unit)) (object_load ws sh first o h l i object_active (omega arith) refl)
+-- the count of object o
+module _ (ws : List ℕ) (sh : Shape) (first o : ℕ) (h : first ≡ objects_at sh) (l : o < sh.objects) where
+  pub active_load : get_or ws (first + o * object_size + object_active) 0 ≡ load ws sh (object o object_active)
+  active_load = object_load ws sh first o h l _ object_active (omega arith) refl
+
+  pub active_save : (v : ℕ) → set ws (first + o * object_size + object_active) v ≡ save ws sh (object o object_active) v
+  active_save v = object_save ws sh first o h l _ object_active (omega arith) refl v

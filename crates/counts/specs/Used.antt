@@ -1,12 +1,13 @@
 -- How many objects, the first ones, may have a handle counted: those up to the last that has a count, and up to the last that a row has a handle of. Assumes nothing.
 use Rattle.std.specs.Prelude.{Option, Some, None}
-use Rattle.std.specs.Prelude.{◌≡◌, refl, Bool, false, ◌&&◌, List, [], ◌∷◌, ◌++◌, eqb, ltb}
-use Rattle.std.proofs.Common.{sym, ap, ◌∙◌, add-one}
+use Rattle.std.specs.Bool.{then_some}
+use Rattle.std.specs.Prelude.{◌≡◌, refl, Bool, ◌&&◌, List, [], ◌∷◌, ◌++◌, eqb, ltb}
+use Rattle.std.proofs.Common.{sym, ◌∙◌}
 use Rattle.std.proofs.Math.Bool.{true}
-use Prim.Native.Nat.{ℕ, zero, suc, ◌+◌, ◌-◌, ◌≤◌, ◌<◌}
+use Prim.Native.Nat.{ℕ, zero, suc, ◌+◌, ◌≤◌, ◌<◌}
 use native.Mathlib.Omega.{arith}
-use borrow.Author.Tests.{ne_eqb, eqb-true, eqb-false, lt-ltb, le-ltb, ltb-true, ltb-false}
-use Rattle.words.specs.Pick.{pick, pick_has, bool, both}
+use borrow.Author.Tests.{eqb-true, eqb-false, lt-ltb, ltb-true, ltb-false}
+use Rattle.words.specs.Pick.{pick, pick_has, bool, both, clash}
 use Rattle.words.specs.All.{all, all_at, all_yes}
 use Rattle.model.specs.Base.{occurs}
 use Rattle.model.proofs.Counting.{occurs_append}
@@ -14,7 +15,7 @@ use Rattle.layout.specs.declared.Shape.{Shape}
 use Rattle.layout.specs.Layout.{Mem, object}
 use Rattle.layout.specs.Fields.{object_active}
 use Rattle.counts.specs.Found.{gather}
-use Rattle.counts.specs.Objects.{object_b, objects_b, objects_stop}
+use Rattle.counts.specs.Objects.{object_b, objects_b}
 
 -- ---- those that have a count
 
@@ -49,34 +50,6 @@ module _ (m : Mem) where
   unfolding idle_b
   used_fits n o h l = (both (eqb (m (object o object_active)) 0) (object_b m o) (used_rest n o h l)).1
 
-  -- `idle_ok`
-  pub idle_no : (o c : ℕ) → c ≡ m (object o object_active) → (c ≡ 0 → ⊥) → false ≡ idle_b m o
-  unfolding idle_b
-  idle_no o c e h = rw (ne_eqb (m (object o object_active)) 0 (λ q. h (e ∙ q)))
-
-  pub idle_is : (o c : ℕ) (r : Bool) → c ≡ m (object o object_active) → c ≡ 0 → r ≡ object_b m o → r ≡ idle_b m o
-  unfolding idle_b
-  idle_is o c r e h q = rw (sym e ∙ h) q
-
-  used_yes : (k : ℕ) → idle_b m k ≡ true → used_to m k ≡ used_to m (suc k)
-  unfolding used_to
-  used_yes k q = rw q
-
-  used_no : (k : ℕ) → idle_b m k ≡ false → suc k ≡ used_to m (suc k)
-  unfolding used_to
-  used_no k q = rw q
-
-  -- `used_objects`
-  pub used_stop : (n : ℕ) (t : Bool) → 0 < n → t ≡ idle_b m (n - 1) → t ≡ false → n ≡ used_to m n
-  used_stop n t h e d = let z : n ≡ suc (n - 1) = omega arith in z ∙ used_no (n - 1) (sym e ∙ d) ∙ ap (used_to m) (sym z)
-
-  pub used_less : (n : ℕ) (t : Bool) → 0 < n → t ≡ idle_b m (n - 1) → t ≡ true → used_to m (n - 1) ≡ used_to m n
-  used_less n t h e d = let z : n ≡ suc (n - 1) = omega arith in used_yes (n - 1) (sym e ∙ d) ∙ ap (used_to m) (sym z)
-
-  pub used_all : (n : ℕ) → n ≡ 0 → 0 ≡ used_to m n
-  unfolding used_to
-  used_all n e = rw e
-
 -- a number of used objects, where a test has passed
 abbrev pub read_if : Bool → ℕ → Option ℕ
 read_if b n = pick b (Some n) None
@@ -85,17 +58,14 @@ read_if b n = pick b (Some n) None
 unfoldable pub objects_read : Mem → Shape → Option ℕ
 objects_read m sh = read_if (objects_b m sh) (used_to m sh.objects)
 
-module _ (m : Mem) (sh : Shape) (n : ℕ) (e : n ≡ used_to m sh.objects) where
-  pub used_bad : (o : ℕ) (t : Bool) → o < n → t ≡ object_b m o → t ≡ false → None ≡ objects_read m sh
-  unfolding objects_read
-  used_bad o t l q d = rw (← objects_stop m sh o t (omega (arith, e, used_few m sh.objects)) q d)
-
-  pub used_end : (o : ℕ) → all o (object_b m) ≡ true → n ≤ o → Some n ≡ objects_read m sh
-  unfolding objects_read objects_b
-  used_end o h l = rw (all_yes sh.objects (object_b m) each, ← e)
-    where
-      each : (i : ℕ) → i < sh.objects → object_b m i ≡ true
-      each i k = bool (ltb i n) (λ q. all_at o (object_b m) h i (omega (arith, ltb-true i n q))) (λ q. used_fits m sh.objects i (omega (arith, e, ltb-false i n q)) k)
+-- the objects at the end need no second test
+pub read_is : (m : Mem) (sh : Shape) (n : ℕ) (b : Bool) → n ≡ used_to m sh.objects → b ≡ all n (object_b m) → then_some b n ≡ objects_read m sh
+unfolding objects_read objects_b
+read_is m sh n b e q = bool b
+    (λ t. rw (t, ← e, all_yes sh.objects (object_b m) (λ i k. bool (ltb i n) (λ l. all_at n (object_b m) (sym q ∙ t) i (ltb-true i n l)) (λ l. used_fits m sh.objects i (omega (arith, e, ltb-false i n l)) k))))
+    (λ f. bool (all sh.objects (object_b m))
+    (λ t. clash (all_yes n (object_b m) (λ i l. all_at sh.objects (object_b m) t i (omega (arith, e, used_few m sh.objects)))) (sym q ∙ f))
+    (λ g. rw (f, g)))
 
 -- ---- those that a list has a handle of
 
@@ -139,17 +109,6 @@ module _ (n : ℕ) where
   top_has t (x ∷ os) o h l = bool (eqb o x)
       (λ e. omega (arith, eqb-true o x e, raise_has t x (omega (arith, eqb-true o x e)), top_least (raise n t x) os))
       (λ e. let k : 1 ≤ 0 + occurs o os = rw e at h in top_has (raise n t x) os o (omega (arith, k)) l)
-
--- `raised`
-module _ (n t o : ℕ) where
-  pub raise_in : o < t → t ≡ raise n t o
-  raise_in h = rw (lt-ltb o t h)
-
-  pub raise_more : t ≤ o → o < n → o + 1 ≡ raise n t o
-  raise_more h l = rw (le-ltb o t h, lt-ltb o n l, add-one)
-
-  pub raise_out : t ≤ o → n ≤ o → t ≡ raise n t o
-  raise_out h l = rw (le-ltb o t h, le-ltb o n l)
 
 -- ---- lists of objects that are all among the first n
 

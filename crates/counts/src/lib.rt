@@ -11,7 +11,7 @@ ghost use Rattle.layout.specs.Layout.{objects_at, total, load as loadAt, object,
 ghost use Rattle.layout.specs.Fields.{object_active, item_object};
 ghost use Rattle.counts.specs.Found.{gather, in_row, in_book};
 ghost use Rattle.counts.specs.Shift.{plus, shift_w, shifted, unit};
-ghost use Rattle.counts.specs.Objects.{fields, object_b};
+ghost use Rattle.counts.specs.Objects.{object_b};
 ghost use Rattle.counts.specs.Used.{idle_b, used_to, objects_read, raise, top_of};
 ghost use Rattle.counts.specs.Halves.{half_b, halves_to, lower_w, lowered};
 
@@ -20,91 +20,54 @@ use layout::{Shape, field, place, size, value};
 // One more in the upper half of a word.
 const UNIT: u64 = size::NUMBER_32_MAX + 1;
 
-// Whether a number is one of two.
-fn either(x: u64, a: u64, b: u64) -> bool
-    ensures { result ≡ (eqb x a || eqb x b) }
-{
-    if x == a {
-        return true;
-    }
-    x == b
-}
-
-// Whether an object's fields are in range; its supported rights may be any word. "a new object has count 0, an active one more"; a retired one may have
-// either. Few tests, each of which but that of the count goes the same way for every object in range.
-fn fields_ok(
-    koid: u64,
-    kind: u64,
-    class: u64,
-    exportable: u64,
-    stage: u64,
-    count: u64,
-    limit: u64,
-) -> bool
-    ensures { result ≡ object_b (fields koid kind class exportable stage count limit) 0 }
-{
-    if kind / UNIT + limit / UNIT + exportable / 2 != 0 {
-        return false;
-    }
-    if koid < 1 {
-        return false;
-    }
-    if class > value::CLASS_NEVER {
-        return false;
-    }
-    if count == 0 {
-        return either(stage, value::STAGE_NEW, value::STAGE_RETIRED);
-    }
-    if count > limit {
-        return false;
-    }
-    either(stage, value::STAGE_ACTIVE, value::STAGE_RETIRED)
-}
-
-// Of object o, whose record starts o records after the first one's.
+// Whether the fields of object o, whose record starts o records after the first one's, are in range; its supported rights may be any word. "a new object has
+// count 0, an active one more"; a retired one may have either. Few tests, each of which but that of the count goes the same way for every object in range.
+#[tactic(auto, using(crate::specs::Objects::object_is, std::proofs::lemmas::Bool::Decides::nat_tests))]
 fn object_ok(s: &[u64], sh: Shape, first: u64, o: u64) -> bool
     requires first_value { (first ≡ objects_at sh) × (o < sh.objects) }
     requires sh_in_bounds { total sh ≤ length s.now }
     ensures { result ≡ object_b (loadAt s.now sh) o }
 {
     let at = (first + o * size::OBJECT_SIZE) as usize;
-    fields_ok(
-        s[at],
-        s[at + place::OBJECT_KIND],
-        s[at + place::OBJECT_CLASS],
-        s[at + place::OBJECT_EXPORTABLE],
-        s[at + place::OBJECT_STAGE],
-        s[at + place::OBJECT_ACTIVE],
-        s[at + place::OBJECT_LIMIT],
-    )
+    let koid = s[at];
+    let kind = s[at + place::OBJECT_KIND];
+    let class = s[at + place::OBJECT_CLASS];
+    let exportable = s[at + place::OBJECT_EXPORTABLE];
+    let stage = s[at + place::OBJECT_STAGE];
+    let count = s[at + place::OBJECT_ACTIVE];
+    let limit = s[at + place::OBJECT_LIMIT];
+    if kind / UNIT + limit / UNIT + exportable / 2 != 0 || koid == 0 || class > value::CLASS_NEVER {
+        return false;
+    }
+    if count == 0 {
+        matches!(stage, value::STAGE_NEW | value::STAGE_RETIRED)
+    } else {
+        count <= limit && matches!(stage, value::STAGE_ACTIVE | value::STAGE_RETIRED)
+    }
 }
 
 // Whether object o has no count and its fields are in range.
+#[tactic(auto, using(crate::specs::Shift::object_load), unfolding(crate::specs::Used::idle_b))]
 fn idle_ok(s: &[u64], sh: Shape, first: u64, o: u64) -> bool
     requires first_value { (first ≡ objects_at sh) × (o < sh.objects) }
     requires sh_in_bounds { total sh ≤ length s.now }
     ensures { result ≡ idle_b (loadAt s.now sh) o }
 {
     let at = (first + o * size::OBJECT_SIZE + field::OBJECT_ACTIVE) as usize;
-    let count = s[at];
-    if count != 0 {
-        return false;
-    }
-    object_ok(s, sh, first, o)
+    s[at] == 0 && object_ok(s, sh, first, o)
 }
 
 // How many objects are left without those at the end that have no count and whose fields are in range.
+#[tactic(auto, unfolding(crate::specs::Used::used_to))]
 fn used_objects(s: &[u64], sh: Shape, first: u64) -> u64
     requires first_value { first ≡ objects_at sh }
     requires sh_in_bounds { total sh ≤ length s.now }
     ensures { result ≡ used_to (loadAt s.now sh) sh.objects }
 {
-    let mut n = sh.objects as u64;
-    while 0 < n {
-        if !idle_ok(s, sh, first, n - 1) {
-            return n;
+    for o in (0..sh.objects as u64).rev() {
+        if !idle_ok(s, sh, first, o) {
+            return o + 1;
         }
-        n -= 1;
     }
     0
 }
@@ -116,31 +79,20 @@ pub fn check_objects(s: &[u64], sh: Shape) -> Option<u64>
 {
     let first = layout::region_of(sh, layout::region::REGION_OBJECT).low;
     let n = used_objects(s, sh, first);
-    for o in 0..n {
-        if !object_ok(s, sh, first, o) {
-            return None;
-        }
-    }
-    Some(n)
-}
-
-// A word with one more in its upper half: past the largest it starts again.
-fn added(c: u64) -> u64
-    ensures { result ≡ plus c unit }
-{
-    let room = 0xffff_ffff_ffff_ffff - UNIT;
-    if c > room { c - room - 1 } else { c + UNIT }
+    (0..n).all(|o| object_ok(s, sh, first, o)).then_some(n)
 }
 
 // Counts a handle of object o in the upper half of the object's count.
+#[tactic(auto, unfolding(crate::specs::Shift::shift_w))]
 fn note_count(s: &mut [u64], sh: Shape, o: u64)
     ensures { s.new ≡ shift_w s.old sh unit o }
 {
     let c = layout::object_word(s, sh, o, field::OBJECT_ACTIVE);
-    layout::put_object(s, sh, o, field::OBJECT_ACTIVE, added(c));
+    layout::put_object(s, sh, o, field::OBJECT_ACTIVE, c.wrapping_add(UNIT));
 }
 
 // The same where o is one of the state's objects and all words are lent: no further test.
+#[tactic(auto, using(crate::specs::Shift::active_load, crate::specs::Shift::active_save), unfolding(crate::specs::Shift::shift_w))]
 pub fn note_handle(s: &mut [u64], sh: Shape, o: u64)
     requires o_lt_objects { o < sh.objects }
     requires sh_in_bounds { total sh ≤ length s.old }
@@ -148,20 +100,14 @@ pub fn note_handle(s: &mut [u64], sh: Shape, o: u64)
 {
     let first = layout::region_of(sh, layout::region::REGION_OBJECT).low;
     let at = (first + o * size::OBJECT_SIZE + field::OBJECT_ACTIVE) as usize;
-    s[at] = added(s[at]);
+    s[at] = s[at].wrapping_add(UNIT);
 }
 
 // So many objects, the first ones, or as many more as it takes for o to be among them, if it is one of n.
 fn raised(top: u64, n: u64, o: u64) -> u64
     ensures { result ≡ raise n top o }
 {
-    if o < top {
-        return top;
-    }
-    if o < n {
-        return o + 1;
-    }
-    top
+    if (top..n).contains(&o) { o + 1 } else { top }
 }
 
 // Counts the handle of item j of the row in place x. The objects that may have a handle counted: so many as before, or up to that handle's.
@@ -192,24 +138,12 @@ fn note_row(s: &mut [u64], sh: Shape, x: u64, top: u64) -> u64
     ensures reached { result ≡ top_of sh.objects top (in_row (loadAt s.old sh) x) }
 {
     let kind = layout::row_word(s, sh, x, field::ROW_KIND);
-    if kind < value::KIND_CLAIM {
-        return top;
-    }
-    if kind > value::KIND_PARCEL {
+    if !(value::KIND_CLAIM..=value::KIND_PARCEL).contains(&kind) {
         return top;
     }
     let count = layout::row_word(s, sh, x, field::ROW_LENGTH);
     let n = count.min(size::BATCH_MAX);
     note_items(s, sh, x, n, top)
-}
-
-// The same of the row of rank i.
-fn note_rank(s: &mut [u64], sh: Shape, i: u64, top: u64) -> u64
-    ensures noted { s.new ≡ shifted s.old sh unit (in_row (loadAt s.old sh) (loadAt s.old sh (index i))) }
-    ensures reached { result ≡ top_of sh.objects top (in_row (loadAt s.old sh) (loadAt s.old sh (index i))) }
-{
-    let x = layout::index_word(s, sh, i);
-    note_row(s, sh, x, top)
 }
 
 // The same of the rows in use.
@@ -221,19 +155,14 @@ pub fn note_rows(s: &mut [u64], sh: Shape, top: u64) -> u64
     let n = used.min(sh.rows as u64);
     let mut t = top;
     for i in 0..n {
-        t = note_rank(s, sh, i, t);
+        let x = layout::index_word(s, sh, i);
+        t = note_row(s, sh, x, t);
     }
     t
 }
 
-// Whether both are so; both are known, so that nothing is left out.
-pub fn both(a: bool, b: bool) -> bool
-    ensures { result ≡ (a && b) }
-{
-    if a { b } else { false }
-}
-
 // Leaves the lower half of the count of object o. Whether the upper half was equal.
+#[tactic(auto, using(crate::specs::Shift::active_load, crate::specs::Shift::active_save, crate::specs::Halves::set_own), unfolding(crate::specs::Halves::lower_w))]
 fn settle_one(s: &mut [u64], sh: Shape, first: u64, o: u64) -> bool
     requires first_value { (first ≡ objects_at sh) × (o < sh.objects) }
     requires sh_in_bounds { total sh ≤ length s.old }
@@ -251,6 +180,7 @@ fn settle_one(s: &mut [u64], sh: Shape, first: u64, o: u64) -> bool
 }
 
 // Leaves the lower half of the count of each of the first n objects. Whether every upper half was equal.
+#[tactic(auto, using(crate::specs::Halves::lowered_later), unfolding(crate::specs::Halves::lowered, words::specs::All::all))]
 pub fn settle(s: &mut [u64], sh: Shape, n: u64) -> bool
     requires { (total sh ≤ length s.old) × (n ≤ sh.objects) }
     ensures words { s.new ≡ lowered s.old sh n }
@@ -259,8 +189,7 @@ pub fn settle(s: &mut [u64], sh: Shape, n: u64) -> bool
     let first = layout::region_of(sh, layout::region::REGION_OBJECT).low;
     let mut equal = true;
     for o in 0..n {
-        let one = settle_one(s, sh, first, o);
-        equal = both(equal, one);
+        equal &= settle_one(s, sh, first, o);
     }
     equal
 }

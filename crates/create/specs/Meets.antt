@@ -260,7 +260,3 @@ create_meets ws ps r us e = record {
       (λ q. both_are r 18 us ws (e ∙ call_short ws ps g (leb-false (total (shape_in ps)) (length ws) q))))
       (λ g. both_are r 18 us ws (e ∙ call_bad ws ps g));
 }
-
--- both clauses of the call's contract
-pub create_both : (ws ps : List ℕ) (r : ℕ) (us : List ℕ) → after r us ≡ create_w ws ps → (after r us ≡ create_w ws ps) × Meets ws ps r us
-create_both ws ps r us e = (e, create_meets ws ps r us e)

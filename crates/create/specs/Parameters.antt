@@ -1,14 +1,15 @@
 -- Creation's parameters in words: docs/formats.md, "Creation's parameters". Assumes nothing.
 use Rattle.std.specs.Prelude.{Option, Some, None}
 use Rattle.std.specs.Prelude.{◌≡◌, refl, Bool, true, false, ◌&&◌, List, [], ◌∷◌, ℕ, zero, suc, ◌+◌, ◌-◌, ◌*◌, ◌^◌, ◌≤◌, ◌<◌, min, length, get_or, ltb, leb}
-use Rattle.std.proofs.Common.{sym, ap, ◌∙◌, arith, add-one, lt-ltb, le-ltb, ltb-true, le-leb, leb-true}
-use Rattle.std.proofs.Math.Nat.{sub-zero}
-use Rattle.words.specs.Pick.{pick, bool, both, both_is, clash, refuted, all_six}
+use Rattle.std.proofs.Common.{sym, ap, arith, add-one, le-ltb, ltb-true, le-leb, leb-true}
+use Rattle.std.specs.List.{list_all, range_with_len}
+use Rattle.words.specs.Pick.{pick, bool, both, both_is, clash, all_six}
 use Rattle.layout.specs.declared.Shape.{Shape}
 use Rattle.layout.specs.Sizes.{pages_max, tables_max, frames_max, objects_max, rows_max}
 use Rattle.model.specs.Base.{at_most, between, every, sum}
 use Rattle.model.specs.State.{till, max_tables, max_frames, max_objects, max_rows, max_limit, max_slots}
 use Rattle.model.specs.Create.{TableParameters, ObjectParameters, Parameters, max_pages, table_permitted, object_permitted, permitted}
+use Rattle.std.proofs.lemmas.Bool.Decides.{nat_tests}
 use Rattle.model.proofs.Tests.{within}
 
 -- n things, from that of number k on
@@ -79,22 +80,10 @@ pub from_length {ℓ} : {A : Type ℓ} (f : ℕ → A) (k n : ℕ) → length (f
 from_length f k zero = refl
 from_length f k (suc n) = ap suc (from_length f (suc k) n)
 
-every_turn {ℓ} : {A : Type ℓ} (p : A → Bool) (f : ℕ → A) (k n d : ℕ) → n ≡ k + suc d → every p (from f k (n - k)) ≡ (p (f k) && every p (from f (k + 1) (n - (k + 1))))
-every_turn p f k n d e = let a : n - k ≡ suc d = omega arith in let b : n - (k + 1) ≡ d = omega arith in rw (a, b, add-one)
-
-pub every_start {ℓ} : {A : Type ℓ} (p : A → Bool) (f : ℕ → A) (n : ℕ) → every p (from f 0 n) ≡ every p (from f 0 (n - 0))
-every_start p f n = rw (sub-zero n)
-
--- the loop that tests each of n things: x is what the whole of it answers
-module _ {ℓ} {A : Type ℓ} (p : A → Bool) (f : ℕ → A) (x : Bool) (k n : ℕ) (i : x ≡ every p (from f k (n - k))) where
-  pub every_yes : k < n → p (f k) ≡ true → x ≡ every p (from f (k + 1) (n - (k + 1)))
-  every_yes h e = i ∙ every_turn p f k n (n - (k + 1)) (omega arith) ∙ rw e
-
-  pub every_no : k < n → p (f k) ≡ false → false ≡ x
-  every_no h e = sym (i ∙ every_turn p f k n (n - (k + 1)) (omega arith) ∙ rw e)
-
-  pub every_end : n ≤ k → true ≡ x
-  every_end h = let a : n - k ≡ 0 = omega arith in sym (i ∙ rw a)
+-- a test of each of n things, by their numbers
+pub list_all_from {ℓ} : {A : Type ℓ} (p : A → Bool) (f : ℕ → A) (k n : ℕ) → list_all (λ i. p (f i)) (range_with_len k n) ≡ every p (from f k n)
+list_all_from p f k zero = refl
+list_all_from p f k (suc n) = rw (add-one k) (ap (λ (t : Bool). p (f k) && t) (list_all_from p f (suc k) n))
 
 -- ---- tests
 
@@ -116,15 +105,6 @@ table_is p e =
     let q = both (between 1 p.pages (max_pages till)) (ltb p.seed (2 ^ 64)) e in
     let w = within 1 p.pages (max_pages till) q.0 in
     record { some_page = w.0; few_pages = omega arith; seed = ltb-true p.seed (2 ^ 64) q.1 }
-
-pub table_yes : (p : TableParameters) → TableGood p → table_permitted till p ≡ true
-unfolding max_slots
-table_yes p g =
-    both_is (between 1 p.pages (max_pages till)) (ltb p.seed (2 ^ 64))
-    (within_yes 1 p.pages (max_pages till) g.some_page (omega (arith, g.few_pages))) (lt-ltb p.seed (2 ^ 64) g.seed)
-
-pub table_no : (p : TableParameters) → (TableGood p → ⊥) → false ≡ table_permitted till p
-table_no p h = refuted (table_permitted till p) (λ e. h (table_is p e))
 
 -- one object
 pub record ObjectGood (p : ObjectParameters) : Type 0 where
@@ -154,17 +134,6 @@ object_is p h =
       exportable = ltb-true p.exportable 2 t.4;
       limit = omega arith;
     }
-
-pub object_yes : (p : ObjectParameters) → ObjectGood p → object_permitted p ≡ true
-unfolding max_limit
-object_yes p g =
-    six_all (between 1 p.koid (2 ^ 64 - 1)) (ltb p.kind (2 ^ 32)) (ltb p.class 3)
-    (ltb p.supported (2 ^ 64)) (ltb p.exportable 2) (between 0 p.limit max_limit)
-    (within_yes 1 p.koid (2 ^ 64 - 1) g.some_koid (omega (arith, g.koid))) (lt-ltb p.kind (2 ^ 32) g.kind) (lt-ltb p.class 3 g.class)
-    (lt-ltb p.supported (2 ^ 64) g.supported) (lt-ltb p.exportable 2 g.exportable) (within_yes 0 p.limit max_limit (omega arith) (omega (arith, g.limit)))
-
-pub object_no : (p : ObjectParameters) → (ObjectGood p → ⊥) → false ≡ object_permitted p
-object_no p h = refuted (object_permitted p) (λ e. h (object_is p e))
 
 -- the counts
 pub record CountsGood (ps : List ℕ) : Type 0 where
@@ -232,45 +201,25 @@ plan_bad ps h = bool (leb (need ps) (length ps) && permitted till (parameters_of
     absurd (h (record { long = leb-true (need ps) (length ps) b.0; within = b.1 })))
     (λ e. rw e)
 
--- what the code's tests say
-pub counts_bad : (ps : List ℕ) → (CountsGood ps → ⊥) → None ≡ plan_of ps
-counts_bad ps h = plan_bad ps (λ g. h (good_checked ps g).counts)
+-- the code's tests, in their order
+abbrev pub counts_fit : ℕ → ℕ → ℕ → ℕ → Bool
+counts_fit t f o r = between 1 t tables_max && (between 0 f frames_max && (between 1 o objects_max && between 1 r rows_max))
 
-pub tables_bad : (ps : List ℕ) (n : ℕ) (b : Bool) → n ≡ get_or ps 0 0 → b ≡ every (table_permitted till) (tables_in ps n) → b ≡ false → None ≡ plan_of ps
-tables_bad ps n b e q f = plan_bad ps (λ g. clash (good_checked ps g).tables (rw (← e) (sym q ∙ f)))
+decide : (ps : List ℕ) (b : Bool) → (b ≡ true → Good ps) → (Good ps → b ≡ true) → plan_of ps ≡ pick b (Some (shape_in ps)) None
+decide ps true y n = sym (plan_good ps (y refl))
+decide ps false y n = sym (plan_bad ps (λ g. clash (n g) refl))
 
-pub objects_bad : (ps : List ℕ) (t n : ℕ) (b : Bool) → t ≡ get_or ps 0 0 → n ≡ get_or ps 2 0 → b ≡ every object_permitted (objects_in ps t n) → b ≡ false → None ≡ plan_of ps
-objects_bad ps t n b e d q f = plan_bad ps (λ g. clash (good_checked ps g).objects (rw (← e, ← d) (sym q ∙ f)))
-
-module _ (ps : List ℕ) (t f o r p n : ℕ) (b d : Bool) (et : t ≡ get_or ps 0 0) (ef : f ≡ get_or ps 1 0) (eo : o ≡ get_or ps 2 0) (er : r ≡ get_or ps 3 0) (en : n ≡ length ps) where
-  pub plan_yes : 1 ≤ t → t ≤ tables_max → f ≤ frames_max → 1 ≤ o → o ≤ objects_max → 1 ≤ r → r ≤ rows_max → 4 + t * 2 + o * 6 ≤ n
-      → b ≡ every (table_permitted till) (tables_in ps t) → b ≡ true → d ≡ every object_permitted (objects_in ps t o) → d ≡ true → p ≡ page_sum ps t
-      → Some (record { tables = t; pages = p; frames = f; objects = o; rows = r }) ≡ plan_of ps
-  unfolding shape_in
-  plan_yes h1 h2 h3 h4 h5 h6 h7 h8 qb hb qd hd ep =
-      rw (ep, et, ef, eo, er)
-      (plan_good ps (checked_good ps (record {
-        counts = record {
-          some_table = omega arith;
-          few_tables = omega arith;
-          few_frames = omega arith;
-          some_object = omega arith;
-          few_objects = omega arith;
-          some_row = omega arith;
-          few_rows = omega arith;
-          long = omega arith;
-        };
-        tables = rw (← et) (sym qb ∙ hb);
-        objects = rw (← et, ← eo) (sym qd ∙ hd);
-      })))
+pub plan_is : (ps : List ℕ) → plan_of ps
+    ≡ pick (counts_fit (get_or ps 0 0) (get_or ps 1 0) (get_or ps 2 0) (get_or ps 3 0)
+    && (leb (need ps) (length ps)
+    && (every (table_permitted till) (tables_in ps (get_or ps 0 0))
+    && every object_permitted (objects_in ps (get_or ps 0 0) (get_or ps 2 0)))))
+    (Some (shape_in ps)) None
+plan_is ps = decide ps _
+    (λ e. checked_good ps (grind (arith, nat_tests)))
+    (λ g. let k = good_checked ps g in let c = k.counts in grind (arith, nat_tests))
 
 -- no sum of pages is large
 pub pages_small : (ps : List ℕ) (n : ℕ) → page_sum ps n ≤ n * pages_max
 pages_small ps zero = omega arith
 pages_small ps (suc n) = omega (arith, pages_small ps n)
-
-pub pages_more : (ps : List ℕ) (k x v y : ℕ) → x ≡ page_sum ps k → v ≡ min (table_from ps k).pages pages_max → y ≡ x + v → y ≡ page_sum ps (k + 1)
-pages_more ps k x v y e q p = rw add-one (cc)
-
-pub pages_at : (ps : List ℕ) (k n x : ℕ) → x ≡ page_sum ps k → k ≡ n → x ≡ page_sum ps n
-pages_at ps k n x e q = rw (← q) e

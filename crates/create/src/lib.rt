@@ -1,43 +1,36 @@
 // Creation: a new state in lent words. A call beside the request list.
 #![tactic(auto)]
 
-ghost use Rattle.std.specs.Prelude.{◌≡◌, ◌+◌, ◌*◌, ◌/◌};
+ghost use Rattle.std.specs.Prelude.{◌≡◌, ◌^◌, ◌<◌, ◌≤◌, length};
+ghost use Rattle.std.specs.Int.{div_ceil};
 ghost use Rattle.model.specs.Base.{every};
 ghost use Rattle.model.specs.State.{till};
 ghost use Rattle.model.specs.Create.{table_permitted, object_permitted};
-ghost use Rattle.layout.specs.Layout.{writes};
-ghost use Rattle.create.specs.Parameters.{table_from, object_from, tables_in, objects_in, page_sum, plan_of};
+ghost use Rattle.format.specs.Refusals.{number_of};
+ghost use Rattle.layout.specs.Layout.{total, writes};
+ghost use Rattle.create.specs.Parameters.{table_from, object_from, tables_in, objects_in, page_sum, counts_fit, plan_of};
 ghost use Rattle.create.specs.Meets.{Meets};
-ghost use Rattle.create.specs.Creation.{cleared_w, header_w, head_p, heads_w, object_p, objects_w, groups_w, levels_w, places_w, built_w, placed_w, after, create_w};
+ghost use Rattle.create.specs.Creation.{cleared_w, header_w, head_p, heads_w, object_p, objects_w, groups_w, levels_w, places_w, built_w, after, create_w};
 
-use layout::{Shape, field, size, value};
+use format::refusal::{self, Refusal};
+use layout::{Shape, field, region, size, value};
 
 // Whether a table's parameters are permitted; its seed may be any word.
+#[tactic(auto, using(std::proofs::lemmas::Bool::Decides::nat_tests), unfolding(model::specs::State::max_slots))]
 fn table_ok(p: &[u64], b: u8) -> bool
     ensures { result ≡ table_permitted till (table_from p.now b) }
 {
-    let pages = words::word(p, 4 + (b as usize) * 2);
-    if pages < 1 {
-        return false;
-    }
-    if pages > size::PAGES_MAX {
-        return false;
-    }
-    true
+    (1..=size::PAGES_MAX).contains(&words::word(p, 4 + (b as usize) * 2))
 }
 
 fn tables_ok(p: &[u64], n: u8) -> bool
     ensures { result ≡ every (table_permitted till) (tables_in p.now n) }
 {
-    for k in 0..n {
-        if !table_ok(p, k) {
-            return false;
-        }
-    }
-    true
+    (0..n).all(|k| table_ok(p, k))
 }
 
 // Whether an object's parameters are permitted, from their place on; its rights may be any word.
+#[tactic(auto, using(std::proofs::lemmas::Bool::Decides::nat_tests), unfolding(model::specs::State::max_limit))]
 fn object_ok(p: &[u64], at: u32) -> bool
     ensures { result ≡ object_permitted (object_from p.now at) }
 {
@@ -47,37 +40,22 @@ fn object_ok(p: &[u64], at: u32) -> bool
     let class = words::word(p, i + 2);
     let exportable = words::word(p, i + 4);
     let limit = words::word(p, i + 5);
-    if koid < 1 {
-        return false;
-    }
-    if kind > size::NUMBER_32_MAX {
-        return false;
-    }
-    if class > value::CLASS_NEVER {
-        return false;
-    }
-    if exportable > 1 {
-        return false;
-    }
-    if limit > size::NUMBER_32_MAX {
-        return false;
-    }
-    true
+    koid > 0
+        && kind <= size::NUMBER_32_MAX
+        && class <= value::CLASS_NEVER
+        && exportable <= 1
+        && limit <= size::NUMBER_32_MAX
 }
 
 fn objects_ok(p: &[u64], t: u8, n: u16) -> bool
     ensures { result ≡ every object_permitted (objects_in p.now t n) }
 {
     let base = 4 + (t as u32) * 2;
-    for k in 0..n {
-        if !object_ok(p, base + (k as u32) * 6) {
-            return false;
-        }
-    }
-    true
+    (0..n).all(|k| object_ok(p, base + (k as u32) * 6))
 }
 
 // The pages of the first n tables.
+#[tactic(auto, using(crate::specs::Parameters::pages_small))]
 fn pages_of(p: &[u64], n: u8) -> u64
     ensures { result ≡ page_sum p.now n }
 {
@@ -89,7 +67,17 @@ fn pages_of(p: &[u64], n: u8) -> u64
     sum
 }
 
+fn counts_ok(t: u64, f: u64, o: u64, r: u64) -> bool
+    ensures { result ≡ counts_fit t f o r }
+{
+    (1..=size::TABLES_MAX).contains(&t)
+        && f <= size::FRAMES_MAX
+        && (1..=size::OBJECTS_MAX).contains(&o)
+        && (1..=size::ROWS_MAX).contains(&r)
+}
+
 // The counts of the state that the parameters ask for, if they are all there and permitted.
+#[tactic(auto, using(crate::specs::Parameters::pages_small, crate::specs::Parameters::plan_is, std::proofs::lemmas::Bool::Decides::nat_tests), unfolding(crate::specs::Parameters::shape_in))]
 fn plan(p: &[u64]) -> Option<Shape>
     ensures { result ≡ plan_of p.now }
 {
@@ -97,58 +85,33 @@ fn plan(p: &[u64]) -> Option<Shape>
     let f = words::word(p, 1);
     let o = words::word(p, 2);
     let r = words::word(p, 3);
-    if t < 1 {
-        return None;
-    }
-    if t > size::TABLES_MAX {
-        return None;
-    }
-    if f > size::FRAMES_MAX {
-        return None;
-    }
-    if o < 1 {
-        return None;
-    }
-    if o > size::OBJECTS_MAX {
-        return None;
-    }
-    if r < 1 {
-        return None;
-    }
-    if r > size::ROWS_MAX {
-        return None;
-    }
-    let n = p.len() as u64;
-    if n < 4 + t * 2 + o * 6 {
+    if !counts_ok(t, f, o, r) || (p.len() as u64) < 4 + t * 2 + o * 6 {
         return None;
     }
     let tables = t as u8;
     let objects = o as u16;
-    if !tables_ok(p, tables) {
+    if !tables_ok(p, tables) || !objects_ok(p, tables, objects) {
         return None;
     }
-    if !objects_ok(p, tables, objects) {
-        return None;
-    }
-    let pages = pages_of(p, tables);
     Some(Shape {
-        tables: tables,
-        pages: pages as u32,
+        tables,
+        pages: pages_of(p, tables) as u32,
         frames: f as u16,
-        objects: objects,
+        objects,
         rows: r as u16,
     })
 }
 
 // Sets the first n words to 0.
-fn clear(s: &mut [u64], n: u64)
+#[tactic(auto, using(crate::specs::Memory::cleared_front, std::proofs::lemmas::Grind::common_steps))]
+fn clear(s: &mut [u64], n: usize)
+    requires { n ≤ length s.old }
     ensures { s.new ≡ cleared_w s.old n }
 {
-    for k in 0..n {
-        words::put(s, k as usize, 0);
-    }
+    s[..n].fill(0);
 }
 
+#[tactic(auto, unfolding(crate::specs::Creation::header_w))]
 fn make_header(s: &mut [u64], sh: Shape)
     ensures { s.new ≡ header_w s.old sh }
 {
@@ -177,11 +140,11 @@ fn make_head(s: &mut [u64], sh: Shape, p: &[u64], b: u8)
     layout::put_head(s, sh, t, field::HEAD_FIRST_ENTRY, first);
 }
 
+#[tactic(auto, unfolding(layout::specs::Turns::turns))]
 fn make_heads(s: &mut [u64], sh: Shape, p: &[u64])
     ensures { s.new ≡ heads_w s.old sh p.now sh.tables }
 {
-    let n = sh.tables;
-    for k in 0..n {
+    for k in 0..sh.tables {
         make_head(s, sh, p, k);
     }
 }
@@ -199,70 +162,55 @@ fn make_object(s: &mut [u64], sh: Shape, p: &[u64], o: u16)
     layout::put_object(s, sh, n, field::OBJECT_LIMIT, words::word(p, at + 5));
 }
 
+#[tactic(auto, unfolding(layout::specs::Turns::turns))]
 fn make_objects(s: &mut [u64], sh: Shape, p: &[u64])
     ensures { s.new ≡ objects_w s.old sh p.now sh.objects }
 {
-    let n = sh.objects;
-    for k in 0..n {
+    for k in 0..sh.objects {
         make_object(s, sh, p, k);
     }
 }
 
-// The free frames of the first n groups of a level.
-fn make_groups(s: &mut [u64], sh: Shape, region: u64, size: u16, n: u16)
-    ensures { s.new ≡ groups_w s.old sh region size n }
+// The free frames of each group of a level.
+#[tactic(auto, unfolding(layout::specs::Turns::turns))]
+fn make_groups(s: &mut [u64], sh: Shape, region: u64, size: u64)
+    requires some { 0 < size }
+    requires few { size < 2 ^ 16 }
+    ensures { s.new ≡ groups_w s.old sh region size (div_ceil sh.frames size) }
 {
     let frames = sh.frames as u64;
-    let each = size as u64;
-    for k in 0..n {
-        let g = k as u64;
-        let rest = frames.saturating_sub(g * each);
-        layout::save(s, sh, region, g, 0, 0, each.min(rest));
+    for k in 0..frames.div_ceil(size) {
+        let rest = frames.saturating_sub(k * size);
+        layout::save(s, sh, region, k, 0, 0, size.min(rest));
     }
 }
 
+#[tactic(auto, unfolding(crate::specs::Creation::levels_w))]
 fn make_levels(s: &mut [u64], sh: Shape)
     ensures { s.new ≡ levels_w s.old sh }
 {
-    let f = sh.frames as u64;
-    make_groups(
-        s,
-        sh,
-        layout::region::REGION_GROUP_16,
-        16,
-        ((f + 15) / 16) as u16,
-    );
-    make_groups(
-        s,
-        sh,
-        layout::region::REGION_GROUP_256,
-        256,
-        ((f + 255) / 256) as u16,
-    );
-    make_groups(
-        s,
-        sh,
-        layout::region::REGION_GROUP_4096,
-        4096,
-        ((f + 4095) / 4096) as u16,
-    );
+    make_groups(s, sh, region::REGION_GROUP_16, 16);
+    make_groups(s, sh, region::REGION_GROUP_256, 256);
+    make_groups(s, sh, region::REGION_GROUP_4096, 4096);
 }
 
 // The row index: place and rank are the same number.
+#[tactic(auto, unfolding(layout::specs::Turns::turns))]
 fn make_places(s: &mut [u64], sh: Shape)
     ensures { s.new ≡ places_w s.old sh sh.rows }
 {
-    let n = sh.rows as u64;
-    for k in 0..n {
+    for k in 0..sh.rows as u64 {
         layout::put_index(s, sh, k, k);
         layout::put_rank(s, sh, k, k);
     }
 }
 
+#[tactic(auto, unfolding(crate::specs::Creation::built_w))]
 fn build(s: &mut [u64], p: &[u64], sh: Shape)
+    requires { total sh ≤ length s.old }
     ensures { s.new ≡ built_w s.old p.now sh }
 {
-    clear(s, layout::total_of(sh));
+    clear(s, layout::total_of(sh) as usize);
     make_header(s, sh);
     make_heads(s, sh, p);
     make_objects(s, sh, p);
@@ -270,26 +218,24 @@ fn build(s: &mut [u64], p: &[u64], sh: Shape)
     make_places(s, sh);
 }
 
-// Makes the state where there are words enough.
-fn place(s: &mut [u64], p: &[u64], sh: Shape) -> u64
-    ensures { after result s.new ≡ placed_w s.old p.now sh }
+// Makes the state, if its parameters are permitted and there are words enough.
+#[tactic(auto, unfolding(crate::specs::Creation::create_w, crate::specs::Creation::placed_w))]
+fn create(s: &mut [u64], p: &[u64]) -> Result<(), Refusal>
+    ensures { after (number_of result) s.new ≡ create_w s.old p.now }
 {
-    let n = s.len() as u64;
-    if layout::total_of(sh) <= n {
-        build(s, p, sh);
-        return format::refusal::DONE;
+    let sh = plan(p).ok_or(Refusal::Misuse)?;
+    if layout::total_of(sh) > s.len() as u64 {
+        return Err(Refusal::Misuse);
     }
-    format::refusal::MISUSE
+    build(s, p, sh);
+    Ok(())
 }
 
 // Creation. Its result is 0, or 18 and no word has changed.
+#[tactic(auto, using(crate::specs::Meets::create_meets))]
 pub fn gurtxozal_create(state: &mut [u64], parameters: &[u64]) -> u64
     ensures words { after result state.new ≡ create_w state.old parameters.now }
     ensures meets { Meets state.old parameters.now result state.new }
 {
-    let planned = plan(parameters);
-    match planned {
-        None => format::refusal::MISUSE,
-        Some(sh) => place(state, parameters, sh),
-    }
+    refusal::number_of(create(state, parameters))
 }

@@ -1,5 +1,5 @@
 -- A page leaves its table: what stores are made, and the words then. Assumes nothing.
-use Rattle.std.specs.Prelude.{List, [], ◌∷◌, ℕ, zero, suc, ◌+◌, ◌-◌, ◌*◌, eqb, ltb}
+use Rattle.std.specs.Prelude.{List, [], ◌∷◌, ℕ, zero, suc, ◌+◌, ◌-◌, ◌*◌, eqb, ltb, Option, Some, None}
 use Rattle.words.specs.Pick.{pick}
 use Rattle.model.specs.State.{till}
 use Rattle.model.specs.Storage.{slots_of}
@@ -62,6 +62,11 @@ unfoldable pub first_empty : Mem → ℕ → ℕ
 first_empty m b = pick (eqb (m (head b head_lifecycle)) life_active) (m (head b head_first_empty)) 0
 
 -- "Unknown table, object or row first"; "take_empty_page: 1 whether a page was taken (0 or 1), 2 its page number"
+-- "1 whether there is one, 2 its number"
+abbrev pub page_list : Option ℕ → List ℕ
+page_list None = 0 ∷ []
+page_list (Some p) = 1 ∷ p ∷ []
+
 unfoldable pub take_page_r : List ℕ → List ℕ → Shape → ℕ → ℕ → Both
 take_page_r ws os sh base b =
     pick (ltb b sh.tables)

@@ -14,7 +14,7 @@ use Rattle.model.proofs.Tests.{and_right, bit_true}
 use Rattle.invariant.proofs.Pages.{till_sane}
 use Rattle.invariant.proofs.Orders.{Sound, below_of, detach_sound}
 use Rattle.layout.specs.declared.Shape.{Shape}
-use Rattle.layout.specs.Layout.{Mem, head, entry, group, load, in_head, in_entry, InAll, length_writes, load_writes, upds, Write.at}
+use Rattle.layout.specs.Layout.{Mem, head, entry, group, load, in_head, in_entry, InAll, length_writes, load_writes, upds}
 use Rattle.layout.specs.Fields.{head_page_limit, head_epoch, head_pages, head_first_detached, head_first_entry, entry_frame, entry_next, slot_tag, slot_place, slot_position, row_id}
 use Rattle.layout.specs.Sizes.{page_size}
 use Rattle.representation.specs.Represents.{entry_at, link_of, slot_word, TableIs, is_marked}

@@ -7,13 +7,16 @@
 
 ghost use Rattle.std.specs.Prelude.{◌≡◌};
 ghost use Rattle.layout.specs.Layout.{load as loadAt};
-ghost use Rattle.answer.specs.Does.{both};
+ghost use Rattle.answer.specs.Does.{both, reply, Gives};
+ghost use Rattle.storage.specs.Links.{place_of};
 ghost use Rattle.storage.specs.Ops.{leave_w};
 ghost use Rattle.format.specs.Fields.{table_field};
 ghost use Rattle.request.specs.Place.{field_of};
 ghost use Rattle.detach.specs.Late.{without_w, without_by};
-ghost use Rattle.detach.specs.Ops.{unlink_page_w, join_detached_w, detach_w, first_empty, take_page_r};
+ghost use Rattle.detach.specs.Ops.{unlink_page_w, join_detached_w, detach_w, first_empty, page_list, take_page_r};
 
+use format::field::FIELD_TABLE;
+use format::refusal::Refusal;
 use head::TableHead;
 use layout::{Shape, field, size, value};
 
@@ -71,32 +74,30 @@ pub fn detach_page(s: &mut [u64], sh: Shape, b: u64, p: u64)
     frames::give_frame(s, sh, f);
 }
 
-// The first empty page, plus 1, of a table that is active; 0 for none.
-fn first_empty(s: &[u64], sh: Shape, b: u64) -> u64
-    ensures { result ≡ first_empty (loadAt s.now sh) b }
+// The first empty page of a table that is active.
+#[tactic(auto, unfolding(crate::specs::Ops::first_empty), using(storage::specs::Links::place_by))]
+fn first_empty(s: &[u64], sh: Shape, b: u64) -> Option<u64>
+    ensures { result ≡ place_of (first_empty (loadAt s.now sh) b) }
 {
-    if layout::head_word(s, sh, b, field::HEAD_LIFECYCLE) == value::LIFE_ACTIVE {
-        return layout::head_word(s, sh, b, field::HEAD_FIRST_EMPTY);
+    if layout::head_word(s, sh, b, field::HEAD_LIFECYCLE) != value::LIFE_ACTIVE {
+        return None;
     }
-    0
+    layout::head_word(s, sh, b, field::HEAD_FIRST_EMPTY).checked_sub(1)
 }
 
 // "On an inactive table `take_empty_page` answers none, not a refusal; so does a table with no empty page".
-pub fn take_empty_page(s: &mut [u64], sh: Shape, b: u64, out: &mut [u64], base: usize)
-    ensures { both s.new out.new ≡ take_page_r s.old out.old sh base b }
+#[tactic(auto, unfolding(crate::specs::Ops::take_page_r), using(storage::specs::Links::place_is, storage::specs::Links::no_place))]
+pub fn take_empty_page(s: &mut [u64], sh: Shape, b: u64) -> Result<Option<u64>, Refusal>
+    ensures { Gives s.new (reply page_list result) (λ os base. take_page_r s.old os sh base b) }
 {
-    if b < sh.tables as u64 {
-        let h = first_empty(s, sh, b);
-        if h == 0 {
-            answer::say1(out, base, 0);
-            return;
-        }
-        let p = h.saturating_sub(1);
-        detach_page(s, sh, b, p);
-        answer::say2(out, base, 1, p);
-        return;
+    if b >= sh.tables as u64 {
+        return Err(Refusal::Misuse);
     }
-    answer::refuse(out, base, format::refusal::MISUSE);
+    let Some(p) = first_empty(s, sh, b) else {
+        return Ok(None);
+    };
+    detach_page(s, sh, b, p);
+    Ok(Some(p))
 }
 
 // The request of a list at a place: its fields are read.
@@ -110,6 +111,10 @@ pub fn serve_take_empty_page(
 )
     ensures { both s.new out.new ≡ take_page_r s.old out.old sh base (field_of rq.now at table_field) }
 {
-    let table = request::field(rq, at, format::field::FIELD_TABLE);
-    take_empty_page(s, sh, table, out, base);
+    let table = request::field(rq, at, FIELD_TABLE);
+    match take_empty_page(s, sh, table) {
+        Ok(Some(p)) => answer::say(out, base, &[1, p]),
+        Ok(None) => answer::say(out, base, &[0]),
+        Err(refusal) => answer::refuse(out, base, refusal),
+    }
 }

@@ -53,36 +53,42 @@ pub fn known_op(word: u64) -> bool
     (1..=op::OP_LAST).contains(&word)
 }
 
+// The fields that a transfer item must carry: kept, since its contract ties the constant to the definition.
 pub fn transfer_item_must() -> u64
     ensures { result ≡ transfer_item_must }
 {
     maps::TRANSFER_ITEM_MUST
 }
 
+// The fields that a transfer item may carry besides: kept, since its contract ties the constant to the definition.
 pub fn transfer_item_may() -> u64
     ensures { result ≡ transfer_item_may }
 {
     maps::TRANSFER_ITEM_MAY
 }
 
+// The fields that a parcel item must carry: kept, since its contract ties the constant to the definition.
 pub fn parcel_item_must() -> u64
     ensures { result ≡ parcel_item_must }
 {
     maps::PARCEL_ITEM_MUST
 }
 
+// The fields that a parcel item may carry besides: kept, since its contract ties the constant to the definition.
 pub fn parcel_item_may() -> u64
     ensures { result ≡ parcel_item_may }
 {
     maps::PARCEL_ITEM_MAY
 }
 
+// The words of an answer: kept, since its contract ties the constant to the definition.
 pub fn answer_words() -> u64
     ensures { result ≡ answer_words }
 {
     size::ANSWER_WORDS
 }
 
+// The number of fields: kept, since its contract ties the constant to the definition.
 pub fn field_count() -> u64
     ensures { result ≡ field_count }
 {

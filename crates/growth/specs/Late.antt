@@ -1,7 +1,7 @@
 -- A page that joins its table with the head's words stored last. Assumes nothing.
-use Rattle.std.specs.Prelude.{◌≡◌, refl, Bool, true, false, List, [], ◌∷◌, ℕ, zero, suc, ◌+◌, ◌*◌, ◌<◌, min, eqb, ltb}
+use Rattle.std.specs.Prelude.{◌≡◌, refl, List, [], ◌∷◌, ℕ, zero, suc, ◌+◌, ◌*◌, ◌<◌, min, eqb, ltb}
 use Rattle.std.proofs.Common.{sym, ap, ◌∙◌, arith}
-use Rattle.words.specs.Pick.{pick, yes_is, no_is}
+use Rattle.words.specs.Pick.{pick}
 use Rattle.codec.specs.Codec.{next_generation}
 use Rattle.model.specs.State.{till}
 use Rattle.model.specs.Storage.{slots_of}
@@ -28,23 +28,6 @@ detached_from m h p = pick (eqb h.first_detached (up p)) (m (entry (h.entry + p)
 -- the words of page p's entry, but for its links
 abbrev pub own_p : ℕ → ℕ → ℕ → ℕ → List Write
 own_p e p f g = at (entry (e + p) entry_frame) (up f) ∷ at (entry (e + p) entry_high) g ∷ at (entry (e + p) entry_busy) 0 ∷ []
-
--- `fresh_generation` and `detached_with`
-pub fresh_yes : (m : Mem) (h : TableHead) (p w r : ℕ) (t : Bool) → t ≡ ltb p h.pages → t ≡ true → w ≡ m (entry (h.entry + p) entry_high) → r ≡ next_generation w → r ≡ fresh_from m h p
-unfolding fresh_from
-fresh_yes m h p w r t d y i j = yes_is (ltb p h.pages) r _ 1 (sym d ∙ y) (j ∙ ap next_generation i)
-
-pub fresh_no : (m : Mem) (h : TableHead) (p : ℕ) (t : Bool) → t ≡ ltb p h.pages → t ≡ false → 1 ≡ fresh_from m h p
-unfolding fresh_from
-fresh_no m h p t d y = no_is (ltb p h.pages) 1 (next_generation (m (entry (h.entry + p) entry_high))) 1 (sym d ∙ y) refl
-
-pub detached_yes : (m : Mem) (h : TableHead) (p y r : ℕ) (t : Bool) → y ≡ up p → t ≡ eqb h.first_detached y → t ≡ true → r ≡ m (entry (h.entry + p) entry_next) → r ≡ detached_from m h p
-unfolding detached_from
-detached_yes m h p y r t c i j l = yes_is (eqb h.first_detached (up p)) r _ _ (rw (← c) (sym i ∙ j)) l
-
-pub detached_no : (m : Mem) (h : TableHead) (p y : ℕ) (t : Bool) → y ≡ up p → t ≡ eqb h.first_detached y → t ≡ false → h.first_detached ≡ detached_from m h p
-unfolding detached_from
-detached_no m h p y t c i j = no_is (eqb h.first_detached (up p)) h.first_detached (m (entry (h.entry + p) entry_next)) h.first_detached (rw (← c) (sym i ∙ j)) refl
 
 -- by a table's head they are the table's
 fresh_of : (m : Mem) (b p : ℕ) → fresh_from m (head_at m b) p ≡ fresh m b p
@@ -101,7 +84,3 @@ page_is ws sh b p f h t d g fr w₁ w₂ w₃ w₄ w₅ l e₁ e₂ e₃ e₄ e�
     = λ (i : ℕ). sym (slot_keeps sh (head b i) u (link_frame m b (m (head b head_first_free))) (m (head b head_first_free)) slot_previous_free (p * page_size + 1) (λ y z w. (refl, tt)) ∙ built_keeps ws sh b i f p (fresh m b p) (m (head b head_first_free))) in
     rw (a₅, a₄, a₃, a₂, a₁, e₅, e₄, e₃, e₂, e₁, k, fresh_of, detached_of, link_of)
     (sym (joined_last v sh b p f (fresh m b p) (m (head b head_first_entry)) (m (head b head_first_empty)) (p * page_size + slots_of till p) (min (m (head b head_free_slots)) slots_max + slots_of till p) (size_with m b p) (detached_with m b p) (keeps head_first_entry) (keeps head_first_empty)))
-
--- `attached_head`
-pub head_attached : (h : TableHead) (p d y : ℕ) (t u v : TableHead) → t ≡ attached_by h p → u ≡ drawn_by t d → y ≡ up p → v ≡ empty_by u y → v ≡ empty_by (drawn_by (attached_by h p) d) (up p)
-head_attached h p d y t u v a b c e = rw (e, c, b, a)

@@ -22,7 +22,7 @@ use Rattle.layout.specs.Fields.{head_pages, head_first_detached, head_first_entr
 use Rattle.layout.specs.Sizes.{batch_max}
 use Rattle.representation.specs.Represents.{Linked, TableIs, Items}
 use Rattle.storage.specs.Ops.{up}
-use Rattle.growth.specs.Words.{page_at, link_after, size_after, next_pages, pages_w, list_pages_w, same_pages, pages_same}
+use Rattle.growth.specs.Words.{page_at, link_after, size_after, next_pages, pages_w, same_pages, pages_same}
 use Rattle.growth.specs.Joined.{up_small}
 
 -- ---- the pages of the model's plan

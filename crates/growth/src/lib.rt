@@ -1,12 +1,13 @@
 // Growth of a table: pages are attached in free frames, as many as a batch of slots needs. The pages that a table gets next, listed in a row, and whether they are those of a row.
 #![tactic(auto)]
 
-ghost use Rattle.std.specs.Prelude.{◌≡◌, ◌+◌, ◌-◌, ◌*◌};
+ghost use Rattle.std.specs.Prelude.{◌≡◌, ℕ, List, ◌+◌, ◌-◌, ◌*◌};
 ghost use Rattle.layout.specs.Layout.{load as loadAt, writes, head};
+ghost use Rattle.layout.specs.Fields.{head_first_detached, head_pages};
 ghost use Rattle.storage.specs.Ops.{up};
 ghost use Rattle.head.specs.Head.{attached_by, drawn_by, empty_by};
 ghost use Rattle.growth.specs.Late.{fresh_from, detached_from, own_p};
-ghost use Rattle.growth.specs.Words.{next_word, prev_word, cells_p, built_w, joined_w, attach_w, page_at, link_after, size_after, is_full, pages_needed, pages_w, list_pages_w, pages_same, attach_next_w, attach_all_w, attach_item_w, attach_in_w, advance_w, aged_w, grow_w, grow_in_w};
+ghost use Rattle.growth.specs.Words.{next_word, prev_word, cells_p, built_w, joined_w, attach_w, page_at, link_after, size_after, is_full, pages_needed, list_pages_w, pages_same, each_w, attach_next_w, attach_item_w, advance_w, aged_w, grow_w, grow_in_w};
 
 use head::TableHead;
 use layout::{Shape, field, size, value};
@@ -16,19 +17,20 @@ fn next_word(p: u32, h: u64, j: u8) -> u64
     ensures { result ≡ next_word p h j }
 {
     if j == 0 {
-        return h;
+        h
+    } else {
+        (p as u64) * size::PAGE_SIZE + (j as u64)
     }
-    (p as u64) * size::PAGE_SIZE + (j as u64)
 }
 
 fn prev_word(p: u32, n: u8, j: u8) -> u64
     ensures { result ≡ prev_word p n j }
 {
-    let i = (j as u64) + 1;
-    if i == (n as u64) {
-        return 0;
+    if (j as u64) + 1 == (n as u64) {
+        0
+    } else {
+        (p as u64) * size::PAGE_SIZE + (j as u64) + 2
     }
-    (p as u64) * size::PAGE_SIZE + (j as u64) + 2
 }
 
 // Slot j of frame f is vacant, with the generation g and its links.
@@ -42,6 +44,7 @@ fn build_slot(s: &mut [u64], sh: Shape, f: u64, j: u64, g: u64, x: u64, y: u64)
 }
 
 // Frame f has the slots of page p, as publishing them by rising slot leaves them.
+#[tactic(auto, unfolding(crate::specs::Words::built_w), using(layout::specs::Turns::turns_none, layout::specs::Turns::turns_more))]
 fn build_frame(s: &mut [u64], sh: Shape, f: u64, p: u32, g: u64, h: u64)
     ensures { s.new ≡ built_w s.old sh f p g h }
 {
@@ -54,35 +57,34 @@ fn build_frame(s: &mut [u64], sh: Shape, f: u64, p: u32, g: u64, h: u64)
 }
 
 // The generation of a page that is attached: after its last; a new page has had none.
+#[tactic(auto, unfolding(crate::specs::Late::fresh_from))]
 fn fresh_generation(s: &[u64], sh: Shape, h: TableHead, p: u64) -> u64
     ensures { result ≡ fresh_from (loadAt s.now sh) h p }
 {
-    let n = h.pages;
-    let e = h.entry;
-    if p < n {
-        return codec::next_generation(storage::page_word(s, sh, e, p, field::ENTRY_HIGH));
+    if p < h.pages {
+        codec::next_generation(storage::page_word(s, sh, h.entry, p, field::ENTRY_HIGH))
+    } else {
+        1
     }
-    1
 }
 
 // The link of the first detached page without page p.
+#[tactic(auto, unfolding(crate::specs::Late::detached_from))]
 fn detached_with(s: &[u64], sh: Shape, h: TableHead, p: u64) -> u64
     ensures { result ≡ detached_from (loadAt s.now sh) h p }
 {
-    let d = h.first_detached;
-    let e = h.entry;
-    if d == p.saturating_add(1) {
-        return storage::page_word(s, sh, e, p, field::ENTRY_NEXT);
+    if h.first_detached == p.saturating_add(1) {
+        storage::page_word(s, sh, h.entry, p, field::ENTRY_NEXT)
+    } else {
+        h.first_detached
     }
-    d
 }
 
 // Page p, of the table whose first entry is e, is attached in frame f with the generation g.
 fn put_entry(s: &mut [u64], sh: Shape, e: u64, p: u64, f: u64, g: u64)
     ensures { s.new ≡ writes s.old sh (own_p e p f g) }
 {
-    let y = f.saturating_add(1);
-    storage::put_page(s, sh, e, p, field::ENTRY_FRAME, y);
+    storage::put_page(s, sh, e, p, field::ENTRY_FRAME, f.saturating_add(1));
     storage::put_page(s, sh, e, p, field::ENTRY_HIGH, g);
     storage::put_page(s, sh, e, p, field::ENTRY_BUSY, 0);
 }
@@ -120,6 +122,7 @@ fn join_page(s: &mut [u64], sh: Shape, b: u64, p: u32, f: u64)
 }
 
 // Attaches page p of table b, the first detached one or a new one, in the free frame f.
+#[tactic(auto, unfolding(crate::specs::Words::attach_w))]
 pub fn attach_page(s: &mut [u64], sh: Shape, b: u64, p: u32, f: u64)
     ensures words { s.new ≡ attach_w s.old sh b p f }
 {
@@ -128,138 +131,129 @@ pub fn attach_page(s: &mut [u64], sh: Shape, b: u64, p: u32, f: u64)
     frames::take_frame(s, sh, f, (e + (p as u64)).saturating_add(1));
 }
 
-// The page that a table gets next: the first detached one, by its link, or else the n-th.
-fn page_at(d: u64, n: u64) -> u64
-    ensures { result ≡ page_at d n }
-{
-    if d == 0 {
-        return n;
-    }
-    d - 1
+// The pages that a table gets next: the detached ones, by the link of the first, and then new ones, from a count on.
+#[derive(Clone, Copy)]
+struct Next {
+    detached: u64,
+    count: u64,
 }
 
-// The link of the first detached page after it.
-fn link_after(s: &[u64], sh: Shape, e: u64, d: u64) -> u64
-    ensures { result ≡ link_after (loadAt s.now sh) e d }
-{
-    if d == 0 {
-        return 0;
+impl Next {
+    // Of table b.
+    fn of(s: &[u64], sh: Shape, b: u64) -> Next
+        ensures detached { result.detached ≡ loadAt s.now sh (head b head_first_detached) }
+        ensures count { result.count ≡ loadAt s.now sh (head b head_pages) }
+    {
+        Next {
+            detached: layout::head_word(s, sh, b, field::HEAD_FIRST_DETACHED),
+            count: layout::head_word(s, sh, b, field::HEAD_PAGES),
+        }
     }
-    storage::page_word(s, sh, e, d - 1, field::ENTRY_NEXT)
+
+    // The first of them.
+    fn page(self) -> u64
+        ensures { result ≡ page_at self.detached self.count }
+    {
+        if self.detached == 0 {
+            self.count
+        } else {
+            self.detached - 1
+        }
+    }
+
+    // It is a new page and would pass the limit.
+    fn is_full(self, limit: u64) -> bool
+        ensures { result ≡ is_full self.detached self.count limit }
+    {
+        self.detached == 0 && self.count == limit
+    }
+
+    // The pages after it, of a table whose first entry is e.
+    fn after(self, s: &[u64], sh: Shape, e: u64) -> Next
+        ensures detached { result.detached ≡ link_after (loadAt s.now sh) e self.detached }
+        ensures count { result.count ≡ size_after self.detached self.count }
+    {
+        if self.detached == 0 {
+            Next {
+                detached: 0,
+                count: self.count.saturating_add(1),
+            }
+        } else {
+            Next {
+                detached: storage::page_word(s, sh, e, self.detached - 1, field::ENTRY_NEXT),
+                ..self
+            }
+        }
+    }
 }
 
-// How many pages there are after it.
-fn size_after(d: u64, n: u64) -> u64
-    ensures { result ≡ size_after d n }
-{
-    if d == 0 {
-        return n.saturating_add(1);
-    }
-    n
-}
-
-// A new page would pass the limit.
-fn is_full(d: u64, n: u64, limit: u64) -> bool
-    ensures { result ≡ is_full d n limit }
-{
-    if d == 0 {
-        return n == limit;
-    }
-    false
-}
-
-// More pages than a batch can need: no plan.
+// More pages than a batch can need: no plan. It stays a number and no `Option`: plan compares the count with the one that a row keeps, which is a number.
 pub const NO_PLAN: u64 = size::BATCH_MAX + 1;
 
 // How many pages table b needs for a batch of k slots; NO_PLAN if a new one would pass the limit.
+#[tactic(auto, unfolding(crate::specs::Words::pages_needed), using(crate::specs::Code::count_done, crate::specs::Code::count_full, crate::specs::Code::count_more, crate::specs::Code::count_end))]
 pub fn pages_needed(s: &[u64], sh: Shape, b: u64, k: u64) -> u64
     ensures { result ≡ pages_needed (loadAt s.now sh) b k }
 {
     let e = layout::head_word(s, sh, b, field::HEAD_FIRST_ENTRY);
     let limit = layout::head_word(s, sh, b, field::HEAD_PAGE_LIMIT);
     let mut need = k.saturating_sub(layout::head_word(s, sh, b, field::HEAD_FREE_SLOTS));
-    let mut d = layout::head_word(s, sh, b, field::HEAD_FIRST_DETACHED);
-    let mut n = layout::head_word(s, sh, b, field::HEAD_PAGES);
-    let mut c: u64 = 0;
-    while c < size::BATCH_MAX {
+    let mut next = Next::of(s, sh, b);
+    for c in 0..size::BATCH_MAX {
         if need == 0 {
             return c;
         }
-        if is_full(d, n, limit) {
+        if next.is_full(limit) {
             return NO_PLAN;
         }
-        let p = page_at(d, n);
-        need = need.saturating_sub(head::slots_of(p) as u64);
-        n = size_after(d, n);
-        d = link_after(s, sh, e, d);
-        c += 1;
+        need = need.saturating_sub(head::slots_of(next.page()) as u64);
+        next = next.after(s, sh, e);
     }
-    c
-}
-
-// k pages of the table whose first entry is e, from the link d of the first detached one and n pages on, into the items of the row in place x.
-fn put_pages(s: &mut [u64], sh: Shape, e: u64, x: u64, d: u64, n: u64, k: u64)
-    ensures words { s.new ≡ pages_w s.old sh e x 0 d n k }
-{
-    let mut link: u64 = d;
-    let mut size: u64 = n;
-    for j in 0..k {
-        let p = page_at(link, size);
-        size = size_after(link, size);
-        link = link_after(s, sh, e, link);
-        layout::put_item(s, sh, x, j, field::ITEM_PAGE, p);
-    }
+    size::BATCH_MAX
 }
 
 // The next k pages of table b into the items of the row in place x.
+#[tactic(auto, unfolding(crate::specs::Words::list_pages_w), using(crate::specs::Code::pages_step, crate::specs::Code::pages_end))]
 pub fn list_pages(s: &mut [u64], sh: Shape, b: u64, x: u64, k: u64)
     ensures words { s.new ≡ list_pages_w s.old sh b x k }
 {
     let e = layout::head_word(s, sh, b, field::HEAD_FIRST_ENTRY);
-    let d = layout::head_word(s, sh, b, field::HEAD_FIRST_DETACHED);
-    let n = layout::head_word(s, sh, b, field::HEAD_PAGES);
-    put_pages(s, sh, e, x, d, n, k);
+    let mut next = Next::of(s, sh, b);
+    for j in 0..k {
+        let p = next.page();
+        next = next.after(s, sh, e);
+        layout::put_item(s, sh, x, j, field::ITEM_PAGE, p);
+    }
 }
 
 // Whether the next k pages of table b are those that the items of the row in place x name.
+#[tactic(auto, unfolding(crate::specs::Words::pages_same), using(crate::specs::Code::same_step, crate::specs::Code::same_end))]
 pub fn pages_same(s: &[u64], sh: Shape, b: u64, x: u64, k: u64) -> bool
     ensures { result ≡ pages_same (loadAt s.now sh) b x k }
 {
     let e = layout::head_word(s, sh, b, field::HEAD_FIRST_ENTRY);
-    let mut d = layout::head_word(s, sh, b, field::HEAD_FIRST_DETACHED);
-    let mut n = layout::head_word(s, sh, b, field::HEAD_PAGES);
+    let mut next = Next::of(s, sh, b);
     for j in 0..k {
-        let p = page_at(d, n);
-        if layout::item_word(s, sh, x, j, field::ITEM_PAGE) != p {
+        if layout::item_word(s, sh, x, j, field::ITEM_PAGE) != next.page() {
             return false;
         }
-        n = size_after(d, n);
-        d = link_after(s, sh, e, d);
+        next = next.after(s, sh, e);
     }
     true
 }
 
 // Attaches the next page in the lowest free frame.
+#[tactic(auto, unfolding(crate::specs::Words::attach_next_w))]
 fn attach_next(s: &mut [u64], sh: Shape, b: u64)
     ensures { s.new ≡ attach_next_w s.old sh b }
 {
-    let d = layout::head_word(s, sh, b, field::HEAD_FIRST_DETACHED);
-    let n = layout::head_word(s, sh, b, field::HEAD_PAGES);
-    let p = page_at(d, n).min(size::LAST_PAGE);
+    let p = Next::of(s, sh, b).page().min(size::LAST_PAGE);
     let f = frames::lowest_free(s, sh);
     attach_page(s, sh, b, p as u32, f);
 }
 
-// So n pages.
-fn attach_all(s: &mut [u64], sh: Shape, b: u64, n: u64)
-    ensures { s.new ≡ attach_all_w s.old sh b n }
-{
-    for k in 0..n {
-        attach_next(s, sh, b);
-    }
-}
-
 // Attaches the page that item j of the row in place x names, in the free frame that it names.
+#[tactic(auto, unfolding(crate::specs::Words::attach_item_w))]
 fn attach_item(s: &mut [u64], sh: Shape, b: u64, x: u64, j: u64)
     ensures { s.new ≡ attach_item_w sh b x j s.old }
 {
@@ -268,46 +262,41 @@ fn attach_item(s: &mut [u64], sh: Shape, b: u64, x: u64, j: u64)
     attach_page(s, sh, b, p as u32, f);
 }
 
-// So those of its first n items.
-fn attach_in(s: &mut [u64], sh: Shape, b: u64, x: u64, n: u64)
-    ensures { s.new ≡ attach_in_w sh b x 0 n s.old }
-{
-    for j in 0..n {
-        attach_item(s, sh, b, x, j);
-    }
-}
-
 // The table's epoch advances.
+#[tactic(auto, unfolding(crate::specs::Words::advance_w, head::specs::Head::head_at))]
 pub fn advance_epoch(s: &mut [u64], sh: Shape, b: u64)
     ensures words { s.new ≡ advance_w s.old sh b }
 {
-    let mut h = head::load(s, sh, b);
-    let e = head::next_epoch(h.epoch);
-    h.age(e);
-    head::store_epoch(s, sh, b, h);
+    let h = head::load(s, sh, b);
+    head::store_epoch(s, sh, b, h.aged(head::next_epoch(h.epoch)));
 }
 
-// It does so once where n pages were attached, and not for none.
-fn advance_for(s: &mut [u64], sh: Shape, b: u64, n: u64)
-    ensures { s.new ≡ aged_w s.old sh b n }
+// Table b grows by n pages, each attached by a step that takes its number; its epoch advances once, and not for none.
+#[tactic(auto, unfolding(crate::specs::Words::aged_w))]
+fn grow_by<F: Fn(&mut [u64], u64)>(s: &mut [u64], sh: Shape, b: u64, n: u64, attach: F)
+    requires { F.IsAlwaysCallable attach }
+    ensures { (g : ℕ → List ℕ → List ℕ) → ((p : _) (j : ℕ) (q : _) → F.post attach p j tt q → q.now ≡ g j p.now) → s.new ≡ aged_w (each_w g 0 n s.old) sh b n }
 {
+    for j in 0..n {
+        attach(s, j);
+    }
     if n != 0 {
         advance_epoch(s, sh, b);
     }
 }
 
 // Table b grows by n pages: detached ones first, then new ones, each in the lowest free frame.
+#[tactic(auto, unfolding(crate::specs::Words::grow_w))]
 pub fn grow(s: &mut [u64], sh: Shape, b: u64, n: u64)
     ensures words { s.new ≡ grow_w s.old sh b n }
 {
-    attach_all(s, sh, b, n);
-    advance_for(s, sh, b, n);
+    grow_by(s, sh, b, n, |s, _| attach_next(s, sh, b));
 }
 
 // Table b grows by the pages of the first n items of the row in place x, each in the free frame of its item.
+#[tactic(auto, unfolding(crate::specs::Words::grow_in_w))]
 pub fn grow_in(s: &mut [u64], sh: Shape, b: u64, x: u64, n: u64)
     ensures words { s.new ≡ grow_in_w s.old sh b x n }
 {
-    attach_in(s, sh, b, x, n);
-    advance_for(s, sh, b, n);
+    grow_by(s, sh, b, n, |s, j| attach_item(s, sh, b, x, j));
 }

@@ -1,6 +1,6 @@
 -- The state check's tests of the row index and of the items of rows. Each stands with the facts that it is equal to. Assumes nothing.
 use Rattle.std.specs.Prelude.{◌≡◌, refl, Bool, true, false, ◌&&◌, List, [], ◌∷◌, ℕ, ◌≤◌, ◌<◌, eqb, ltb, leb}
-use Rattle.std.proofs.Common.{sym, arith, eq-eqb, ne_eqb, eqb-true, lt-ltb, ltb-true, le-leb, leb-true}
+use Rattle.std.proofs.Common.{arith, eq-eqb, ne_eqb, eqb-true, lt-ltb, ltb-true, le-leb, leb-true}
 use Rattle.std.proofs.lemmas.Bool.{eqb-false}
 use Rattle.words.specs.Pick.{pick, bool, both, both_is}
 use Rattle.layout.specs.declared.Shape.{Shape}
@@ -26,10 +26,6 @@ passed (b ∷ bs) e = let d = both b (tests bs) e in (d.0, passed bs d.1)
 pub passes : (bs : List Bool) → Passed bs → tests bs ≡ true
 passes [] p = refl
 passes (b ∷ bs) p = both_is b (tests bs) p.0 (passes bs p.1)
-
--- a test where its fact fails
-pub refused : {A : Type 0} (b : Bool) → (b ≡ true → A) → (A → ⊥) → false ≡ b
-refused b f n = bool b (λ e. absurd (n (f e))) (λ e. sym e)
 
 -- ---- the index: "Each place has one rank"
 

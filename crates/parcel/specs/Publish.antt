@@ -88,7 +88,7 @@ fill_more : (ws : List ℕ) (sh : Shape) (b x p y j n k : ℕ) (h : Handle) → 
 unfolding filled_w
 fill_more ws sh b x p y j n k h l e q =
     let z : plus p j ≡ p + j = omega arith in
-    rw (z, e, q.0, q.1, q.2)
+    simp (z, e, q.0, q.1, q.2)
 
 fill_stop : (ws : List ℕ) (sh : Shape) (b x p y j : ℕ) → filled_w ws sh b x p y j 0 ≡ ws
 unfolding filled_w

@@ -6,7 +6,7 @@
 #![tactic(auto)]
 
 ghost use Rattle.std.specs.Prelude.{◌≡◌, [], ◌∷◌};
-ghost use Rattle.std.specs.Iterator.{YieldsFirst, at_most};
+ghost use Rattle.std.specs.Iterator.{YieldsFirstBy, at_most};
 ghost use Rattle.authority.specs.Rights.{contains};
 ghost use Rattle.model.specs.State.{known_flags};
 ghost use Rattle.model.specs.Base.{member};
@@ -200,24 +200,24 @@ pub fn release_parcel(s: &mut [u64], sh: Shape, id: ReservationId) -> Result<(),
 // An item of a publish: the id of the parcel that it names, and the place after its record.
 #[derive(Clone, Copy)]
 struct ParcelItem {
-    id: u64,
+    id: ReservationId,
     end: usize,
 }
 
 // The item at a place: where the record has no field but its id, that stands behind the operation.
 #[tactic(auto, unfolding(request::specs::Place::parcel_at), using(crate::specs::Plain::plain_id, crate::specs::Plain::plain_end))]
 fn read_item(rq: &[u64], at: usize) -> ParcelItem
-    ensures id { result.id ≡ parcel_at rq.now at }
+    ensures id { result.id.0 ≡ parcel_at rq.now at }
     ensures end { result.end ≡ end_at rq.now at }
 {
     if at < rq.len() && rq[at] == format::maps::PARCEL_ITEM_MUST {
         return ParcelItem {
-            id: words::word(rq, at + 2),
+            id: ReservationId(words::word(rq, at + 2)),
             end: at + 3,
         };
     }
     ParcelItem {
-        id: request::field(rq, at, format::field::FIELD_ID),
+        id: ReservationId(request::field(rq, at, format::field::FIELD_ID)),
         end: request::record_end(rq, at),
     }
 }
@@ -231,14 +231,14 @@ pub struct ParcelIds<'a> {
 }
 
 impl<'a> Iterator for ParcelIds<'a> {
-    type Item = u64;
+    type Item = ReservationId;
 
-    ghost next_gives = { YieldsFirst ids_left };
+    ghost next_gives = { YieldsFirstBy (λ id. id.0) ids_left };
 
     ghost remaining = { λ s. at_most s.count };
 
     #[tactic(auto, unfolding(crate::specs::Publishing::ids_at, request::specs::Place::places_from))]
-    fn next(&mut self) -> Option<u64> {
+    fn next(&mut self) -> Option<ReservationId> {
         if self.count == 0 {
             return None;
         }
@@ -256,7 +256,7 @@ fn parcels_fit(s: &[u64], sh: Shape, parcels: ParcelIds, n: u64) -> bool
 {
     let mut left = n;
     for id in parcels {
-        let Some(x) = book::row_of_kind(s, sh, ReservationId(id), value::KIND_PARCEL) else {
+        let Some(x) = book::row_of_kind(s, sh, id, value::KIND_PARCEL) else {
             return false;
         };
         let c = layout::row_word(s, sh, x, field::ROW_LENGTH);
@@ -269,10 +269,10 @@ fn parcels_fit(s: &[u64], sh: Shape, parcels: ParcelIds, n: u64) -> bool
 }
 
 // Whether an id is one of those.
-fn named(mut parcels: ParcelIds, id: u64) -> bool
-    ensures { result ≡ member id (ids_left parcels.entry) }
+fn named(mut parcels: ParcelIds, id: ReservationId) -> bool
+    ensures { result ≡ member id.0 (ids_left parcels.entry) }
 {
-    parcels.any(|other| id == other)
+    parcels.any(|other| id.0 == other.0)
 }
 
 // Whether no parcel is named twice. A batch has at most 64 slots and a parcel at least one handle, so that no more than 64 items come here.
@@ -309,7 +309,7 @@ fn fill_slots(s: &mut [u64], sh: Shape, b: u64, x: u64, parcels: ParcelIds)
 {
     let mut p: u64 = 0;
     for id in parcels {
-        let y = book::row_of_kind(s, sh, ReservationId(id), value::KIND_PARCEL).unwrap_or(0);
+        let y = book::row_of_kind(s, sh, id, value::KIND_PARCEL).unwrap_or(0);
         let n = layout::row_word(s, sh, y, field::ROW_LENGTH);
         fill_from(s, sh, b, x, p, y, n);
         p = p.saturating_add(n);
@@ -322,7 +322,7 @@ fn close_parcels(s: &mut [u64], sh: Shape, parcels: ParcelIds)
     ensures words { s.new ≡ dropped_w s.old sh (ids_left parcels.entry) }
 {
     for id in parcels {
-        let y = book::row_of(s, sh, id).unwrap_or(0);
+        let y = book::row_of(s, sh, id.0).unwrap_or(0);
         book::close_row(s, sh, y);
     }
 }

@@ -7,7 +7,7 @@ use Rattle.std.proofs.lemmas.Slice.{put_mid-paste}
 use borrow.Rule.Slice.PartMut.{put_mid}
 use Rattle.std.proofs.lemmas.List.{length-set}
 use Rattle.std.specs.Prelude.{◌≡◌, refl, List, [], ◌∷◌, ◌++◌, ℕ, zero, suc, ◌+◌, ◌≤◌, length, take, drop, set, replicate}
-use Rattle.std.proofs.Common.{sym, ap, ◌∙◌, append_assoc, arith, add-zero, add-suc, add-one, length-append, length-take-le, take_all, take_at}
+use Rattle.std.proofs.Common.{sym, ap, ◌∙◌, append_assoc, arith, add-zero, add-suc, length-append, length-take-le, take_all, take_at}
 use Rattle.std.proofs.lemmas.List.{length-replicate, get_or-replicate, drop-append-le}
 use Rattle.std.proofs.lemmas.List.Edits.{sets, sets-eq}
 use Rattle.std.proofs.Math.Seq.{paste, paste-zero, paste-suc, drop-append-add}
@@ -58,6 +58,11 @@ pub fill_is : (ws zs : List ℕ) (base n s k : ℕ) → s ≡ min base (length w
 fill_is ws zs base n s k p q z =
     put_mid-paste s k ws zs (replicate k 0) k z refl (sym (length-replicate k zero))
     ∙ sym (cleared_is k ws s k (omega arith) (omega arith)) ∙ sym (within ws base n s k p q)
+
+-- past the end there are none
+pub cleared_out : (ws : List ℕ) (base n : ℕ) → length ws ≤ base → ws ≡ cleared ws base n
+unfolding cleared
+cleared_out ws base n h = sym (within ws base n (length ws) 0 (omega arith) (omega arith))
 
 puts_sets : (vs ws : List ℕ) (base i : ℕ) → puts ws base i vs ≡ sets ws (base + i) vs
 unfolding puts

@@ -1,29 +1,27 @@
 -- Where a field stands and where a record ends, by counting the bits of its map; which of its words are tested.
 -- Assumes nothing.
-use Rattle.std.specs.Prelude.{Option as CodeOption, Some, None}
 use Rattle.std.specs.Prelude.{map, take, drop, set, ◌++◌}
 use Rattle.std.proofs.Common.{length-append, length-take-le, length-drop}
 use Rattle.std.proofs.lemmas.List.{get_or_default, length-map}
 use Rattle.std.proofs.lemmas.List.Edits.{map_over_more}
-use Rattle.std.specs.Prelude.{◌≡◌, refl, Bool, true, false, ◌&&◌, List, [], ◌∷◌, ℕ, zero, suc, ◌+◌, ◌-◌, ◌*◌, ◌/◌, ◌%◌, ◌^◌, ◌≤◌, ◌<◌, min, length, get_or, eqb, ltb, leb}
-use Rattle.std.proofs.Common.{sym, ap₂, subst, ◌∙◌, arith, add-zero, mod-lt, add-one, shr-shr, shl_exact, pow_pos}
+use Rattle.std.specs.Prelude.{◌≡◌, refl, Bool, true, false, ◌&&◌, List, [], ◌∷◌, ℕ, zero, suc, ◌+◌, ◌-◌, ◌*◌, ◌/◌, ◌%◌, ◌^◌, ◌≤◌, ◌<◌, min, length, get_or, leb}
+use Rattle.std.proofs.Common.{sym, ap₂, ◌∙◌, arith, add-zero, add-one, shr-shr}
 use Rattle.std.proofs.Math.Path.{ap}
 use Rattle.std.proofs.Math.Option.{Option, none, some}
 use Rattle.std.proofs.Math.Nat.{mod-one, zero-div}
 use Rattle.std.specs.Int.Bits.{bit_and, and_step}
-use Rattle.std.proofs.lemmas.Nat.{and_shr, ones-le}
+use Rattle.std.proofs.lemmas.Nat.{and_shr}
 use Rattle.std.specs.Int.Count.{ones, ones_step}
 use Rattle.std.proofs.Math.Pow.{field, mod-mod-pow}
 use Rattle.std.specs.Bool.{then_some}
-use borrow.Author.Tests.{leb-true, leb-false, lt-ltb, le-ltb, le-leb, lt-leb, ltb-true, eqb-true}
+use borrow.Author.Tests.{leb-true, leb-false, le-ltb, le-leb, lt-leb, eqb-true}
 use Rattle.format.specs.Format.{field_fits, field_kinds, field_count}
-use Rattle.words.specs.Pick.{both_is, and_left, and_right}
+use Rattle.words.specs.Pick.{both_is}
 use Rattle.model.specs.Base.{pick}
-use Rattle.model.specs.Words.{Fields, odd, fit_all, may, must}
+use Rattle.model.specs.Words.{Fields, odd, fit_all, may}
 use Rattle.format.specs.Fields.{op_field, table_field, object_field, count_field, value_field, rights_field, flags_field, id_field, destination_field, kind_field, koid_field, cursor_field, route_field, offered_rights_field, offered_kind_field, expected_kind_field, forbidden_object_field, forbidden_kind_field, number32, a_koid, a_route}
-use Rattle.request.specs.declared.Three.{Three}
-use Rattle.request.specs.Place.{next_of, optional, past, after, here, fields_from, fields_at, has_map, three_at, end_at, kinds_of, fit_one, narrow_fit, walk}
-use Rattle.request.specs.Fields.{past_is, walk_all, find_out}
+use Rattle.request.specs.Place.{next_of, past, after, here, fields_from, end_at, kinds_of, fit_one, narrow_fit, walk}
+use Rattle.request.specs.Fields.{past_is, walk_all}
 
 -- the bits below one more bit
 ones_more : (n m : ℕ) → ones (m % 2 ^ suc n) ≡ m % 2 + ones (m / 2 % 2 ^ n)
@@ -63,67 +61,6 @@ may_past zero k m ws p h = refl
 may_past (suc n) zero m ws p h = absurd (omega arith)
 may_past (suc n) (suc k) m ws p h = may_past n k (m / 2) ws (past (odd m) p) (omega arith)
 
--- no map has more than 18 fields
-pub few : (m bit : ℕ) → bit ≤ field_count → ones (m % 2 ^ bit) ≤ field_count
-few m bit h = omega (arith, ones-le bit (m % 2 ^ bit) (mod-lt m (pow_pos bit)))
-
--- a bit by a shift
-pub power_is : (bit : ℕ) → bit < 64 → (1 * 2 ^ bit) % 18446744073709551616 ≡ 2 ^ bit
-power_is bit h = shl_exact {a = 1} 1 bit 64 (omega arith) (omega arith) ∙ omega arith
-
-pub power_above : (bit : ℕ) → bit < 64 → 0 < (1 * 2 ^ bit) % 18446744073709551616
-power_above bit h = subst (λ (x : ℕ). 0 < x) (sym (power_is bit h)) (pow_pos bit)
-
-pub below_is : (m bit : ℕ) → bit < 64 → ones (m % ((1 * 2 ^ bit) % 18446744073709551616)) ≡ ones (m % 2 ^ bit)
-below_is m bit h = ap (λ (x : ℕ). ones (m % x)) (power_is bit h)
-
-pub below_few : (m bit : ℕ) → bit < 64 → ones (m % ((1 * 2 ^ bit) % 18446744073709551616)) ≤ 64
-below_few m bit h = omega (arith, below_is m bit h, ones-le bit (m % 2 ^ bit) (mod-lt m (pow_pos bit)))
-
--- One field
-
-module _ (ws : List ℕ) (at map bit : ℕ) where
-  pub field_there : (n : ℕ) (r : CodeOption ℕ) → bit < field_count → n ≡ ones (map % 2 ^ bit) → r ≡ optional (here (odd (map / 2 ^ bit)) ws (at + n)) → r ≡ optional (may (fields_from field_count map ws at) bit)
-  field_there n r h e p = p ∙ ap (λ (k : ℕ). optional (here (odd (map / 2 ^ bit)) ws (at + k))) e ∙ ap optional (sym (may_at field_count bit map ws at h))
-
-  pub field_past : field_count ≤ bit → None ≡ optional (may (fields_from field_count map ws at) bit)
-  field_past h = ap optional (sym (may_past field_count bit map ws at h))
-
-module _ (ws : List ℕ) (at bit : ℕ) where
-  pub find_there : (r : CodeOption ℕ) → r ≡ optional (may (fields_from field_count (get_or ws at 0) ws (at + 1)) bit) → r ≡ optional (may (fields_at ws at) bit)
-  unfolding fields_at
-  find_there r p = p ∙ ap (λ (q : ℕ). optional (may (fields_from field_count (get_or ws at 0) ws q) bit)) (add-one at)
-
-  pub find_none : length ws ≤ at → None ≡ optional (may (fields_at ws at) bit)
-  find_none h = sym (ap optional (find_out ws at bit h))
-
--- whether a record has a map
-module _ (ws : List ℕ) (at map : ℕ) where
-  pub map_yes : at < length ws → eqb (get_or ws at 0) map ≡ has_map ws at map
-  unfolding has_map
-  map_yes h = rw (lt-ltb at (length ws) h)
-
-  pub map_no : length ws ≤ at → false ≡ has_map ws at map
-  unfolding has_map
-  map_no h = rw (le-ltb at (length ws) h)
-
-  pub map_is : (t : Bool) → t ≡ has_map ws at map → t ≡ true → (at < length ws) × (get_or ws at 0 ≡ map)
-  unfolding has_map
-  map_is t p q = (
-    ltb-true at (length ws) (and_left (ltb at (length ws)) (eqb (get_or ws at 0) map) (sym p ∙ q)),
-    eqb-true (get_or ws at 0) map (and_right (ltb at (length ws)) (eqb (get_or ws at 0) map) (sym p ∙ q)),
-  )
-
--- three fields, each read
-pub three_is : (fs : Fields) (i j k x y z : ℕ) → x ≡ must fs i → y ≡ must fs j → z ≡ must fs k → ◌≡◌ {A = Three} (record { a = x; b = y; c = z }) (three_at fs i j k)
-unfolding three_at
-three_is fs i j k x y z p q r = rw (p, q, r)
-
--- three fields, where the map is known
-pub three_there : (ws : List ℕ) (at map a b c : ℕ) (r : Three) → get_or ws at 0 ≡ map → r ≡ three_at (fields_from field_count map ws (at + 1)) a b c → r ≡ three_at (fields_at ws at) a b c
-unfolding fields_at
-three_there ws at map a b c r q p = p ∙ ap₂ (λ (m k : ℕ). three_at (fields_from field_count m ws k) a b c) (sym q) (add-one at)
-
 -- fields read one after the other, each in the place of its bit
 pub words_more : (f : ℕ → ℕ) (bits ws : List ℕ) (i w : ℕ) → i < length bits → ws ≡ map f (take i bits) ++ drop i bits → w ≡ f (get_or ws i 0)
     → set ws i w ≡ map f (take (i + 1) bits) ++ drop (i + 1) bits
@@ -134,32 +71,11 @@ words_more f bits ws i w h e p =
 
 -- The place after a record
 
-pub end_in : (ws : List ℕ) (at n : ℕ) → at < length ws → n ≡ ones (get_or ws at 0 % 2 ^ field_count) → (at + 1) + n ≡ end_at ws at
-unfolding end_at
-end_in ws at n h e =
-    sym (ap (λ (b : Bool). pick b (after field_count (get_or ws at 0) (suc at)) at) (lt-ltb at (length ws) h) ∙ after_ones field_count (get_or ws at 0) (suc at)
-    ∙ ap (λ (k : ℕ). suc at + k) (sym e) ∙ ap (λ (k : ℕ). k + n) (sym (add-one at)))
-
 pub end_out : (ws : List ℕ) (at : ℕ) → length ws ≤ at → at ≡ end_at ws at
 unfolding end_at
 end_out ws at h = sym (ap (λ (b : Bool). pick b (after field_count (get_or ws at 0) (suc at)) at) (le-ltb at (length ws) h))
 
 -- The words that are tested
-
-pub fit_word : (x : Option ℕ) (kind w : ℕ) (r : CodeOption ℕ) (t ok : Bool) → r ≡ optional x → r ≡ Some w → t ≡ field_fits kind w → t ≡ true → ok ≡ (fit_one kind x && ok)
-unfolding fit_one
-fit_word none kind w r t ok p q f e = refl
-fit_word (some v) kind w r t ok p q f e = let z : v ≡ w = cc in sym (ap (λ (b : Bool). b && ok) (ap (field_fits kind) z ∙ sym f ∙ e))
-
-pub unfit_word : (x : Option ℕ) (kind w : ℕ) (r : CodeOption ℕ) (t ok : Bool) → r ≡ optional x → r ≡ Some w → t ≡ field_fits kind w → t ≡ false → false ≡ (fit_one kind x && ok)
-unfolding fit_one
-unfit_word none kind w r t ok p q f e = cc
-unfit_word (some v) kind w r t ok p q f e = let z : v ≡ w = cc in sym (ap (λ (b : Bool). b && ok) (ap (field_fits kind) z ∙ sym f ∙ e))
-
-pub fit_absent : (x : Option ℕ) (kind : ℕ) (r : CodeOption ℕ) (ok : Bool) → r ≡ optional x → r ≡ None → ok ≡ (fit_one kind x && ok)
-unfolding fit_one
-fit_absent none kind r ok p q = refl
-fit_absent (some v) kind r ok p q = cc
 
 -- a bit that stands in one of two maps with no bit in common does not stand in the other
 apart : (m n k : ℕ) → bit_and m n ≡ 0 → odd (n / 2 ^ k) ≡ true → odd (m / 2 ^ k) ≡ false

@@ -5,7 +5,7 @@ use Rattle.std.specs.Prelude.{Bool, true, false, ◌&&◌, List, [], ◌∷◌, 
 use Rattle.std.proofs.Math.Option.{Option, none, some}
 use Rattle.authority.specs.Rights.{contains}
 use Rattle.format.specs.Format.{musts, mays, transfer_item_must, transfer_item_may, parcel_item_must, parcel_item_may, field_kinds, field_fits, field_count}
-use Rattle.model.specs.Base.{pick, nth}
+use Rattle.model.specs.Base.{pick}
 use Rattle.model.specs.Request.{Item, Request, Request.get_info, Request.publish, Request.prepare_transfer}
 use Rattle.model.specs.Words.{Reading, and_then, Fields, odd, may, must, operation_of, route_of, plain_request}
 use Rattle.format.specs.Fields.{op_field, table_field, count_field, value_field, rights_field, flags_field, id_field, kind_field, koid_field, route_field, offered_rights_field, offered_kind_field, expected_kind_field, forbidden_object_field, forbidden_kind_field, number32, a_koid, a_route, an_operation, zero_word}

@@ -48,7 +48,7 @@ fn below(map: u64, bit: u64) -> usize
     requires { bit < 64 }
     ensures { result ≡ ones (map % 2 ^ bit) }
 {
-    u64::count_ones(map % (1 << bit)) as usize
+    (map % (1 << bit)).count_ones() as usize
 }
 
 // A field by its bit, of the fields of a map that begin at a place.
@@ -102,45 +102,7 @@ fn has_map(rq: &[u64], at: usize, map: u64) -> bool
     at < rq.len() && rq[at] == map
 }
 
-// Three fields of a record at a place, found one by one.
-#[tactic(auto, unfolding(crate::specs::Place::three_at))]
-fn three_found(rq: &[u64], at: usize, a: u64, b: u64, c: u64) -> Three
-    ensures { result ≡ three_at (fields_at rq.now at) a b c }
-{
-    Three {
-        a: field(rq, at, a),
-        b: field(rq, at, b),
-        c: field(rq, at, c),
-    }
-}
-
-// Three fields of a map, whose fields begin at a place.
-#[tactic(auto, unfolding(crate::specs::Place::three_at))]
-fn three_known(rq: &[u64], at: usize, map: u64, a: u64, b: u64, c: u64) -> Three
-    requires { at ≤ length rq.now }
-    ensures { result ≡ three_at (fields_from field_count map rq.now at) a b c }
-{
-    Three {
-        a: field_known(rq, at, map, a),
-        b: field_known(rq, at, map, b),
-        c: field_known(rq, at, map, c),
-    }
-}
-
-// Three fields of the record at a place by their bits, 0 for one that does not stand. Where the map is the op's `must` map, their places are known
-// from the op and the bits alone; `field::NO_FIELD` names none.
-#[tactic(auto, unfolding(crate::specs::Place::has_map, crate::specs::Place::fields_at))]
-pub fn read_three(rq: &[u64], at: usize, op: u64, a: u64, b: u64, c: u64) -> Three
-    ensures { result ≡ three_at (fields_at rq.now at) a b c }
-{
-    let map = format::must(op);
-    if has_map(rq, at, map) {
-        return three_known(rq, at + 1, map, a, b, c);
-    }
-    three_found(rq, at, a, b, c)
-}
-
-// Fields of a record at a place, found one by one.
+// Fields of a record at a place, found one by one. A loop, since `map` of an array asks for a bound on `N`.
 #[tactic(auto, using(crate::specs::Counted::words_more))]
 fn fields_found<const N: usize>(rq: &[u64], at: usize, bits: [u64; N]) -> [u64; N]
     ensures { result ≡ words_by (fields_at rq.now at) bits.entry }
@@ -176,6 +138,15 @@ pub fn read_fields<const N: usize>(rq: &[u64], at: usize, op: u64, bits: [u64; N
         return fields_known(rq, at + 1, map, bits);
     }
     fields_found(rq, at, bits)
+}
+
+// Three fields of the record at a place by their bits, as `read_fields` reads them; `field::NO_FIELD` names none.
+#[tactic(auto, unfolding(crate::specs::Place::three_at))]
+pub fn read_three(rq: &[u64], at: usize, op: u64, a: u64, b: u64, c: u64) -> Three
+    ensures { result ≡ three_at (fields_at rq.now at) a b c }
+{
+    let [a, b, c] = read_fields(rq, at, op, [a, b, c]);
+    Three { a, b, c }
 }
 
 // The place after the record at a place; a place past the end stays.
@@ -217,8 +188,15 @@ pub fn next_request(rq: &[u64], at: usize) -> usize
     end
 }
 
-// The fields that do not take every word, bit 0 apart: bits 6, 9, 10, 12 and 14 to 17.
-const NARROW: u64 = 251_456;
+// The map of the fields that do not take every word, bit 0 apart.
+const NARROW: u64 = 1 << format::field::FIELD_FLAGS
+    | 1 << format::field::FIELD_KIND
+    | 1 << format::field::FIELD_KOID
+    | 1 << format::field::FIELD_ROUTE
+    | 1 << format::field::FIELD_OFFERED_KIND
+    | 1 << format::field::FIELD_EXPECTED_KIND
+    | 1 << format::field::FIELD_FORBIDDEN_OBJECT
+    | 1 << format::field::FIELD_FORBIDDEN_KIND;
 
 // "too wide or a koid of 0": whether the field of a bit, where it stands, fits a kind.
 #[tactic(auto, unfolding(crate::specs::Place::fit_one))]
@@ -235,38 +213,15 @@ fn each_fits(rq: &[u64], at: usize, map: u64) -> bool
     requires { at ≤ length rq.now }
     ensures { result ≡ narrow_fit (fields_from field_count map rq.now at) }
 {
-    fit_one(rq, at, map, format::field::FIELD_FLAGS, FieldKind::Number32)
-        && fit_one(rq, at, map, format::field::FIELD_KIND, FieldKind::Number32)
-        && fit_one(rq, at, map, format::field::FIELD_KOID, FieldKind::Koid)
-        && fit_one(rq, at, map, format::field::FIELD_ROUTE, FieldKind::Route)
-        && fit_one(
-            rq,
-            at,
-            map,
-            format::field::FIELD_OFFERED_KIND,
-            FieldKind::Number32,
-        )
-        && fit_one(
-            rq,
-            at,
-            map,
-            format::field::FIELD_EXPECTED_KIND,
-            FieldKind::Number32,
-        )
-        && fit_one(
-            rq,
-            at,
-            map,
-            format::field::FIELD_FORBIDDEN_OBJECT,
-            FieldKind::Koid,
-        )
-        && fit_one(
-            rq,
-            at,
-            map,
-            format::field::FIELD_FORBIDDEN_KIND,
-            FieldKind::Number32,
-        )
+    let fits = |bit: u64, kind: FieldKind| fit_one(rq, at, map, bit, kind);
+    fits(format::field::FIELD_FLAGS, FieldKind::Number32)
+        && fits(format::field::FIELD_KIND, FieldKind::Number32)
+        && fits(format::field::FIELD_KOID, FieldKind::Koid)
+        && fits(format::field::FIELD_ROUTE, FieldKind::Route)
+        && fits(format::field::FIELD_OFFERED_KIND, FieldKind::Number32)
+        && fits(format::field::FIELD_EXPECTED_KIND, FieldKind::Number32)
+        && fits(format::field::FIELD_FORBIDDEN_OBJECT, FieldKind::Koid)
+        && fits(format::field::FIELD_FORBIDDEN_KIND, FieldKind::Number32)
 }
 
 // Whether those fields fit that do not take every word, bit 0 apart: most maps have none of them.
@@ -376,6 +331,7 @@ pub fn list_ok(rq: &[u64]) -> Option<u64>
 {
     let mut place: usize = 0;
     let mut count: u64 = 0;
+    // A `while`: it goes from place to place, and no range or iterator has these places.
     while place < rq.len() {
         place = request_ok(rq, place)?;
         count += 1;
@@ -400,13 +356,17 @@ pub fn answer_put(out: &mut [u64], base: usize, i: usize, v: u64)
 }
 
 // "Each request answers 72 words, unused ones 0": clears those that are there.
-#[tactic(auto, using(crate::specs::Answers::fill_is))]
+#[tactic(auto, using(crate::specs::Answers::fill_is, crate::specs::Answers::cleared_out))]
 pub fn clear_answer(out: &mut [u64], base: usize)
     ensures { out.new ≡ cleared out.old base answer_words }
 {
-    let start = base.min(out.len());
-    let end = base
-        .saturating_add(format::size::ANSWER_PLACES)
-        .min(out.len());
-    out[start..end].fill(0);
+    if base >= out.len() {
+        return;
+    }
+    // Two fills: one fill, up to a computed end, was slower, since the compiler then does not know how many words it has.
+    if out.len() - base < format::size::ANSWER_PLACES {
+        out[base..].fill(0);
+    } else {
+        out[base..base + format::size::ANSWER_PLACES].fill(0);
+    }
 }

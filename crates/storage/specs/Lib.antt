@@ -12,3 +12,4 @@ pub mod Cells
 pub mod Code
 pub mod Whole
 pub mod Reps
+pub mod Links

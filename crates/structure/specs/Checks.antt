@@ -1,9 +1,9 @@
 -- The tests of the check's first part, and that they pass exactly where the facts hold. Assumes nothing.
-use Rattle.std.specs.Prelude.{◌≡◌, Bool, false, not, ◌&&◌, ℕ, zero, suc, ◌+◌, ◌*◌, ◌/◌, ◌^◌, ◌≤◌, ◌<◌, eqb, ltb, leb}
+use Rattle.std.specs.Prelude.{◌≡◌, Bool, not, ◌&&◌, ℕ, zero, suc, ◌+◌, ◌*◌, ◌/◌, ◌^◌, ◌≤◌, ◌<◌, eqb, ltb, leb}
 use Rattle.std.proofs.Math.Bool.{true}
 use Rattle.std.proofs.Common.{arith}
 use borrow.Author.Tests.{eq-eqb, ne_eqb, eqb-true, eqb-false, lt-ltb, ltb-true, le-leb, leb-true, not-true}
-use Rattle.words.specs.Pick.{pick, bool, both, refuted}
+use Rattle.words.specs.Pick.{pick, bool, both}
 use Rattle.words.specs.All.{all}
 use Rattle.model.specs.State.{till}
 use Rattle.model.specs.Storage.{slots_of}
@@ -147,9 +147,6 @@ head_yes m b e h = rw (
   le-leb (m (head b head_pages)) (m (head b head_page_limit)) h.size,
   eq-eqb (m (head b head_first_entry)) e h.first,
 )
-
-pub head_no : (m : Mem) (b e : ℕ) → (HeadIs m b e → ⊥) → false ≡ head_b m b e
-head_no m b e h = refuted (head_b m b e) (λ q. h (head_is m b e q))
 
 -- ---- slots
 

@@ -7,3 +7,4 @@ pub mod Frames
 pub mod Slots
 pub mod View
 pub mod Complete
+pub mod Each

@@ -1,5 +1,5 @@
--- The walk to the next occupied slot: each turn keeps what is to be found, and a page without frame is passed over as a whole. It finds the
--- model's slot. Assumes nothing.
+-- The walk to the next occupied slot, page by page: each turn keeps what is to be found, and a page without frame is passed over as a whole.
+-- It finds the model's slot. Assumes nothing.
 use Rattle.std.specs.Prelude.{◌≡◌, refl, Bool, true, false, cond, Option, Some, None, is_some, ℕ, zero, suc, ◌+◌, ◌-◌, ◌*◌, ◌/◌, ◌%◌, min, max, ◌≤◌, ◌<◌, eqb, ltb}
 use Rattle.std.specs.List.{find, range_with_len}
 use Rattle.std.proofs.Common.{sym, ap, ◌∙◌, arith, lt-ltb}

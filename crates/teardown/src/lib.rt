@@ -74,7 +74,7 @@ fn put_tearing(s: &mut [u64], sh: Shape, b: u64, cursor: u64)
     head::store_life(s, sh, b, h);
 }
 
-// Table b is retired. Beside `put_tearing`: each is one step of the head, and a function that takes the lifecycle would go past these steps.
+// Table b is retired. Not one function with `put_tearing`: each is a step of the head, and a lifecycle given as a number would go past these steps.
 #[tactic(auto, unfolding(crate::specs::Ops::life_w))]
 fn put_retired(s: &mut [u64], sh: Shape, b: u64)
     ensures { s.new ≡ life_w s.old sh b life_retired 0 }

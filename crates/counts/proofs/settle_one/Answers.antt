@@ -1,9 +1,12 @@
-use mathlib.Core.Path.{refl}
-use Rattle.counts.specs.Halves.{one_none, one_words, one_answer}
+use Rattle.std.proofs.Common.{arith}
+use Rattle.counts.specs.Halves.{lower_w, set_own}
+use Rattle.counts.specs.Shift.{active_load, active_save}
 use Rattle.counts.proofs.settle_one.Goals as goal
 
-pub returns-then-c-eq0 : goal.returns-then-c-eq0
-returns-then-c-eq0 c = let both = one_none c.args.s.now c.args.sh c.args.first c.args.o c.requires.first_value.0 c.requires.first_value.1 c.if-c-eq0.true in record { words = both.0; answer = both.1 }
-
-pub returns : goal.returns
-returns c = record { words = one_words c.args.s.now c.args.sh c.args.first c.args.o c.requires.first_value.0 c.requires.first_value.1 _ refl; answer = one_answer c.args.s.now c.args.sh c.args.first c.args.o c.requires.first_value.0 c.requires.first_value.1 _ refl }
+pub returns-then-c-eq0-clause-words : goal.returns-then-c-eq0-clause-words
+unfolding lower_w
+returns-then-c-eq0-clause-words c =
+    let a = active_load c.args.s.now c.args.sh c.args.first c.args.o c.requires.first_value.0 c.requires.first_value.1 in
+    let b = active_save c.args.s.now c.args.sh c.args.first c.args.o c.requires.first_value.0 c.requires.first_value.1 0 in
+    let d = set_own c.args.s.now _ 0 c.if-c-eq0.true in
+    grind arith

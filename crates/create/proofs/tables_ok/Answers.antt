@@ -1,21 +1,15 @@
-use borrow.Author.Tests.{not-true, not-false}
-use Rattle.create.specs.Parameters.{every_start}
-use borrow.Author.Rules.{rules}
+use Rattle.std.proofs.Math.Nat.{sub-zero}
+use Rattle.std.proofs.Common.{refl, ◌∙◌, rules}
+use borrow.Author.Tests.{tests}
+use Rattle.std.proofs.lemmas.Iterator.{YieldsList-from_range}
+use Rattle.std.proofs.lemmas.Iterator.Search.{all_from_yields_List}
 use Rattle.model.specs.Create.{table_permitted}
 use Rattle.model.specs.State.{till}
-use Rattle.create.specs.Parameters.{table_from, tables_in, every_yes, every_no, every_end}
-use mathlib.Core.Path.{sym, ◌∙◌}
+use Rattle.create.specs.Parameters.{table_from, tables_in, list_all_from}
 use Rattle.create.proofs.tables_ok.Goals as goal
 
-pub loop-k-init : goal.loop-k-init
-unfolding tables_in
-loop-k-init c = (search rules, every_start (table_permitted till) (table_from c.args.p.now) c.args.n)
-
-pub returns-then-not-table_ok : goal.returns-then-not-table_ok
-returns-then-not-table_ok c = every_no (table_permitted till) (table_from c.args.p.now) _ _ _ c.loop-k.invariant.1 c.loop-k-test.true (sym c.table_ok.ensures ∙ not-true _ c.if-not-table_ok.true-raw)
-
-pub loop-k-preserved : goal.loop-k-preserved
-loop-k-preserved c = (search rules, every_yes (table_permitted till) (table_from c.args.p.now) _ _ _ c.loop-k.invariant.1 c.loop-k-test.true (sym c.table_ok.ensures ∙ not-false _ c.if-not-table_ok.false-raw))
-
 pub returns : goal.returns
-returns c = every_end (table_permitted till) (table_from c.args.p.now) _ _ _ c.loop-k.invariant.1 c.loop-k-test.false
+unfolding tables_in
+returns c =
+    all_from_yields_List (λ k. table_permitted till (table_from c.args.p.now k)) _ _ _ c.all.ensures.ran (YieldsList-from_range 0 c.args.n c.args.n refl (sub-zero c.args.n)) (λ x b q k. search (rules, tests))
+    ∙ list_all_from (table_permitted till) (table_from c.args.p.now) 0 c.args.n

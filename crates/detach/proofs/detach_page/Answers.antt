@@ -1,5 +1,4 @@
 use Rattle.detach.specs.Code.{detach_is}
-use borrow.Author.Rules.{rules}
 use Rattle.detach.proofs.detach_page.Goals as goal
 
 pub returns : goal.returns

@@ -1,5 +1,4 @@
 use Rattle.detach.specs.Code.{join_is}
-use borrow.Author.Rules.{rules}
 use Rattle.detach.proofs.join_detached.Goals as goal
 
 pub returns : goal.returns

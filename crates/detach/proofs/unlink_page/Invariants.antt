@@ -1,9 +1,7 @@
-use borrow.Author.Rules.{rules}
-use Rattle.detach.specs.Late.{Leaving, leaving_none, leaving_more, leaving_all}
-use native.Mathlib.Omega.{arith}
+use Rattle.detach.specs.Late.{Leaving}
 use lib.ListN.{length}
 use Prim.Native.Nat.{◌-◌, ◌≤◌}
-use mathlib.Core.Path.{◌≡◌, refl}
+use mathlib.Core.Path.{◌≡◌}
 use Rattle.detach.proofs.unlink_page.Given as goal
 
 abbrev pub invariant-loop-j : goal.invariant-loop-j

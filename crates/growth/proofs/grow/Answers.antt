@@ -1,7 +1,8 @@
-use borrow.Author.Rules.{rules}
-use Rattle.growth.specs.Words.{grow_w}
+use Rattle.std.proofs.Common.{rules, ap, ◌∙◌, ℕ, List}
+use Rattle.growth.specs.Words.{attach_next_w, aged_w, grow_w}
+use Rattle.growth.specs.Code.{each_all}
 use Rattle.growth.proofs.grow.Goals as goal
 
 pub returns : goal.returns
 unfolding grow_w
-returns c = record { words = cc }
+returns c = record { words = c.grow_by.ensures (λ j us. attach_next_w us c.args.sh c.args.b) (λ p j q k. search rules) ∙ ap (λ (u : List ℕ). aged_w u c.args.sh c.args.b c.args.n) (each_all c.args.s.now c.args.sh c.args.b 0 c.args.n) }

@@ -1,6 +1,5 @@
 use Rattle.growth.specs.Late.{page_is}
 use native.Mathlib.Omega.{arith}
-use borrow.Author.Rules.{rules}
 use Rattle.growth.proofs.join_page.Goals as goal
 
 pub returns : goal.returns

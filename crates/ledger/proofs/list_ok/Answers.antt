@@ -1,14 +1,18 @@
-use borrow.Author.Tests.{not-true, not-false}
-use native.Mathlib.Omega.{arith}
-use Rattle.ledger.specs.Code.{list_no, list_shut, list_last}
+use Rattle.std.proofs.Common.{arith, rules}
+use Rattle.std.proofs.lemmas.Bool.Decides.{nat_tests}
+use borrow.Author.Tests.{tests}
 use Rattle.layout.specs.Layout.{load}
+use Rattle.structure.specs.Each.{range_all}
+use Rattle.ledger.specs.Items.{item_b}
+use Rattle.ledger.specs.Ledger.{list_b}
 use Rattle.ledger.proofs.list_ok.Goals as goal
 
-pub returns-then-n-lt1 : goal.returns-then-n-lt1
-returns-then-n-lt1 c = list_no (load c.args.s.now c.args.sh) c.args.sh c.args.x c.args.w c.args.n (λ g. omega (arith, g.some_item))
+pub returns-then-open_ok : goal.returns-then-open_ok
+unfolding list_b
+returns-then-open_ok c =
+    let e = range_all (item_b (load c.args.s.now c.args.sh) c.args.sh c.args.w c.row_word-b.result c.args.x) c.args.n _ _ _ c.all.ensures.ran (λ x b q k. search (rules, tests)) in
+    grind (arith, nat_tests)
 
-pub returns-then-not-open_ok : goal.returns-then-not-open_ok
-returns-then-not-open_ok c = list_shut (load c.args.s.now c.args.sh) c.args.sh c.args.x c.args.w _ c.args.n c.row_word-b.ensures (omega arith) _ c.open_ok.ensures (not-true _ c.if-not-open_ok.true-raw)
-
-pub returns : goal.returns
-returns c = list_last (load c.args.s.now c.args.sh) c.args.sh c.args.x c.args.w _ c.args.n c.row_word-b.ensures (omega arith) _ _ c.open_ok.ensures (not-false _ c.if-not-open_ok.false-raw) c.items_ok.ensures
+pub returns-else-open_ok : goal.returns-else-open_ok
+unfolding list_b
+returns-else-open_ok c = grind (arith, nat_tests)

@@ -13,5 +13,5 @@ any_member k (x ∷ xs) = bool (eqb k x) (λ e. rw e) (λ e. rw e (any_member k 
 
 pub returns : goal.returns
 returns c =
-    any_from_yields_List (λ x. eqb c.args.id x) c.any.new.self _ _ c.any.ensures.ran (YieldsList-from_first (λ x. x) ids_left {s = c.args.parcels} _ refl) (λ x b q k. search (rules, tests))
-    ∙ any_member c.args.id _
+    any_from_yields_List (λ x. eqb c.args.id.0 x) c.any.new.self _ _ c.any.ensures.ran (YieldsList-from_first (λ id. id.0) ids_left {s = c.args.parcels} _ refl) (λ x b q k. search (rules, tests))
+    ∙ any_member c.args.id.0 _

@@ -1,4 +1,4 @@
-use Rattle.std.proofs.Common.{◌≡◌, length, drop, take, ◌++◌}
+use Rattle.std.proofs.Common.{◌≡◌, drop, take, ◌++◌}
 use Rattle.request.specs.Place.{words_by, fields_at}
 use Rattle.request.proofs.fields_found.Given as goal
 

@@ -1,12 +1,8 @@
-use mathlib.Core.Path.{◌≡◌}
-use Prim.Native.Nat.{◌*◌, ◌-◌, ◌≤◌}
+use Rattle.std.proofs.Common.{◌≡◌, ◌≤◌, ◌*◌}
 use Rattle.layout.specs.Layout.{load}
-use Rattle.structure.specs.Facts.{free_from}
 use Rattle.layout.specs.Sizes.{frames_max}
+use Rattle.structure.specs.Facts.{free_from}
 use Rattle.structure.proofs.free_under.Given as goal
 
 abbrev pub invariant-loop-i : goal.invariant-loop-i
-invariant-loop-i l = (l.i ≤ 16) × (l.count ≡ free_from (load l.s l.sh) l.sh.frames (l.first * l.size) (l.i * l.size)) × (l.count ≤ l.i * frames_max)
-
-abbrev pub decreases-loop-i : goal.decreases-loop-i
-decreases-loop-i l = 16 - l.i
+invariant-loop-i l = (l.count ≡ free_from (load l.s l.sh) l.sh.frames (l.first * l.size) (l.i * l.size)) × (l.count ≤ l.i * frames_max)
