@@ -341,7 +341,7 @@ pub fn scan(s: &[u64], sh: Shape, b: u64, cursor: u64) -> SnapshotPage
     ended(entries, len, start, stop, length)
 }
 
-// Puts an entry's words, from word i of the answer on.
+// Puts an entry's words, from word i of the answer on: five puts are shorter than a loop over an array of five words.
 #[tactic(auto, unfolding(request::specs::Answers::puts))]
 fn put_entry(out: &mut [u64], base: usize, i: usize, x: SnapshotEntry)
     requires { i < answer_words }
