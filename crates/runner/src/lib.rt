@@ -57,8 +57,10 @@ fn answer_all(s: &mut [u64], sh: Shape, rq: &[u64], n: u64, out: &mut [u64]) -> 
 fn run_list(s: &mut [u64], sh: Shape, rq: &[u64], out: &mut [u64]) -> Result<(), Refusal>
     ensures { called (number_of result) s.new out.new ≡ requests_w one_r well_b s.old out.old sh rq.now (read_list rq.now) }
 {
-    let n = request::list_ok(rq).ok_or(Refusal::Malformed)?;
-    answer_all(s, sh, rq, n, out)
+    match request::list_ok(rq) {
+        Some(n) => answer_all(s, sh, rq, n, out),
+        None => Err(Refusal::Malformed),
+    }
 }
 
 // "state check 18".
@@ -84,8 +86,10 @@ fn run_within(s: &mut [u64], sh: Shape, rq: &[u64], out: &mut [u64]) -> Result<(
 fn run(s: &mut [u64], rq: &[u64], out: &mut [u64]) -> Result<(), Refusal>
     ensures { called (number_of result) s.new out.new ≡ run_w one_r well_b s.old rq.now out.old }
 {
-    let sh = layout::shape_of(s).ok_or(Refusal::Misuse)?;
-    run_within(s, sh, rq, out)
+    match layout::shape_of(s) {
+        Some(sh) => run_within(s, sh, rq, out),
+        None => Err(Refusal::Misuse),
+    }
 }
 
 // A list of requests on a state. The result is 18, 19 or 20 and no lent word has changed, or 0 and every request has run.

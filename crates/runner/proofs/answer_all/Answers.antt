@@ -3,7 +3,6 @@ use mathlib.Core.Path.{sym, ◌∙◌}
 use Rattle.wellformed.specs.Whole.{well_b}
 use Rattle.serve.specs.Serve.{one_r}
 use Rattle.contract.proofs.Call.{answers_short, answers_long}
-use borrow.Author.Rules.{rules}
 use Rattle.runner.proofs.answer_all.Goals as goal
 
 pub returns-then-answers_short : goal.returns-then-answers_short

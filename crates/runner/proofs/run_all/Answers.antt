@@ -1,22 +1,20 @@
 use borrow.Author.Rules.{rules}
 use native.Mathlib.Omega.{arith}
 use mathlib.Core.Path.{◌≡◌, refl}
-use Prim.Native.Nat.{◌+◌, ◌*◌, ◌≤◌}
-use lib.ListN.{length}
-use Rattle.format.specs.Format.{answer_words}
-use Rattle.contract.specs.Run.{list_r}
+use Prim.Native.Nat.{◌+◌, ◌-◌}
 use Rattle.contract.proofs.Run.{list_turn, list_end}
-use Rattle.serve.specs.Serve.{one_r}
 use Rattle.runner.proofs.run_all.Goals as goal
 
-pub loop-left-init : goal.loop-left-init
-loop-left-init c = (refl, refl, omega arith, refl)
+pub loop-i-init : goal.loop-i-init
+loop-i-init c = let z : c.args.n - 0 ≡ c.args.n = omega arith in (refl, refl, omega arith, rw z refl)
 
-pub loop-left-smaller : goal.loop-left-smaller
-loop-left-smaller c = omega arith
+pub overflow_add-base : goal.overflow_add-base
+overflow_add-base c = omega (arith, c.loop-i.invariant.2)
 
-pub loop-left-preserved : goal.loop-left-preserved
-loop-left-preserved c = (search rules, search rules, omega (arith, c.loop-left.invariant.2), list_turn _ _ _ _ _ _ _ _ _ _ _ _ _ c.loop-left-test.true c.run_one.ensures c.next_request-at.ensures refl c.loop-left.invariant.3)
+pub loop-i-preserved : goal.loop-i-preserved
+loop-i-preserved c =
+    let z : c.args.n - (c.loop-i.i + 1) ≡ c.args.n - c.loop-i.i - 1 = omega arith in
+    (search rules, search rules, omega (arith, c.loop-i.invariant.2), rw z (list_turn _ _ _ _ _ _ _ _ _ _ _ _ _ (omega arith) c.run_one.ensures c.next_request-at.ensures refl c.loop-i.invariant.3))
 
 pub returns : goal.returns
-returns c = list_end _ _ _ _ _ _ _ _ _ (omega arith) c.loop-left.invariant.3
+returns c = list_end _ _ _ _ _ _ _ _ _ (omega arith) c.loop-i.invariant.3

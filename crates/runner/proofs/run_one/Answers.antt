@@ -1,4 +1,3 @@
-use borrow.Author.Rules.{rules}
 use Rattle.runner.proofs.run_one.Goals as goal
 
 pub returns : goal.returns

@@ -1,7 +1,6 @@
 use Rattle.contract.proofs.Call.{run_within}
 use Rattle.serve.specs.Serve.{one_r}
 use Rattle.wellformed.specs.Whole.{well_b}
-use borrow.Author.Rules.{rules}
 use Rattle.runner.proofs.run_within.Goals as goal
 
 pub returns : goal.returns

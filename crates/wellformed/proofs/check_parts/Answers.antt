@@ -1,6 +1,6 @@
 use borrow.Author.Tests.{not-true, not-false}
 use Rattle.wellformed.proofs.Bodies.{read_no, no_book, no_outline, no_orders, quiet_all}
-use Rattle.std.proofs.Common.{◌∙◌, ap, refl}
+use Rattle.std.proofs.Common.{◌∙◌, ap}
 use Rattle.structure.specs.Code.{plus_one}
 use Rattle.layout.specs.Layout.{load}
 use Rattle.wellformed.proofs.check_parts.Goals as goal
