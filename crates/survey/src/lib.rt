@@ -127,7 +127,7 @@ fn walk_frame(
             return false;
         }
         note_slot(s, sh, c);
-        count += u64::from(c.tag != 0);
+        count += u64::from(c.tag != value::TAG_VACANT);
         j = k + 1;
     }
     count == w
