@@ -4,3 +4,4 @@ pub mod Vacants
 pub mod Decide
 pub mod Model
 pub mod Code
+pub mod Each
