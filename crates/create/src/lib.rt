@@ -29,7 +29,9 @@ fn tables_ok(p: &[u64], n: u8) -> bool
     (0..n).all(|k| table_ok(p, k))
 }
 
-// Whether an object's parameters are permitted, from their place on; its rights may be any word.
+// Whether an object's parameters are permitted, from their place on; its rights may be any word. A function of its own in the compiled call too: taken into the loop, its tests
+// would be made on several words at once, in SSE registers, in which no call computes (docs/embedding.md).
+#[inline(never)]
 #[tactic(auto, using(std::proofs::lemmas::Bool::Decides::nat_tests), unfolding(model::specs::State::max_limit))]
 fn object_ok(p: &[u64], at: u32) -> bool
     ensures { result ≡ object_permitted (object_from p.now at) }
