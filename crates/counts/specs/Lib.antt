@@ -6,4 +6,3 @@ pub mod Decide
 pub mod Objects
 pub mod Used
 pub mod Halves
-pub mod Each

@@ -7,4 +7,3 @@ pub mod Frames
 pub mod Slots
 pub mod View
 pub mod Complete
-pub mod Each

@@ -1,3 +1,4 @@
 pub mod All
+pub mod Each
 pub mod Pick
 pub mod Words

@@ -4,7 +4,7 @@ use Rattle.layout.specs.Layout.{load}
 use Rattle.counts.specs.Used.{used_few, read_is}
 use Rattle.std.proofs.lemmas.Iterator.{serves_from_Range}
 use borrow.Author.Tests.{tests}
-use Rattle.counts.specs.Each.{range_all}
+use Rattle.words.specs.Each.{range_all}
 use Rattle.counts.specs.Objects.{object_b}
 use Rattle.counts.proofs.check_objects.Goals as goal
 

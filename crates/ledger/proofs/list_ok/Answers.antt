@@ -2,7 +2,7 @@ use Rattle.std.proofs.Common.{arith, rules}
 use Rattle.std.proofs.lemmas.Bool.Decides.{nat_tests}
 use borrow.Author.Tests.{tests}
 use Rattle.layout.specs.Layout.{load}
-use Rattle.structure.specs.Each.{range_all}
+use Rattle.words.specs.Each.{range_all}
 use Rattle.ledger.specs.Items.{item_b}
 use Rattle.ledger.specs.Ledger.{list_b}
 use Rattle.ledger.proofs.list_ok.Goals as goal

@@ -1,7 +1,7 @@
 use Rattle.std.proofs.Common.{rules}
 use borrow.Author.Tests.{tests}
 use Rattle.layout.specs.Layout.{load}
-use Rattle.structure.specs.Each.{range_all}
+use Rattle.words.specs.Each.{range_all}
 use Rattle.ledger.specs.Items.{place_b}
 use Rattle.ledger.proofs.places_ok.Goals as goal
 

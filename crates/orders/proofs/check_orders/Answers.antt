@@ -1,7 +1,7 @@
 use Rattle.std.proofs.Common.{rules}
 use borrow.Author.Tests.{tests}
 use Rattle.layout.specs.Layout.{load}
-use Rattle.orders.specs.Each.{range_all}
+use Rattle.words.specs.Each.{range_all}
 use Rattle.orders.specs.Check.{table_b, orders_b}
 use Rattle.orders.proofs.check_orders.Goals as goal
 

@@ -4,7 +4,7 @@ use borrow.Author.Tests.{tests}
 use Rattle.layout.specs.Layout.{load, group}
 use Rattle.structure.specs.Facts.{free_from}
 use Rattle.structure.specs.Checks.{groups_b}
-use Rattle.structure.specs.Each.{range_all}
+use Rattle.words.specs.Each.{range_all}
 use Rattle.structure.proofs.sums_ok.Goals as goal
 
 pub returns : goal.returns
