@@ -177,7 +177,7 @@ def page():
             *layers(),
             "```",
             "",
-            "On the left stands what a reader must understand (but for `walks`, which is for proofs alone): `model` is document 01 as definitions, `representation` says which words stand for which state, `contract` what a call must do,",
+            "On the left stands what a reader must understand: `model` is document 01 as definitions, `representation` says which words stand for which state, `contract` what a call must do,",
             "`promises` what follows for the caller. On the right stands the code. It is ordered from reads of single words, at the bottom, to the call of a whole list; `authority`, `codec` and `format` have definitions of document 01 too.",
             "",
             "## The way of one request",
