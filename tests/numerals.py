@@ -680,7 +680,7 @@ WRONG = [
     ("crates/storage/src/lib.rt", "layout::cell_word(s, sh, fr - 1, j, f)", "layout::cell_word(s, sh, fr - 1, j, f + 1)", "a", "1"),
     ("crates/head/src/lib.rt", "TableHead {\n        life: layout::head_word(s, sh, b, field::HEAD_LIFECYCLE),", "let two = 1;\n    TableHead {\n        life: layout::head_word(s, sh, b, two),", "a", "two"),
     ("crates/runner/src/lib.rt", "let op = request::field(rq, at, field::FIELD_OP);", "let op = request::field(rq, at, 0);", "a", "0"),
-    ("crates/survey/src/lib.rt", "u64::from(c.tag != value::TAG_VACANT)", "u64::from(c.tag != 0)", "b", "0"),
+    ("crates/survey/src/lib.rt", "u64::from(c.tag == value::TAG_VACANT)", "u64::from(c.tag == 0)", "b", "0"),
     ("crates/lookup/src/lib.rt", "if w.tag == value::TAG_TRANSFER_RESERVED {", "if w.tag == 2 {", "b", "2"),
     ("crates/ledger/src/lib.rt", "    w == value::KIND_PARCEL\n", "    w == 3\n", "b", "3"),
     ("crates/object/src/lib.rt", "stage: value::STAGE_ACTIVE,", "stage: 1,", "b", "1"),

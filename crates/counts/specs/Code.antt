@@ -20,9 +20,6 @@ module _ (sh : Shape) (d : ℕ) (f : Mem → ℕ → List ℕ) (same : (m n : Me
       let e : f (load vs sh) k ≡ f (load ws sh) k = rw a (same (load ws sh) (load (shifted ws sh d os) sh) (shifted_off ws sh d os) k) in
       b ∙ ap (λ (l : List ℕ). shifted vs sh d l) e ∙ ap (λ (w : List ℕ). shifted w sh d (f (load ws sh) k)) a ∙ sym (shifted_append ws sh d os (f (load ws sh) k)) ∙ rw add-one
 
-  pub turn_end : (ws vs : List ℕ) (k n : ℕ) → vs ≡ shifted ws sh d (gather k (f (load ws sh))) → k ≡ n → vs ≡ shifted ws sh d (gather n (f (load ws sh)))
-  turn_end ws vs k n a e = a ∙ ap (λ (i : ℕ). shifted ws sh d (gather i (f (load ws sh)))) e
-
 -- the same loop over rows or items, which tells how far their objects reach
 module _ (sh : Shape) (f : Mem → ℕ → List ℕ) (same : (m n : Mem) → OffObjects m n → (k : ℕ) → f n k ≡ f m k) where
   pub noted_more : (ws vs us : List ℕ) (t u r k : ℕ) → Noted ws vs sh t u (gather k (f (load ws sh))) → Noted vs us sh u r (f (load vs sh) k) → Noted ws us sh t r (gather (k + 1) (f (load ws sh)))

@@ -1,15 +1,10 @@
-use Rattle.survey.specs.Walk.{page_b, page_found}
-use Rattle.counts.specs.Shift.{unit, shifted}
-use Rattle.counts.specs.Found.{gather}
+use Rattle.std.proofs.Common.{◌≡◌}
 use Rattle.words.specs.All.{all}
 use Rattle.layout.specs.Layout.{load}
-use lib.ListN.{length}
-use Prim.Native.Nat.{◌≤◌, ◌-◌}
-use mathlib.Core.Path.{◌≡◌}
+use Rattle.counts.specs.Found.{gather}
+use Rattle.counts.specs.Shift.{unit, shifted}
+use Rattle.survey.specs.Walk.{page_b, page_found}
 use Rattle.survey.proofs.walk_table.Given as goal
 
 abbrev pub invariant-loop-p : goal.invariant-loop-p
-invariant-loop-p l = (l.p ≤ l.n) × (length l.s ≡ length l.initial.s) × (l.s ≡ shifted l.initial.s l.sh unit (gather l.p (page_found (load l.initial.s l.sh) l.sh l.b l.bound l.e))) × (l.ok ≡ all l.p (page_b (load l.initial.s l.sh) l.sh l.b l.bound l.e))
-
-abbrev pub decreases-loop-p : goal.decreases-loop-p
-decreases-loop-p l = l.n - l.p
+invariant-loop-p l = (l.s ≡ shifted l.initial.s l.sh unit (gather l.p (page_found (load l.initial.s l.sh) l.sh l.b l.bound l.e))) × (l.ok ≡ all l.p (page_b (load l.initial.s l.sh) l.sh l.b l.bound l.e))
