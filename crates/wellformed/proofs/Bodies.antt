@@ -1,6 +1,5 @@
 -- What the functions' bodies go by: the parts that write nothing are tried in turn, then the slots and the counts. Assumes nothing.
-use Rattle.std.specs.Prelude.{suc, Option, Some, None}
-use Rattle.std.specs.Prelude.{◌≡◌, refl, Bool, false, ◌&&◌, ℕ, ◌-◌, ◌≤◌, ◌<◌, length, eqb, ltb}
+use Rattle.std.specs.Prelude.{◌≡◌, refl, Option, None, Bool, false, ◌&&◌, ℕ, ◌≤◌, ◌<◌, length, eqb, ltb}
 use Rattle.std.proofs.Math.Path.{sym, ap}
 use Rattle.std.proofs.Common.{◌∙◌}
 use Rattle.std.proofs.Math.Bool.{true, and-false}
@@ -14,7 +13,6 @@ use Rattle.model.proofs.Counting.{occurs_append}
 use Rattle.layout.specs.declared.Shape.{Shape}
 use Rattle.layout.specs.Layout.{Mem, total, load}
 use Rattle.structure.specs.Checks.{outline_b}
-use Rattle.structure.specs.Code.{counted, counted_is, counted_none}
 use Rattle.structure.specs.Split.{slots_in, structure_split}
 use Rattle.orders.specs.Check.{orders_b}
 use Rattle.ledger.specs.Plans.{held_frames}
@@ -22,7 +20,7 @@ use Rattle.ledger.specs.Ledger.{marks_b, book_b, ledger_b, ledger_split}
 use Rattle.counts.specs.Found.{gather, in_table, in_book, found, handles, counts_b, book_same}
 use Rattle.counts.specs.Shift.{unit, shifted, shifted_off}
 use Rattle.counts.specs.Objects.{objects_b}
-use Rattle.counts.specs.Used.{used_to, used_few, used_none, read_if, objects_read, top_of, top_least, top_most, top_has}
+use Rattle.counts.specs.Used.{used_to, used_few, used_none, read_if, top_of, top_least, top_most, top_has}
 use Rattle.counts.specs.Halves.{Low, Within, halves_to, lowered, objects_low, settled_kept, halves_few, halves_counts}
 use Rattle.counts.specs.Code.{Noted, counts_in, rows_by}
 use Rattle.counts.specs.Decide.{counts_sound, counts_in_law}
@@ -31,60 +29,10 @@ use Rattle.survey.specs.Whole.{survey_whole, survey_found, survey_among, survey_
 use Rattle.wellformed.specs.Whole.{parts_b, well_b}
 use Rattle.wellformed.specs.Code.{quiet_b}
 
--- a test that fails, and one that passes
-and_stop : (a b t : Bool) → t ≡ a → t ≡ false → false ≡ (a && b)
-and_stop a b t e d = rw (sym e ∙ d)
-
-and_next : (a b t r : Bool) → t ≡ a → t ≡ true → r ≡ b → r ≡ (a && b)
-and_next a b t r e d q = rw (sym e ∙ d) q
-
--- `check_parts`
-module _ (m : Mem) (sh : Shape) (h : ℕ) (eh : h ≡ counted (book_b m sh) (held_frames m)) where
-  pub no_book : h ≡ 0 → false ≡ quiet_b m sh
-  unfolding quiet_b
-  no_book z = rw (counted_none (book_b m sh) (held_frames m) h eh z)
-
-  module _ (k : ℕ) (eh' : h ≡ suc k) (a : Bool) (ea : a ≡ outline_b m sh k) where
-    book : (book_b m sh ≡ true) × (h - 1 ≡ held_frames m)
-    book = counted_is (book_b m sh) (held_frames m) h eh (λ z. omega arith)
-
-    held : k ≡ held_frames m
-    held = omega (arith, book.1)
-
-    outline : a ≡ outline_b m sh (held_frames m)
-    outline = ea ∙ ap (outline_b m sh) held
-
-    rest : (r : Bool) → r ≡ (outline_b m sh (held_frames m) && (orders_b m sh && objects_b m sh)) → r ≡ quiet_b m sh
-    unfolding quiet_b
-    rest r q = rw book.0 q
-
-    pub no_outline : a ≡ false → false ≡ quiet_b m sh
-    no_outline d = rest false (and_stop (outline_b m sh (held_frames m)) (orders_b m sh && objects_b m sh) a outline d)
-
-    module _ (ya : a ≡ true) (b : Bool) (eb : b ≡ orders_b m sh) where
-      pub no_orders : b ≡ false → false ≡ quiet_b m sh
-      no_orders d = rest false (and_next (outline_b m sh (held_frames m)) (orders_b m sh && objects_b m sh) a false outline ya (and_stop (orders_b m sh) (objects_b m sh) b eb d))
-
-      quiet_last : b ≡ true → objects_b m sh ≡ quiet_b m sh
-      quiet_last yb = rest (objects_b m sh) (and_next (outline_b m sh (held_frames m)) (orders_b m sh && objects_b m sh) a (objects_b m sh) outline ya
-          (and_next (orders_b m sh) (objects_b m sh) b (objects_b m sh) eb yb refl))
-
-      pub quiet_all : (r : Option ℕ) → b ≡ true → r ≡ objects_read m sh → r ≡ read_if (quiet_b m sh) (used_to m sh.objects)
-      unfolding objects_read
-      quiet_all r yb q = q ∙ ap (λ (x : Bool). read_if x (used_to m sh.objects)) (quiet_last yb)
-
--- a part that fails
-pub read_no : (b : Bool) (n : ℕ) → false ≡ b → None ≡ read_if b n
-read_no b n e = ap (λ (x : Bool). read_if x n) e
-
 -- what an answer tells
 read_bad : (b : Bool) (n : ℕ) → read_if b n ≡ None → b ≡ false
-read_bad true n e = let y : ◌≡◌ {A = ℕ} 0 1 = cc in absurd (omega arith)
+read_bad true n e = cc
 read_bad false n e = refl
-
-pub read_used : (b : Bool) (n k : ℕ) (x : Option ℕ) → x ≡ read_if b n → x ≡ Some k → (b ≡ true) × (k ≡ n)
-read_used true n k x p q = let e : Some n ≡ Some k = sym p ∙ q in (refl, cc)
-read_used false n k x p q = let e : None ≡ Some k = sym p ∙ q in let y : ◌≡◌ {A = ℕ} 0 1 = cc in absurd (omega arith)
 
 -- the parts are these, the slots and the marks
 parts_order : (a s o b k j : Bool) → ((a && s) && (o && ((b && k) && j))) ≡ ((b && (a && (o && j))) && (s && k))

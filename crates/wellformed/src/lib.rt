@@ -18,22 +18,22 @@ pub fn are_words(s: &[u64])
 }
 
 // The parts that write nothing: whether they pass, and how many objects may have handles.
+#[tactic(auto, unfolding(crate::specs::Code::quiet_b, counts::specs::Used::objects_read), using(std::proofs::lemmas::Bool::Decides::nat_tests))]
 fn check_parts(s: &[u64], sh: Shape) -> Option<u64>
     requires { total sh ≤ length s.now }
     ensures { result ≡ read_if (quiet_b (loadAt s.now sh) sh) (used_to (loadAt s.now sh) sh.objects) }
 {
     let held = ledger::check_book(s, sh)?;
-    if !structure::check_outline(s, sh, held) {
-        return None;
+    if structure::check_outline(s, sh, held) && orders::check_orders(s, sh) {
+        counts::check_objects(s, sh)
+    } else {
+        None
     }
-    if !orders::check_orders(s, sh) {
-        return None;
-    }
-    counts::check_objects(s, sh)
 }
 
 // The slots and the objects' counts, where these parts have passed and the first `used` objects may have handles: the handles are counted in the upper halves of
 // the counts, which are cleared again.
+#[tactic(auto, using(counts::specs::Used::used_few, counts::specs::Used::top_most))]
 fn check_handles(s: &mut [u64], sh: Shape, used: u64) -> bool
     requires sh_in_bounds { total sh ≤ length s.old }
     requires sh_value { (quiet_b (loadAt s.old sh) sh ≡ true) × (used ≡ used_to (loadAt s.old sh) sh.objects) }
@@ -47,13 +47,12 @@ fn check_handles(s: &mut [u64], sh: Shape, used: u64) -> bool
 }
 
 // Whether the words of a shape represent a well-formed state.
+#[tactic(auto, using(crate::proofs::Bodies::too_short, crate::proofs::Bodies::no_parts))]
 pub fn check(s: &mut [u64], sh: Shape) -> bool
     ensures kept { s.new ≡ s.old }
     ensures answer { result ≡ well_b s.old sh }
 {
-    let n = s.len() as u64;
-    let t = layout::total_of(sh);
-    if n < t {
+    if (s.len() as u64) < layout::total_of(sh) {
         return false;
     }
     match check_parts(s, sh) {
