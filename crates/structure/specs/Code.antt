@@ -32,9 +32,6 @@ plus_one (Some n) = suc n
 pub counted_no : (b : Bool) (n : ℕ) → b ≡ false → 0 ≡ counted b n
 counted_no b n e = rw e
 
-pub counted_yes : (b : Bool) (n r : ℕ) → b ≡ true → r ≡ n + 1 → r ≡ counted b n
-counted_yes b n r e q = rw e (omega arith)
-
 pub counted_is : (b : Bool) (n r : ℕ) → r ≡ counted b n → (r ≡ 0 → ⊥) → (b ≡ true) × (r - 1 ≡ n)
 counted_is true n r e h = (refl, omega arith)
 counted_is false n r e h = absurd (h e)
