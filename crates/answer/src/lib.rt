@@ -16,7 +16,7 @@ pub fn refuse(out: &mut [u64], base: usize, refusal: Refusal)
 }
 
 // Done, with the words of what was done.
-#[tactic(auto, unfolding(request::specs::Answers::puts))]
+#[tactic(auto, unfolding(request::specs::Answers::puts), using(crate::specs::Code::one_more))]
 pub fn say(out: &mut [u64], base: usize, words: &[u64])
     ensures { out.new ≡ answered out.old base (0 ∷ words.now) }
 {

@@ -11,7 +11,7 @@ use Rattle.layout.specs.Sizes.{batch_max}
 use Rattle.storage.specs.Ops.{up, vacate_w}
 use Rattle.storage.specs.Links.{place_of}
 pub use Rattle.storage.specs.Links.{place_is, no_place, place_by}
-use Rattle.book.specs.Ops.{id_at, link_from, used_of, likely_rank, likely_link, row_link, kind_link, row_left, spare, open_p, open_w, shift_w, close_w, vacate_items_w}
+use Rattle.book.specs.Ops.{id_at, link_from, used_of, likely_rank, likely_link, row_link, kind_link, spare, open_p, open_w, shift_w, close_w, vacate_items_w}
 
 -- the row of a kind with an id
 module _ (what : ℕ) (m : Mem) (sh : Shape) (i : ℕ) (r : Option ℕ) (e : r ≡ place_of (row_link m sh i)) where
@@ -35,10 +35,6 @@ module _ (what : ℕ) (m : Mem) (sh : Shape) (i : ℕ) (r : Option ℕ) (e : r �
     pub kind_other : (w ≡ what → ⊥) → None ≡ place_of (kind_link what m sh i)
     unfolding kind_link
     kind_other n = ap place_of (no_is (eqb (m (row (row_link m sh i - 1) row_kind)) what) 0 (row_link m sh i) 0 (ne_eqb _ _ (λ y. n (sym kind_here ∙ y))) refl)
-
--- `row_left`
-pub row_left_law : (m : Mem) (sh : Shape) (w : ℕ) (t : Bool) → w ≡ m (root root_used_rows) → t ≡ ltb w sh.rows → t ≡ row_left m sh
-row_left_law m sh w t e q = q ∙ ap (λ (n : ℕ). ltb n sh.rows) e
 
 -- ---- `search_row`
 

@@ -4,7 +4,7 @@ use Rattle.std.specs.Prelude.{◌≡◌, true, false, eqb}
 use Rattle.std.proofs.Math.Path.{refl, sym, ap}
 use Rattle.std.proofs.Common.{◌∙◌}
 use mathlib.Core.List.{List, [], ◌∷◌}
-use Prim.Native.Nat.{ℕ, zero, suc, ◌+◌, ◌/◌, ◌≤◌, ◌<◌, max}
+use Prim.Native.Nat.{ℕ, zero, suc, ◌/◌, ◌≤◌, ◌<◌, max}
 use native.Mathlib.Omega.{arith}
 use borrow.Author.Tests.{eqb-true, eqb-false, eq-eqb, ne_eqb}
 use Rattle.words.specs.Pick.{bool, clash}
@@ -19,8 +19,8 @@ use Rattle.invariant.proofs.Pointwise.{place_alike, place_slots}
 use Rattle.invariant.proofs.Pages.{till_sane, busy_there, busy_vacant, busy_same}
 use Rattle.invariant.proofs.Orders.{Sound, attached_below, attached_of, place_good}
 use Rattle.layout.specs.declared.Shape.{Shape}
-use Rattle.layout.specs.Layout.{Mem, head, entry, load, save}
-use Rattle.layout.specs.Fields.{head_pages, head_first_free, head_first_entry, entry_high, slot_tag, slot_generation, slot_next_free, slot_previous_free, slot_object, slot_rights, slot_flags, row_id}
+use Rattle.layout.specs.Layout.{Mem, head, load}
+use Rattle.layout.specs.Fields.{head_pages, head_first_free, entry_high, slot_tag, slot_generation, slot_next_free, slot_previous_free, slot_object, slot_rights, slot_flags, row_id}
 use Rattle.layout.specs.Sizes.{page_size}
 use Rattle.representation.specs.Represents.{link_of, frame_of, tagged, is_marked}
 use Rattle.storage.specs.Order.{chain_frame}
@@ -170,10 +170,3 @@ renew_held ws sh s h b l k g₀ x was g r good =
     (place_good till till_sane t k y (h.placed.sound b l) (ap is_busy was) refl good)
     (λ i n. ap (λ (f : ℕ → Slot). f i) (place_slots till t k y) ∙ put_other t.slots k y i n)
     (λ e. clash (sym (ap is_marked (ap (λ (f : ℕ → Slot). f k) (place_slots till t k y) ∙ put_same t.slots k y)) ∙ e) refl)
-
--- ---- what the code says
-
-pub high_is : (ws w₁ : List ℕ) (sh : Shape) (b p g e n y : ℕ) → e ≡ load ws sh (head b head_first_entry) → n ≡ load ws sh (entry (e + p) entry_high) → y ≡ max n g → w₁ ≡ save ws sh (entry (e + p) entry_high) y
-    → w₁ ≡ high_w ws sh b p g
-unfolding high_w look
-high_is ws w₁ sh b p g e n y e₁ e₂ e₃ a = rw (a, e₃, e₂, e₁)

@@ -43,6 +43,7 @@ pub fn close(s: &mut [u64], sh: Shape, b: u64, v: HandleValue) -> Result<HandleI
 }
 
 // Page p has had the generation g.
+#[tactic(auto, unfolding(crate::specs::Renew::high_w, storage::specs::Sight::look))]
 fn raise_mark(s: &mut [u64], sh: Shape, b: u64, p: u64, g: u64)
     ensures { s.new ≡ high_w s.old sh b p g }
 {

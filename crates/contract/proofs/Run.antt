@@ -7,8 +7,8 @@ use mathlib.Core.List.{List, [], ◌∷◌, ◌++◌, append_assoc}
 use Rattle.std.proofs.Math.Option.{some}
 use Prim.Native.Nat.{ℕ, zero, suc, ◌+◌, ◌-◌, ◌*◌, ◌≤◌, ◌<◌}
 use native.Mathlib.Omega.{arith}
-use Rattle.std.proofs.Math.ListN.{length, take, drop}
-use Rattle.std.proofs.Math.Seq.{drop-append-add}
+use Rattle.std.proofs.Math.ListN.{length, take, drop, take-append-drop}
+use Rattle.std.proofs.Math.Seq.{drop-append-add, drop-drop}
 use Rattle.words.specs.Pick.{bool}
 use Rattle.format.specs.Format.{answer_words}
 use Rattle.model.specs.State.{till, State}
@@ -26,20 +26,6 @@ use Rattle.request.specs.Laws.{Turn, list_at, list_done}
 use Rattle.answer.specs.Does.{Both, both}
 use Rattle.contract.specs.Run.{One, list_r, Steps, Ran}
 
-take_drop : (n : ℕ) (xs : List ℕ) → n ≤ length xs → xs ≡ take n xs ++ drop n xs
-take_drop zero xs h = refl
-take_drop (suc n) [] h = absurd (omega arith)
-take_drop (suc n) (x ∷ xs) h = ap (λ (l : List ℕ). x ∷ l) (take_drop n xs (omega arith))
-
-drop_none : (m : ℕ) → drop {A = ℕ} m [] ≡ []
-drop_none zero = refl
-drop_none (suc m) = refl
-
-drop-drop : (n m : ℕ) (xs : List ℕ) → drop m (drop n xs) ≡ drop (n + m) xs
-drop-drop zero m xs = let e : 0 + m ≡ m = omega arith in rw e
-drop-drop (suc n) m [] = let e : suc n + m ≡ suc (n + m) = omega arith in rw e (drop_none m)
-drop-drop (suc n) m (x ∷ xs) = let e : suc n + m ≡ suc (n + m) = omega arith in rw e (drop-drop n m xs)
-
 -- the answers after one request, in front of those of the rest
 joined : (base k : ℕ) (os us w rest ys : List ℕ) → base + k ≤ length os → length w ≡ k → us ≡ take base os ++ (w ++ drop (base + k) os)
     → (m : ℕ) → ys ≡ take (base + k) us ++ (rest ++ drop (base + k + m) us) → ys ≡ take base os ++ ((w ++ rest) ++ drop (base + (k + m)) os)
@@ -51,15 +37,14 @@ joined base k os us w rest ys h l e m p =
     let a : take (base + k) us ≡ front ++ w = ap (take (base + k)) e' ∙ take_at (front ++ w) (drop (base + k) os) (base + k) lfw in
     let b : drop (base + k + m) us ≡ drop m (drop (base + k) os) =
     ap (drop (base + k + m)) e' ∙ ap (λ (i : ℕ). drop (i + m) ((front ++ w) ++ drop (base + k) os)) (sym lfw) ∙ drop-append-add (front ++ w) (drop (base + k) os) m in
-    let q : base + k + m ≡ base + (k + m) = omega arith in
-    let c : drop m (drop (base + k) os) ≡ drop (base + (k + m)) os = drop-drop (base + k) m os ∙ ap (λ (i : ℕ). drop i os) q in
+    let c : drop m (drop (base + k) os) ≡ drop (base + (k + m)) os = drop-drop m (base + k) os ∙ ap (λ (i : ℕ). drop i os) (omega arith) in
     p ∙ ap (λ (x : List ℕ). x ++ (rest ++ drop (base + k + m) us)) a ∙ ap (λ (x : List ℕ). (front ++ w) ++ (rest ++ x)) (b ∙ c)
     ∙ append_assoc front w (rest ++ drop (base + (k + m)) os) ∙ ap (λ (x : List ℕ). front ++ x) (sym (append_assoc w rest (drop (base + (k + m)) os)))
 
 joined_length : (base k : ℕ) (os us w : List ℕ) → base + k ≤ length os → length w ≡ k → us ≡ take base os ++ (w ++ drop (base + k) os) → length us ≡ length os
 joined_length base k os us w h l e =
     let lf : length (take base os) ≡ base = length-take-le base os (omega arith) in
-    let d : length os ≡ length (take (base + k) os) + length (drop (base + k) os) = ap length (take_drop (base + k) os h) ∙ length-append (take (base + k) os) (drop (base + k) os) in
+    let d : length os ≡ length (take (base + k) os) + length (drop (base + k) os) = ap length (sym (take-append-drop (base + k) os)) ∙ length-append (take (base + k) os) (drop (base + k) os) in
     ap length e ∙ omega (arith, length-append (take base os) (w ++ drop (base + k) os), length-append w (drop (base + k) os), lf, l, d, length-take-le (base + k) os h)
 
 module _ (one : One) (steps : Steps one) where
@@ -70,7 +55,7 @@ module _ (one : One) (steps : Steps one) where
   list_ran zero ws os sh s list at base [] r e l h = record {
     state = r;
     each = refl;
-    answers = let q : base + answer_words * 0 ≡ base = omega arith in rw q (take_drop base os (omega arith));
+    answers = let q : base + answer_words * 0 ≡ base = omega arith in rw q (sym (take-append-drop base os));
   }
   list_ran zero ws os sh s list at base (x ∷ rs) r e l h = absurd (omega arith)
   list_ran (suc n) ws os sh s list at base rs r e l h = bool (ltb at (length list))

@@ -1,5 +1,5 @@
 -- Handles are counted in the upper halves of the objects' count words. Settling compares the halves and leaves the lower ones. Assumes nothing.
-use Rattle.std.specs.Prelude.{◌≡◌, Bool, true, false, length, set, eqb, ltb}
+use Rattle.std.specs.Prelude.{◌≡◌, Bool, true, false, length, eqb, ltb}
 use Rattle.std.proofs.Math.Path.{refl, sym, ap, fun_ext}
 use Rattle.std.proofs.Common.{◌∙◌, get_or-set_same}
 use mathlib.Core.List.{List, [], ◌∷◌}
@@ -7,7 +7,6 @@ use Prim.Native.Nat.{ℕ, zero, suc, ◌+◌, ◌*◌, ◌/◌, ◌%◌, ◌≤�
 use native.Mathlib.Omega.{arith}
 use Rattle.std.proofs.Math.ListN.{get_or, length-set, length-append}
 use Rattle.std.proofs.Math.Seq.{set_out}
-use Rattle.std.proofs.lemmas.List.{set-get_or}
 use borrow.Author.Tests.{ne_eqb, eqb-true, eqb-false, ltb-true, ltb-false}
 use Rattle.words.specs.Pick.{bool, clash, pick_has}
 use Rattle.words.specs.Words.{get_past}
@@ -61,10 +60,6 @@ module _ (ws : List ℕ) (sh : Shape) (a : Addr) (v : ℕ) where
   unfolding load save
   own_past h = let z : get_or ws (place (length ws) sh a) 0 ≡ 0 = get_past ws (place (length ws) sh a) h in
       (rw (set_out ws (place (length ws) sh a) v h) z, z)
-
--- a store of what stands there
-pub set_own : (ws : List ℕ) (i v : ℕ) → get_or ws i 0 ≡ v → set ws i v ≡ ws
-set_own ws i v e = rw (← e) (set-get_or ws i 0)
 
 -- ---- settling, word by word
 

@@ -162,7 +162,7 @@ pub fn note_rows(s: &mut [u64], sh: Shape, top: u64) -> u64
 }
 
 // Leaves the lower half of the count of object o. Whether the upper half was equal.
-#[tactic(auto, using(crate::specs::Shift::active_load, crate::specs::Shift::active_save, crate::specs::Halves::set_own), unfolding(crate::specs::Halves::lower_w))]
+#[tactic(auto, using(crate::specs::Shift::active_load, crate::specs::Shift::active_save, layout::specs::Layout::save_load), unfolding(crate::specs::Halves::lower_w))]
 fn settle_one(s: &mut [u64], sh: Shape, first: u64, o: u64) -> bool
     requires first_value { (first ≡ objects_at sh) × (o < sh.objects) }
     requires sh_in_bounds { total sh ≤ length s.old }

@@ -167,18 +167,6 @@ module _ (us : List ℕ) (sh : Shape) (b : ℕ) (h : TableHead) (e : h.entry ≡
         ∙ ap (λ (z : List ℕ). save (save z sh (head b head_first_free) (first_after prev_of next_of (load (under us sh b h) sh (head b head_first_free)))) sh (head b head_free_slots) (load (under us sh b h) sh (head b head_free_slots) - 1)) links_last
         ∙ over us (without_w us sh h fr j) sh b h.first_free h.free (λ (z : ℕ). first_after prev_of next_of z) (λ (z : ℕ). z - 1) without_long
 
--- `unlink_slot`
-pub without_is : (ws : List ℕ) (sh : Shape) (h : TableHead) (fr j n q qf nf : ℕ) (w₁ w₂ : List ℕ)
-    → n ≡ word_in (load ws sh) fr j slot_next_free → q ≡ word_in (load ws sh) fr j slot_previous_free → qf ≡ link_from (load ws sh) h q → nf ≡ link_from (load ws sh) h n
-    → w₁ ≡ writes ws sh (slot_p qf q slot_next_free n) → w₂ ≡ writes w₁ sh (slot_p nf n slot_previous_free q)
-    → w₂ ≡ without_w ws sh h fr j
-unfolding without_w
-without_is ws sh h fr j n q qf nf w₁ w₂ e₁ e₂ e₃ e₄ a₁ a₂ = rw (a₂, a₁, e₃, e₄, e₂, e₁)
-
-pub head_is : (m : Mem) (h t : TableHead) (fr j n q x : ℕ) → n ≡ word_in m fr j slot_next_free → q ≡ word_in m fr j slot_previous_free → x ≡ first_after q n h.first_free → t ≡ taken_by h x → t ≡ without_by m h fr j
-unfolding without_by
-head_is m h t fr j n q x e₁ e₂ e₃ e₄ = rw (e₄, e₃, e₂, e₁)
-
 -- ---- the slots of page p, of which j have left: the words, and the head, whose words are stored last
 
 pub record Leaving (ws us : List ℕ) (sh : Shape) (b p : ℕ) (h : TableHead) (fr j : ℕ) : Type 0 where

@@ -21,6 +21,7 @@ use head::TableHead;
 use layout::{Shape, field, size, value};
 
 // Slot j of the frame fr, which is vacant, leaves the free order of the table of a head, wherever it stands in it. Its own words stay.
+#[tactic(auto, unfolding(crate::specs::Late::without_w, crate::specs::Late::without_by))]
 fn unlink_slot(s: &mut [u64], sh: Shape, h: &mut TableHead, fr: u64, j: u64)
     ensures words { s.new ≡ without_w s.old sh h.old fr j }
     ensures head { h.new ≡ without_by (loadAt s.old sh) h.old fr j }
@@ -49,6 +50,7 @@ fn unlink_page(s: &mut [u64], sh: Shape, b: u64, p: u64)
 }
 
 // Page p has no frame and goes from the empty pages' order to the head of the detached pages' order; its high mark stays, and the epoch advances.
+#[tactic(auto, using(crate::specs::Code::joined_by))]
 fn join_detached(s: &mut [u64], sh: Shape, b: u64, p: u64)
     ensures words { s.new ≡ join_detached_w (leave_w s.old sh b p) sh b p }
 {
@@ -64,6 +66,7 @@ fn join_detached(s: &mut [u64], sh: Shape, b: u64, p: u64)
 }
 
 // Page p, which is empty, is detached and its frame given back.
+#[tactic(auto, unfolding(crate::specs::Ops::detach_w, storage::specs::Sight::look))]
 pub fn detach_page(s: &mut [u64], sh: Shape, b: u64, p: u64)
     ensures words { s.new ≡ detach_w s.old sh b p }
 {

@@ -1,5 +1,5 @@
 -- The operations on the pool: what the words are after each, and the lowest free frame. Assumes nothing.
-use Rattle.std.specs.Prelude.{◌≡◌, refl, Bool, true, false, not, List, [], ◌∷◌, eqb}
+use Rattle.std.specs.Prelude.{◌≡◌, Bool, true, false, not, List, [], ◌∷◌, eqb}
 use Rattle.std.proofs.Common.{sym, ⊎_elim, add-one}
 use Prim.Native.Nat.{ℕ, zero, suc, ◌+◌, ◌-◌, ◌*◌, ◌/◌, ◌≤◌, ◌<◌}
 use native.Mathlib.Omega.{arith}
@@ -45,23 +45,14 @@ has_free m k x = pick (eqb k region_owner) (eqb (m (reg k x 0 0)) 0) (not (eqb (
 unfoldable pub lowest_at : Mem → ℕ
 lowest_at m = first_of (has_free m region_owner) (first_of (has_free m region_group16) (first_of (has_free m region_group256) (first_of (has_free m region_group4096) 0 16 * 16) 16 * 16) 16 * 16) 16
 
--- what the loop goes by: from x on, up to e
-module _ (p : ℕ → Bool) (a n e x : ℕ) (h : first_of p a n ≡ first_of p x (e - x)) where
-  pub first_yes : x < e → p x ≡ true → x ≡ first_of p a n
-  unfolding first_of
-  first_yes l t = let d : e - x ≡ suc (e - x - 1) = omega arith in rw h (rw d (yes_is (p x) x x (first_of p (suc x) (e - x - 1)) t refl))
+-- the loop of `first_free`: number x of those up to e, and after the last
+pub first_step : (p : ℕ → Bool) (x e : ℕ) → x < e → first_of p x (e - x) ≡ pick (p x) x (first_of p (x + 1) (e - (x + 1)))
+unfolding first_of
+first_step p x e l = let d : e - x ≡ suc (e - (x + 1)) = omega arith in rw (d, add-one x)
 
-  pub first_no : x < e → p x ≡ false → first_of p a n ≡ first_of p (x + 1) (e - (x + 1))
-  unfolding first_of
-  first_no l t = let d : e - x ≡ suc (e - (x + 1)) = omega arith in
-      rw h (rw d (sym (no_is (p x) (first_of p (x + 1) (e - (x + 1))) x (first_of p (suc x) (e - (x + 1))) t (rw add-one))))
-
-  pub first_end : x ≤ e → e ≤ x → e ≡ first_of p a n
-  unfolding first_of
-  first_end l k = let d : e - x ≡ 0 = omega arith in let i : e ≡ x = omega arith in rw h (rw d i)
-
-pub first_start : (p : ℕ → Bool) (a n e : ℕ) → e ≡ a + n → first_of p a n ≡ first_of p a (e - a)
-first_start p a n e h = let d : e - a ≡ n = omega arith in rw d
+pub first_end : (p : ℕ → Bool) (x e : ℕ) → e ≤ x → first_of p x (e - x) ≡ x
+unfolding first_of
+first_end p x e l = let d : e - x ≡ 0 = omega arith in rw d
 
 -- the first is known by what it is
 pub first_is : (p : ℕ → Bool) (a n v : ℕ) → a ≤ v → v < a + n → ((x : ℕ) → a ≤ x → x < v → p x ≡ false) → p v ≡ true → first_of p a n ≡ v

@@ -20,6 +20,7 @@ fn has_free(s: &[u64], sh: Shape, k: u64, x: u64) -> bool
 }
 
 // The first of 16 numbers of region k that has a free frame; the number past them if none does.
+#[tactic(auto, using(crate::specs::Ops::first_step, crate::specs::Ops::first_end))]
 fn first_free(s: &[u64], sh: Shape, k: u64, from: u64) -> u64
     requires { from ≤ 1000000 }
     ensures first { result ≡ first_of (has_free (loadAt s.now sh) k) from 16 }

@@ -1,6 +1,6 @@
 -- What the code's loops say, in the terms of the definitions. Assumes nothing.
 use Rattle.std.specs.Prelude.{◌≡◌, refl, true, false, List, eqb}
-use Rattle.std.proofs.Math.Path.{sym, ap}
+use Rattle.std.proofs.Math.Path.{ap}
 use Rattle.std.proofs.Common.{◌∙◌, add-one, eq-eqb, ne_eqb}
 use Prim.Native.Nat.{ℕ, zero, suc, ◌+◌, ◌-◌, ◌≤◌, ◌<◌}
 use native.Mathlib.Omega.{arith}
@@ -42,19 +42,14 @@ unfolding each_w attach_all_w
 each_all ws sh b j zero = refl
 each_all ws sh b j (suc n) = each_all (attach_next_w ws sh b) sh b (suc j) n ∙ first_all ws sh b n
 
--- turns of a step: at turn j there is still to do what is left
-pub each_start : (f : ℕ → List ℕ → List ℕ) (n : ℕ) (ws : List ℕ) → each_w f 0 n ws ≡ each_w f 0 (n - 0) ws
-each_start f n ws = let z : n - 0 ≡ n = omega arith in rw z
-
-pub each_turn : (f : ℕ → List ℕ → List ℕ) (n j : ℕ) (ws us vs : List ℕ) → j < n → each_w f 0 n ws ≡ each_w f j (n - j) us → vs ≡ f j us → each_w f 0 n ws ≡ each_w f (j + 1) (n - (j + 1)) vs
+-- the last turn of a step apart
+each_later : (f : ℕ → List ℕ → List ℕ) (j n : ℕ) (ws : List ℕ) → each_w f j (suc n) ws ≡ f (j + n) (each_w f j n ws)
 unfolding each_w
-each_turn f n j ws us vs low inv e =
-    let z : n - j ≡ suc (n - (j + 1)) = omega arith in let y : j + 1 ≡ suc j = omega arith in
-    inv ∙ ap (λ (k : ℕ). each_w f j k us) z ∙ rw (e, y)
+each_later f j zero ws = let z : j + 0 ≡ j = omega arith in rw z
+each_later f j (suc n) ws = let z : suc j + n ≡ j + suc n = omega arith in each_later f (suc j) n (f j ws) ∙ ap (λ (i : ℕ). f i (each_w f (suc j) n (f j ws))) z
 
-pub each_end : (f : ℕ → List ℕ → List ℕ) (n j : ℕ) (ws us : List ℕ) → n ≤ j → each_w f 0 n ws ≡ each_w f j (n - j) us → us ≡ each_w f 0 n ws
-unfolding each_w
-each_end f n j ws us low inv = let z : n - j ≡ 0 = omega arith in sym (inv ∙ ap (λ (k : ℕ). each_w f j k us) z)
+pub each_last : (f : ℕ → List ℕ → List ℕ) (n : ℕ) (ws : List ℕ) → each_w f 0 (n + 1) ws ≡ f n (each_w f 0 n ws)
+each_last f n ws = let z : n + 1 ≡ suc n = omega arith in let y : 0 + n ≡ n = omega arith in ap (λ (k : ℕ). each_w f 0 k ws) z ∙ each_later f 0 n ws ∙ ap (λ (i : ℕ). f i (each_w f 0 n ws)) y
 
 -- the loop of `list_pages`: turn j of k, and after the last
 pub pages_step : (ws : List ℕ) (sh : Shape) (e x d n k j : ℕ) → j < k

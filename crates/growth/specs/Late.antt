@@ -67,20 +67,20 @@ joined_last ws sh b p f g e x z c n d q i =
     x (i ∙ sym (load_off own sh (head b head_first_empty) hs (refl, (refl, (refl, (refl, tt)))) ∙ load_off ws sh (head b head_first_empty) (own_p e p f g) (refl, (refl, (refl, tt)))))
     ∙ ap (λ (u : List ℕ). save u sh (head b head_first_empty) (up p)) (linked_last sh hs o own e p x)
 
--- `join_page`
-pub page_is : (ws : List ℕ) (sh : Shape) (b p f : ℕ) (h t : TableHead) (d g fr : ℕ) (w₁ w₂ w₃ w₄ w₅ : List ℕ) → p < 4294967296
-    → h ≡ head_at (load ws sh) b → g ≡ fresh_from (load ws sh) h p → fr ≡ link_from (load ws sh) h h.first_free → d ≡ detached_from (load ws sh) h p
-    → t ≡ empty_by (drawn_by (attached_by h p) d) (up p)
-    → w₁ ≡ built_w ws sh f p g h.first_free → w₂ ≡ writes w₁ sh (slot_p fr h.first_free slot_previous_free (p * page_size + 1)) → w₃ ≡ writes w₂ sh (own_p h.entry p f g)
-    → w₄ ≡ linked_w w₃ sh h.entry p h.first_empty → w₅ ≡ writes w₄ sh (pages_p b t)
-    → w₅ ≡ joined_w ws sh b p f
+-- `join_page`, by the head
+pub joined_by : (ws : List ℕ) (sh : Shape) (b p f : ℕ) (h : TableHead) → p < 4294967296 → h ≡ head_at (load ws sh) b
+    → joined_w ws sh b p f
+    ≡ writes (linked_w (writes (writes (built_w ws sh f p (fresh_from (load ws sh) h p) h.first_free) sh
+    (slot_p (link_from (load ws sh) h h.first_free) h.first_free slot_previous_free (p * page_size + 1))) sh
+    (own_p h.entry p f (fresh_from (load ws sh) h p))) sh h.entry p h.first_empty) sh
+    (pages_p b (empty_by (drawn_by (attached_by h p) (detached_from (load ws sh) h p)) (up p)))
 unfolding joined_w head_at
-page_is ws sh b p f h t d g fr w₁ w₂ w₃ w₄ w₅ l e₁ e₂ e₃ e₄ e₅ a₁ a₂ a₃ a₄ a₅ =
+joined_by ws sh b p f h l e =
     let k : min p number32_max ≡ p = omega arith in
     let m : Mem = load ws sh in
     let u : List ℕ = built_w ws sh f p (fresh m b p) (m (head b head_first_free)) in
     let v : List ℕ = writes u sh (slot_p (link_frame m b (m (head b head_first_free))) (m (head b head_first_free)) slot_previous_free (p * page_size + 1)) in
     let keeps : (i : ℕ) → m (head b i) ≡ load v sh (head b i)
     = λ (i : ℕ). sym (slot_keeps sh (head b i) u (link_frame m b (m (head b head_first_free))) (m (head b head_first_free)) slot_previous_free (p * page_size + 1) (λ y z w. (refl, tt)) ∙ built_keeps ws sh b i f p (fresh m b p) (m (head b head_first_free))) in
-    rw (a₅, a₄, a₃, a₂, a₁, e₅, e₄, e₃, e₂, e₁, k, fresh_of, detached_of, link_of)
-    (sym (joined_last v sh b p f (fresh m b p) (m (head b head_first_entry)) (m (head b head_first_empty)) (p * page_size + slots_of till p) (min (m (head b head_free_slots)) slots_max + slots_of till p) (size_with m b p) (detached_with m b p) (keeps head_first_entry) (keeps head_first_empty)))
+    rw (e, k, fresh_of, detached_of, link_of)
+    (joined_last v sh b p f (fresh m b p) (m (head b head_first_entry)) (m (head b head_first_empty)) (p * page_size + slots_of till p) (min (m (head b head_free_slots)) slots_max + slots_of till p) (size_with m b p) (detached_with m b p) (keeps head_first_entry) (keeps head_first_empty))

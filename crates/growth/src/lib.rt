@@ -97,6 +97,7 @@ fn attached_head(h: TableHead, p: u64, d: u64) -> TableHead
 }
 
 // Page p of table b stands in frame f, but for the frame's owner.
+#[tactic(auto, using(crate::specs::Late::joined_by))]
 fn join_page(s: &mut [u64], sh: Shape, b: u64, p: u32, f: u64)
     ensures { s.new ≡ joined_w s.old sh b p f }
 {

@@ -1,15 +1,16 @@
 -- What the code's branches say, in the terms of the tests. Assumes nothing.
-use Rattle.std.specs.Prelude.{◌≡◌, Bool, ℕ, suc, ◌+◌, ◌-◌, ◌≤◌, ◌<◌, eqb}
+use Rattle.std.specs.Prelude.{◌≡◌, Bool, ◌&&◌, ℕ, suc, ◌+◌, ◌-◌, ◌≤◌, ◌<◌, eqb, leb}
 use Rattle.std.proofs.Math.Path.{sym}
 use Rattle.std.proofs.Common.{ap, ◌∙◌, arith, add-one}
 use Rattle.std.proofs.Math.Bool.{true, false}
+use borrow.Author.Tests.{le-leb}
 use Rattle.words.specs.Pick.{bool}
 use Rattle.words.specs.All.{all, all_stop}
 use Rattle.model.specs.State.{till}
 use Rattle.model.specs.Storage.{slots_of}
 use Rattle.layout.specs.declared.Shape.{Shape}
 use Rattle.layout.specs.Layout.{Mem, index, row, item}
-use Rattle.layout.specs.Fields.{row_id, row_kind, row_length, item_page, item_frame}
+use Rattle.layout.specs.Fields.{row_id, row_kind, item_page, item_frame}
 use Rattle.layout.specs.Values.{kind_plan}
 use Rattle.layout.specs.Sizes.{batch_max}
 use Rattle.structure.specs.Code.{counted, counted_no}
@@ -36,10 +37,9 @@ module _ (m : Mem) (sh : Shape) (x n : ℕ) where
   pub low_next : (j f : ℕ) → f ≡ m (item x j item_frame) → f + 1 ≡ low_at m x (j + 1)
   low_next j f e = let z : j + 1 ≡ suc j = omega arith in rw z (omega arith)
 
-  pub pages_end : (j want : ℕ) (r : Bool) → all j (item_held_b m sh x) ≡ true → want ≡ want_at m x j → j ≡ n → r ≡ eqb want 0 → r ≡ pages_b m sh x n
+  pub pages_end : all n (item_held_b m sh x) ≡ true → pages_b m sh x n ≡ eqb (want_at m x n) 0
   unfolding pages_b
-  pages_end j want r a ew e q =
-      let b : all n (item_held_b m sh x) ≡ true = rw e at a in let c : want ≡ want_at m x n = rw e at ew in rw (b, ← c) q
+  pages_end a = rw a
 
 -- a row, by its rank
 pub rank_is : (m : Mem) (sh : Shape) (i x last : ℕ) (r : Bool) → x ≡ m (index i) → last ≡ before m i → r ≡ row_b m sh x last → r ≡ rank_b m sh i
@@ -48,10 +48,11 @@ rank_is m sh i x last r ex el q = q ∙ ap (λ (y : ℕ). row_b m sh y last) ex 
 -- the loop over the rows
 module _ (m : Mem) (sh : Shape) where
   -- a row that passes holds no more frames than it has entries
-  pub held_few : (x last h : ℕ) (t : Bool) → t ≡ row_b m sh x last → t ≡ true → h ≡ held_in m x → h ≤ batch_max
-  held_few x last h t q e eh = let o = row_is m sh x last (sym q ∙ e) in bool (eqb (m (row x row_kind)) kind_plan)
-      (λ d. let y : h ≡ m (row x row_length) = rw d at eh in omega (arith, o.few_items))
-      (λ d. let y : h ≡ 0 = rw d at eh in omega arith)
+  pub held_few : (x last : ℕ) → row_b m sh x last ≡ (row_b m sh x last && leb (held_in m x) batch_max)
+  held_few x last = bool (row_b m sh x last)
+      (λ e. let o = row_is m sh x last e in
+      let few : held_in m x ≤ batch_max = bool (eqb (m (row x row_kind)) kind_plan) (λ d. rw d o.few_items) (λ d. rw d (omega arith)) in rw (e, le-leb (held_in m x) batch_max few))
+      (λ e. rw e)
 
   pub rows_stop : (n i z : ℕ) → i < n → rank_b m sh i ≡ false → 0 ≡ counted (all n (rank_b m sh)) z
   rows_stop n i z h e = counted_no (all n (rank_b m sh)) z (all_stop n (rank_b m sh) i h e)

@@ -92,6 +92,7 @@ fn open_ok(s: &[u64], sh: Shape, w: u64, b: u64) -> bool
 }
 
 // The n entries of the row in place x, which is a w and no plan.
+#[tactic(auto, unfolding(crate::specs::Ledger::list_b))]
 fn list_ok(s: &[u64], sh: Shape, x: u64, w: u64, n: u64) -> bool
     ensures { result ≡ list_b (loadAt s.now sh) sh x w n }
 {
@@ -113,7 +114,7 @@ fn held_ok(s: &[u64], sh: Shape, x: u64, j: u64, want: u64, low: u64) -> bool
 }
 
 // The n pages and frames of the plan in place x: the pages are just enough for the slots that are wanted beside the free ones, and the frames rise.
-#[tactic(auto, unfolding(crate::specs::Plans::pages_b, words::specs::All::all))]
+#[tactic(auto, unfolding(words::specs::All::all), using(crate::specs::Code::pages_stop, crate::specs::Code::item_held, crate::specs::Code::want_next, crate::specs::Code::low_next, words::specs::All::all_more, crate::specs::Plans::held_is))]
 fn pages_ok(s: &[u64], sh: Shape, x: u64, n: u64) -> bool
     ensures { result ≡ pages_b (loadAt s.now sh) sh x n }
 {
@@ -177,7 +178,7 @@ fn held_in(s: &[u64], sh: Shape, x: u64) -> u64
 }
 
 // How many frames the first n rows in use hold, by rank; none if a row is not as it must be.
-#[tactic(auto, unfolding(words::specs::All::all))]
+#[tactic(auto, unfolding(words::specs::All::all), using(crate::specs::Code::rank_is, crate::specs::Code::held_few, crate::specs::Code::rows_stop, crate::specs::Code::before_next, words::specs::All::all_more, structure::specs::Code::sum_more, std::proofs::lemmas::Bool::Decides::nat_tests))]
 fn rows_ok(s: &[u64], sh: Shape, n: u16) -> Option<u64>
     ensures { plus_one result ≡ counted (all n (rank_b (loadAt s.now sh) sh)) (held_to (loadAt s.now sh) n) }
 {

@@ -87,7 +87,7 @@ fn detached_link(s: &[u64], sh: Shape, n: u32, e: u64, at: u64) -> bool
 }
 
 // Whether an order, from its first link on, has so many links, each of which passes with the one before it; 0 stands before the first, and after the last.
-#[tactic(auto, unfolding(crate::specs::Walk::walk))]
+#[tactic(auto, unfolding(crate::specs::Walk::walk), using(crate::specs::Code::walk_stop, crate::specs::Code::walk_on))]
 fn walk<N: Fn(u64) -> u64, L: Fn(u64, u64) -> bool>(
     first: u64,
     count: u64,

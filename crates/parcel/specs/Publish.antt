@@ -6,7 +6,7 @@ use mathlib.Core.List.{List, [], ◌∷◌, ◌++◌}
 use Rattle.std.proofs.Math.Option.{Option, none, some}
 use Prim.Native.Nat.{ℕ, zero, suc, ◌+◌, ◌-◌, ◌≤◌, ◌<◌}
 use native.Mathlib.Omega.{arith}
-use Rattle.std.proofs.Math.ListN.{length}
+use Rattle.std.proofs.Math.ListN.{length, length-drop}
 use borrow.Author.Tests.{eqb-true, eqb-false, eq-eqb, ne_eqb, ltb-true, ltb-false}
 use Rattle.words.specs.Pick.{pick, bool}
 use Rattle.model.specs.Base.{occurs}
@@ -77,11 +77,6 @@ items_drop : {A : Type 0} (P : ℕ → A → Type 0) (n j : ℕ) (l : List A) �
 items_drop P zero j l p = let z : j + 0 ≡ j = omega arith in rw z p
 items_drop P (suc n) j [] p = tt
 items_drop P (suc n) j (y ∷ l) p = let z : j + suc n ≡ suc j + n = omega arith in rw z (items_drop P n (suc j) l p.1)
-
-drop_few : (n : ℕ) (l : List ℕ) → length (drop n l) ≡ length l - n
-drop_few zero l = omega arith
-drop_few (suc n) [] = omega arith
-drop_few (suc n) (x ∷ l) = drop_few n l ∙ omega arith
 
 fill_more : (ws : List ℕ) (sh : Shape) (b x p y j n k : ℕ) (h : Handle) → p + j ≤ batch_max → load ws sh (item x (p + j) item_slot) ≡ k → HandleIs (load ws sh) y j h
     → filled_w ws sh b x p y j (suc n) ≡ filled_w (occupy_w ws sh b k h.object h.rights h.flags) sh b x p y (suc j) n
@@ -160,7 +155,7 @@ module _ (sh : Shape) (b x : ℕ) where
           let u : Table = fill_all till ks gs (s.tables b) in
           let p0 : p ≡ p + 0 = omega arith in
           let one = filled_keeps sh b x y p gs ks ws s 0 h l busy (rw p0 at slots) a.body.2 (omega arith) (omega arith) in
-          let c = drop_few (length gs) ks in
+          let c = length-drop (length gs) ks in
           let two = rec (drop (length gs) ks) v (with_table s b u) (p + length gs) one.held (one.fits f) l
           (λ k o. rw (table_at_law s b u) (fill_all_busy till ks gs (s.tables b) k (busy k (omega (arith, occurs_split k (length gs) ks)))))
           (items_drop (SlotsAt (load v sh) x) (length gs) p ks (slots_kept (load ws sh) (load v sh) x (one.items x) p ks slots)) after (omega arith) (omega arith) in

@@ -1,5 +1,5 @@
 -- The row of a plan to come: its pages in the items, the lowest free frames taken for it one by one, and what it keeps beside. Assumes nothing.
-use Rattle.std.specs.Prelude.{◌≡◌, refl, false, length, take, drop}
+use Rattle.std.specs.Prelude.{◌≡◌, refl, length, take, drop}
 use Rattle.std.proofs.Common.{sym, ap, ◌∙◌, arith, eq-eqb, ne_eqb}
 use Rattle.std.proofs.Math.Bool.{and-false}
 use mathlib.Core.List.{List, [], ◌∷◌}
@@ -10,16 +10,16 @@ use Rattle.model.specs.State.{State}
 use Rattle.model.specs.Change.{with_frames}
 use Rattle.model.proofs.Counting.{bit_same}
 use Rattle.layout.specs.declared.Shape.{Shape}
-use Rattle.layout.specs.Layout.{Addr, Addr.reg, Mem, total, root, head, owner, index, row, item, load, save, same, same_is, is_in, in_row, in_item, length_save, load_save, load_save_any, Write.at, upds, load_writes}
+use Rattle.layout.specs.Layout.{Addr.reg, total, root, head, owner, index, row, item, load, save, same, same_is, is_in, in_row, in_item, length_save, load_save, load_save_any, Write.at, upds, load_writes}
 use Rattle.layout.specs.Fields.{root_used_rows, head_epoch, head_free_slots, head_pages, head_first_detached, head_first_entry, index_place, row_count, row_epoch, item_page, item_frame, item_free_slots}
 use Rattle.layout.specs.Sizes.{batch_max, rows_max, plan_owner}
 use Rattle.layout.specs.RegionNames.{region_root, region_owner, region_index, region_row}
 use Rattle.representation.specs.Represents.{Items, HeldIs}
 use Rattle.storage.specs.Kept.{items_kept}
 use Rattle.storage.specs.Reps.{Held}
-use Rattle.frames.specs.Pool.{Taken, down}
+use Rattle.frames.specs.Pool.{down}
 use Rattle.frames.specs.Frames.{taken_first}
-use Rattle.frames.specs.Ops.{take_frame_w, lowest_at}
+use Rattle.frames.specs.Ops.{take_frame_w}
 use Rattle.frames.specs.Words.{Steps, take_steps}
 use Rattle.frames.specs.Done.{pool_rows}
 use Rattle.frames.specs.Lowest.{Owners, lowest_free}
@@ -27,9 +27,9 @@ use Rattle.frames.specs.Apart.{pool_root, take_held, owners_taken}
 use Rattle.book.specs.Ops.{spare, Fills, fills_then, fills_row, fills_item}
 use Rattle.book.specs.Decided.{spare_low}
 use Rattle.book.specs.Swap.{spare_held}
-use Rattle.growth.specs.Words.{pages_w, list_pages_w, each_w}
+use Rattle.growth.specs.Words.{list_pages_w, each_w}
 use Rattle.growth.specs.Next.{length_pages, pages_off, pages_items, next_of}
-use Rattle.plan.specs.Ops.{owner_word, hold_w, hold_all_w, kept_w}
+use Rattle.plan.specs.Ops.{hold_w, hold_all_w, kept_w}
 
 -- the place of the next row, where its words stay
 pub spare_fills : (ws ws' : List ℕ) (sh : Shape) (x : ℕ) → Fills ws ws' sh x → spare (load ws' sh) ≡ spare (load ws sh)

@@ -1,5 +1,4 @@
 pub mod Ops
-pub mod Code
 pub mod Holds
 pub mod Made
 pub mod Dropped

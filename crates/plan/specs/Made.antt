@@ -1,6 +1,6 @@
 -- Make plan: its function takes the model's step. Assumes nothing.
 use Rattle.std.specs.Prelude.{◌≡◌, refl, List, ℕ, ◌+◌, ◌^◌, ◌≤◌, ◌<◌, length, take, drop}
-use Rattle.std.proofs.Common.{sym, ap, ◌∙◌, subst, arith, length-take-le}
+use Rattle.std.proofs.Common.{sym, ◌∙◌, subst, arith, length-take-le}
 use Rattle.std.proofs.Math.Option.{some}
 use Rattle.model.specs.State.{till, Table, Body.plan, StorageSnapshot, State}
 use Rattle.model.specs.Storage.{pages_for}

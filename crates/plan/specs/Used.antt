@@ -11,7 +11,7 @@ use Rattle.model.specs.Storage.{pages_for, is_stale, grow}
 use Rattle.model.specs.Change.{with_table}
 use Rattle.model.specs.Book.{drop_row}
 use Rattle.model.specs.Request.{Request.use_plan}
-use Rattle.model.specs.Decision.{Decision, Decision.refusal, unless◌refuse◌then◌, when◌refuse◌then◌}
+use Rattle.model.specs.Decision.{Decision, unless◌refuse◌then◌, when◌refuse◌then◌}
 use Rattle.model.specs.Step.{reserve_in, use_plan_of, decide}
 use Rattle.model.specs.WellFormed.{PlanRange}
 use Rattle.model.proofs.Bounds.{batch_max_law}
@@ -19,14 +19,14 @@ use Rattle.invariant.proofs.BookLemmas.{length_dropped}
 use Rattle.invariant.proofs.Pages.{till_sane}
 use Rattle.invariant.proofs.Snapshots.{fresh_pages}
 use Rattle.layout.specs.declared.Shape.{Shape}
-use Rattle.layout.specs.Layout.{Mem, root, head, row, item, load}
-use Rattle.layout.specs.Fields.{root_next_id, head_lifecycle, head_cursor, row_table, item_page, item_frame}
+use Rattle.layout.specs.Layout.{Mem, head, row, item, load}
+use Rattle.layout.specs.Fields.{head_lifecycle, head_cursor, row_table, item_page, item_frame}
 use Rattle.layout.specs.Sizes.{batch_max}
 use Rattle.representation.specs.Represents.{HeldIs, Represents, Rep}
 use Rattle.representation.specs.Told.{life_tells}
 use Rattle.storage.specs.Kept.{items_kept}
 use Rattle.storage.specs.Reps.{Held, held_of}
-use Rattle.book.specs.Ops.{plan_link, id_refusal}
+use Rattle.book.specs.Ops.{plan_link}
 use Rattle.book.specs.Decided.{decided_by, refused_when, accepted_when}
 use Rattle.book.specs.Find.{fits_of}
 use Rattle.book.specs.Found.{OpenPlan, plan_none, plan_some}

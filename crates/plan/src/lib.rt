@@ -35,6 +35,7 @@ fn owner_word(x: u64) -> u64
 }
 
 // The lowest free frame is taken for the plan in place x, and item j names it.
+#[tactic(auto, unfolding(crate::specs::Ops::hold_w))]
 fn hold_frame(s: &mut [u64], sh: Shape, x: u64, j: u64)
     ensures { s.new ≡ hold_w sh x j s.old }
 {
@@ -45,6 +46,7 @@ fn hold_frame(s: &mut [u64], sh: Shape, x: u64, j: u64)
 }
 
 // So n frames, for its first n items.
+#[tactic(auto, unfolding(growth::specs::Words::each_w), using(growth::specs::Code::each_last))]
 fn hold_frames(s: &mut [u64], sh: Shape, x: u64, n: u64)
     ensures { s.new ≡ hold_all_w sh x 0 n s.old }
 {
@@ -54,6 +56,7 @@ fn hold_frames(s: &mut [u64], sh: Shape, x: u64, n: u64)
 }
 
 // What a plan of n slots of table b keeps beside its pages and frames: the count, the epoch and the number of free slots, in the row in place x.
+#[tactic(auto, unfolding(crate::specs::Ops::kept_w))]
 fn put_kept(s: &mut [u64], sh: Shape, b: u64, x: u64, n: u64)
     ensures { s.new ≡ kept_w s.old sh b x n }
 {
@@ -65,6 +68,7 @@ fn put_kept(s: &mut [u64], sh: Shape, b: u64, x: u64, n: u64)
 }
 
 // A plan of n slots of table b, which needs p pages: its pages and frames stand in the items of the row that opens.
+#[tactic(auto, unfolding(crate::specs::Ops::plan_w, crate::specs::Ops::filled_w))]
 fn open_plan(s: &mut [u64], sh: Shape, b: u64, n: u64, p: u64)
     ensures { s.new ≡ plan_w s.old sh b n p }
 {
@@ -135,6 +139,7 @@ fn check_use(s: &[u64], sh: Shape, x: u64) -> Result<(), Refusal>
 }
 
 // The frame that item j of the row in place x names is free again.
+#[tactic(auto, unfolding(crate::specs::Ops::give_w))]
 fn give_frame(s: &mut [u64], sh: Shape, x: u64, j: u64)
     ensures { s.new ≡ give_w sh x j s.old }
 {
@@ -143,6 +148,7 @@ fn give_frame(s: &mut [u64], sh: Shape, x: u64, j: u64)
 }
 
 // So those of its first n items.
+#[tactic(auto, unfolding(growth::specs::Words::each_w), using(growth::specs::Code::each_last))]
 fn give_frames(s: &mut [u64], sh: Shape, x: u64, n: u64)
     ensures { s.new ≡ give_all_w sh x 0 n s.old }
 {
@@ -152,6 +158,7 @@ fn give_frames(s: &mut [u64], sh: Shape, x: u64, n: u64)
 }
 
 // The plan in place x leaves, and its frames are free. The words of its row and of its items stay, and the place is the next to open.
+#[tactic(auto, unfolding(crate::specs::Ops::drop_w))]
 fn drop_row(s: &mut [u64], sh: Shape, x: u64)
     ensures { s.new ≡ drop_w s.old sh x }
 {

@@ -1,12 +1,12 @@
 -- The checks of a reservation, over words and in the model; and what the opening of a batch does. Assumes nothing.
 use Rattle.std.proofs.Math.Path.{◌≡◌, refl}
-use Rattle.std.proofs.Common.{sym, ap, ◌∙◌, arith}
+use Rattle.std.proofs.Common.{sym, ◌∙◌, arith}
 use Rattle.std.specs.Prelude.{true, List, map, ℕ, ◌+◌, ◌^◌, ◌≤◌, ◌<◌, take, ltb}
 use Rattle.std.proofs.Math.Bool.{false}
 use Rattle.std.proofs.Math.Option.{Option, none, some}
 use Rattle.std.proofs.Math.ListN.{length}
 use Rattle.std.proofs.Math.Dec.{eqb}
-use borrow.Author.Tests.{eqb-true, eqb-false, ltb-true, ltb-false, lt-ltb, le-ltb, ne_eqb}
+use borrow.Author.Tests.{eqb-true, eqb-false, ltb-false, lt-ltb, le-ltb, ne_eqb}
 use Rattle.words.specs.Pick.{pick, bool, clash}
 use Rattle.model.specs.Base.{at_most}
 use Rattle.model.specs.State.{till, Slot.reserved, Table, Body.reservation, StorageSnapshot, State, max_batch, last_id}

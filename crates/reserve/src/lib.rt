@@ -54,6 +54,7 @@ pub fn check_room(s: &[u64], sh: Shape, p: u64) -> Result<(), Refusal>
 }
 
 // The first n slots of the free order of table b, from the link l on, into the items of the row in place x.
+#[tactic(auto, using(crate::specs::ReserveCode::listed_step, crate::specs::ReserveCode::listed_end))]
 fn list_slots(s: &mut [u64], sh: Shape, b: u64, x: u64, l: u64, n: u64)
     ensures words { s.new ≡ listed_w s.old sh b x 0 l n }
 {
@@ -66,6 +67,7 @@ fn list_slots(s: &mut [u64], sh: Shape, b: u64, x: u64, l: u64, n: u64)
 }
 
 // They stand in the row that opens next.
+#[tactic(auto, unfolding(crate::specs::Ops::list_w))]
 fn list_free(s: &mut [u64], sh: Shape, b: u64, n: u64)
     ensures words { s.new ≡ list_w s.old sh b n }
 {
@@ -75,6 +77,7 @@ fn list_free(s: &mut [u64], sh: Shape, b: u64, n: u64)
 }
 
 // The head of the free order is taken n times, for the positions of the row in place x in turn.
+#[tactic(auto, using(crate::specs::ReserveCode::taken_step, crate::specs::ReserveCode::taken_end))]
 fn take_slots(s: &mut [u64], sh: Shape, b: u64, x: u64, n: u64)
     ensures words { s.new ≡ taken_w s.old sh b x 0 n }
 {
@@ -84,6 +87,7 @@ fn take_slots(s: &mut [u64], sh: Shape, b: u64, x: u64, n: u64)
 }
 
 // The row opens, and the slots that its items name are Reserved by it.
+#[tactic(auto, unfolding(crate::specs::Ops::batch_w))]
 fn open_batch(s: &mut [u64], sh: Shape, b: u64, n: u64)
     ensures words { s.new ≡ batch_w s.old sh b n }
 {
@@ -93,6 +97,7 @@ fn open_batch(s: &mut [u64], sh: Shape, b: u64, n: u64)
 }
 
 // The values of the slots that the first n items of the row in place x name, at most 64, from word 3 of the answer on.
+#[tactic(auto, using(crate::specs::ReserveCode::said_step, crate::specs::ReserveCode::said_end))]
 fn say_values(s: &[u64], sh: Shape, b: u64, x: u64, n: u64, out: &mut [u64], base: usize)
     ensures { out.new ≡ puts out.old base 3 (values_at (loadAt s.now sh) b x 0 (min n batch_max)) }
 {
@@ -107,6 +112,7 @@ fn say_values(s: &[u64], sh: Shape, b: u64, x: u64, n: u64, out: &mut [u64], bas
 }
 
 // The answer: the next id, the count and the values.
+#[tactic(auto, unfolding(crate::specs::Ops::batch_words, request::specs::Answers::puts))]
 fn say_batch(s: &[u64], sh: Shape, b: u64, n: u64, out: &mut [u64], base: usize)
     ensures { out.new ≡ answered out.old base (batch_words (loadAt s.now sh) b n) }
 {
@@ -117,6 +123,7 @@ fn say_batch(s: &[u64], sh: Shape, b: u64, n: u64, out: &mut [u64], base: usize)
 }
 
 // A batch of the first n slots of the free order of table b, under the next id.
+#[tactic(auto, unfolding(crate::specs::Ops::slots_r))]
 pub fn open_slots(s: &mut [u64], sh: Shape, b: u64, n: u64, out: &mut [u64], base: usize)
     ensures { both s.new out.new ≡ slots_r s.old out.old sh base b n }
 {
@@ -126,6 +133,7 @@ pub fn open_slots(s: &mut [u64], sh: Shape, b: u64, n: u64, out: &mut [u64], bas
 }
 
 // So after p pages.
+#[tactic(auto, unfolding(crate::specs::Ops::open_r))]
 fn reserve_slots(s: &mut [u64], sh: Shape, b: u64, n: u64, p: u64, out: &mut [u64], base: usize)
     ensures { both s.new out.new ≡ open_r s.old out.old sh base b n p }
 {

@@ -12,7 +12,3 @@ unfolding list_b
 returns-then-open_ok c =
     let e = range_all (item_b (load c.args.s.now c.args.sh) c.args.sh c.args.w c.row_word-b.result c.args.x) c.args.n _ _ _ c.all.ensures.ran (λ x b q k. search (rules, tests)) in
     grind (arith, nat_tests)
-
-pub returns-else-open_ok : goal.returns-else-open_ok
-unfolding list_b
-returns-else-open_ok c = grind (arith, nat_tests)

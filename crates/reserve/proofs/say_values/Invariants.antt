@@ -1,13 +1,8 @@
-use borrow.Author.Rules.{rules}
-use Rattle.reserve.specs.ReserveCode.{Said, said_start, said_turn, said_end}
+use Rattle.std.proofs.Common.{◌≡◌, ◌+◌, ◌-◌}
 use Rattle.layout.specs.Layout.{load}
-use lib.ListN.{length}
-use Prim.Native.Nat.{◌-◌}
-use mathlib.Core.Path.{◌≡◌, refl}
+use Rattle.request.specs.Answers.{puts}
+use Rattle.reserve.specs.Ops.{values_at}
 use Rattle.reserve.proofs.say_values.Given as goal
 
 abbrev pub invariant-loop-j : goal.invariant-loop-j
-invariant-loop-j l = (length l.out ≡ length l.initial.out) × Said (load l.s l.sh) l.b l.x l.base l.initial.out l.out l.n l.j
-
-abbrev pub decreases-loop-j : goal.decreases-loop-j
-decreases-loop-j l = l.most - l.j
+invariant-loop-j l = puts l.fn.out l.base 3 (values_at (load l.s l.sh) l.b l.x 0 l.most) ≡ puts l.out l.base (l.j + 3) (values_at (load l.s l.sh) l.b l.x l.j (l.most - l.j))

@@ -1,13 +1,6 @@
-use borrow.Author.Rules.{rules}
-use Rattle.reserve.specs.ReserveCode.{taken_start, taken_turn, taken_end}
+use Rattle.std.proofs.Common.{◌≡◌, ◌-◌}
 use Rattle.reserve.specs.Ops.{taken_w}
-use lib.ListN.{length}
-use Prim.Native.Nat.{◌-◌}
-use mathlib.Core.Path.{◌≡◌, refl}
 use Rattle.reserve.proofs.take_slots.Given as goal
 
 abbrev pub invariant-loop-j : goal.invariant-loop-j
-invariant-loop-j l = (length l.s ≡ length l.initial.s) × (taken_w l.initial.s l.sh l.b l.x 0 l.n ≡ taken_w l.s l.sh l.b l.x l.j (l.n - l.j))
-
-abbrev pub decreases-loop-j : goal.decreases-loop-j
-decreases-loop-j l = l.n - l.j
+invariant-loop-j l = taken_w l.fn.s l.sh l.b l.x 0 l.n ≡ taken_w l.s l.sh l.b l.x l.j (l.n - l.j)
