@@ -46,47 +46,45 @@ impl HandleCodec {
     // The weight of a generation in the payload.
     pub const GENERATION_UNIT: u64 = 0x100_0000;
 
+    #[tactic(auto, using(crate::proofs::Laws::mask_is))]
     pub fn new(seed: u64) -> Self
         ensures { result.mask ≡ mask_of seed }
     {
-        HandleCodec {
-            mask: seed & HandleCodec::PAYLOAD_MASK,
+        Self {
+            mask: seed & Self::PAYLOAD_MASK,
         }
     }
 
+    #[tactic(auto, using(crate::proofs::Steps::encoded, crate::proofs::Steps::made_below))]
     pub fn encode(self, slot: u64, generation: u64) -> HandleValue
         ensures { result.0 ≡ encode self.mask slot generation }
     {
-        let above = generation % (HandleCodec::GENERATION_LIMIT + 1) * HandleCodec::GENERATION_UNIT;
-        let payload = above + (slot % (HandleCodec::SLOT_LIMIT + 1) + 1);
-        HandleValue(HandleCodec::PREFIX + (payload ^ (self.mask & HandleCodec::PAYLOAD_MASK)))
+        let above = generation % (Self::GENERATION_LIMIT + 1) * Self::GENERATION_UNIT;
+        let payload = above + (slot % (Self::SLOT_LIMIT + 1) + 1);
+        HandleValue(Self::PREFIX + (payload ^ (self.mask & Self::PAYLOAD_MASK)))
     }
 
     // A value that does not decode is refused as InvalidHandle, 2.
+    #[tactic(auto, using(crate::proofs::Steps::other_prefix_seen, crate::proofs::Steps::no_slot_seen, crate::proofs::Steps::no_generation_seen, crate::proofs::Steps::at_seen))]
     pub fn decode(self, value: HandleValue) -> Option<Decoded>
         ensures { result ≡ decode_of self.mask value.0 }
     {
         let raw = value.0;
-        if raw & HandleCodec::PREFIX_MASK != HandleCodec::PREFIX {
+        if raw & Self::PREFIX_MASK != Self::PREFIX {
             return None;
         }
-        let payload = (raw & HandleCodec::PAYLOAD_MASK) ^ (self.mask & HandleCodec::PAYLOAD_MASK);
-        let number = payload % HandleCodec::GENERATION_UNIT;
-        let generation = payload / HandleCodec::GENERATION_UNIT;
-        if number == 0 {
-            return None;
-        }
+        let payload = (raw & Self::PAYLOAD_MASK) ^ (self.mask & Self::PAYLOAD_MASK);
+        let slot = (payload % Self::GENERATION_UNIT).checked_sub(1)?;
+        let generation = payload / Self::GENERATION_UNIT;
         if generation == 0 {
             return None;
         }
-        Some(Decoded {
-            slot: number - 1,
-            generation,
-        })
+        Some(Decoded { slot, generation })
     }
 }
 
 // The generation after one: it wraps from the limit to 1, and zero is never given out.
+#[tactic(auto, unfolding(crate::specs::Codec::next_generation))]
 pub fn next_generation(generation: u64) -> u64
     ensures { result ≡ next_generation generation }
 {

@@ -1,4 +1,5 @@
 // Fields of a record by their bit (docs/formats.md, "Fields of a record").
+// They stay numbers: code shifts bit maps by them and counts the bits below them, and the C header gives them.
 pub const FIELD_OP: u64 = 0;
 
 pub const FIELD_TABLE: u64 = 1;

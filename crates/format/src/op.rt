@@ -1,4 +1,5 @@
 // Op numbers of requests (docs/formats.md, "Ops").
+// They stay numbers: a list's word may be any number, and the C header gives these.
 // The number of no op.
 pub const OP_NONE: u64 = 0;
 

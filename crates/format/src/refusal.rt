@@ -27,7 +27,7 @@ pub enum Refusal {
     StalePlan = 21,
 }
 
-// The number of no refusal.
+// The number of no refusal: a number, since an answer's first word and what the C calls give is one.
 pub const DONE: u64 = 0;
 
 impl Refusal {
