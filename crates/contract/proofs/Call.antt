@@ -10,7 +10,7 @@ use native.Mathlib.Omega.{arith}
 use Rattle.std.proofs.Math.ListN.{length, take, drop, length-append, length-drop, take-append-drop}
 use Rattle.std.proofs.Math.Seq.{length-take-le, drop_at}
 use borrow.Author.Tests.{ltb-true, ltb-false}
-use Rattle.words.specs.Pick.{pick, bool, clash}
+use Rattle.words.specs.Pick.{bool, clash}
 use Rattle.words.specs.Words.{get_past, Small}
 use Rattle.format.specs.Format.{answer_words}
 use Rattle.model.specs.State.{till, State}
@@ -19,16 +19,13 @@ use Rattle.model.specs.Step.{run}
 use Rattle.model.specs.Words.{read_list, Outcome, on_requests, answer_short, all_words, call}
 use Rattle.layout.specs.declared.Shape.{Shape}
 use Rattle.layout.specs.Layout.{total}
-use Rattle.layout.specs.ShapeOf.{shape_of, on_bad, on_found, Shaped, shape_found, shape_is}
+use Rattle.layout.specs.ShapeOf.{shape_of, Shaped, shape_found, shape_is}
 use Rattle.representation.specs.Represents.{Rep}
-use Rattle.request.specs.Place.{listed}
-use Rattle.request.specs.Laws.{list_bad, list_counted}
-use Rattle.answer.specs.Does.{both}
 use Rattle.contract.specs.Meets.{Called, called, Passes, Meets}
 use Rattle.contract.specs.Run.{One, Steps, Ran, list_r}
 use Rattle.contract.proofs.Run.{list_ran}
 use Rattle.contract.proofs.Front.{rep_take, rep_past, shaped_take, passes_past}
-use Rattle.contract.specs.Call.{done, past, requests_w, checked_w, within_w, run_w}
+use Rattle.contract.specs.Call.{past, requests_w, run_w}
 
 small_take : (n : ℕ) (ws : List ℕ) → n ≤ length ws → Small ws → Small (take n ws)
 small_take n ws l h i = bool (ltb i n)
@@ -158,45 +155,3 @@ module _ (one : One) (steps : Steps one) (well : List ℕ → Shape → Bool)
           (λ b. let i = found_rep sh e b in let x = opened ws list os sh i.0 i.1 in rw x (kept ws list os sh i.0 i.1 (rw x at z)))
           (λ b. let u = unchecked sh e b in rw u (refl, refl))
       by None e z = rw e (refl, refl)
-
--- ---- what the code's branches say
-
-module _ (one : One) (well : List ℕ → Shape → Bool) (ws os : List ℕ) (sh : Shape) (list : List ℕ) where
-  pub answers_short : (n : ℕ) (b : Bool) → b ≡ ltb (length os) (answer_words * n) → b ≡ true → called 20 ws os ≡ pick (ltb (length os) (answer_words * n)) (called 20 ws os) (done (list_r one n ws os sh list 0 0))
-  answers_short n b e t = rw (sym e ∙ t)
-
-  pub answers_long : (n : ℕ) (b : Bool) (ws' os' : List ℕ) → b ≡ ltb (length os) (answer_words * n) → b ≡ false → both ws' os' ≡ list_r one n ws os sh list 0 0
-      → called 0 ws' os' ≡ pick (ltb (length os) (answer_words * n)) (called 20 ws os) (done (list_r one n ws os sh list 0 0))
-  answers_long n b ws' os' e t p = rw (sym e ∙ t) (ap done p)
-
-  pub list_malformed : None ≡ listed (read_list list) → called 19 ws os ≡ requests_w one well ws os sh list (read_list list)
-  list_malformed e = let z : read_list list ≡ none = list_bad (read_list list) e in rw z
-
-  pub list_read : (n : ℕ) (x : Called) → Some n ≡ listed (read_list list)
-      → x ≡ pick (ltb (length os) (answer_words * n)) (called 20 ws os) (done (list_r one n ws os sh list 0 0)) → x ≡ requests_w one well ws os sh list (read_list list)
-  list_read n x e p = by (list_counted (read_list list) n e)
-    where
-      by : (rs : List Request) × (read_list list ≡ some rs) × (length rs ≡ n) → x ≡ requests_w one well ws os sh list (read_list list)
-      by (rs, i, l) = p ∙ ap (λ (k : ℕ). pick (ltb (length os) (answer_words * k)) (called 20 ws os) (done (list_r one k ws os sh list 0 0))) (sym l) ∙ sym (ap (requests_w one well ws os sh list) i)
-
-  pub check_bad : (b : Bool) (ws' : List ℕ) → b ≡ well ws sh → b ≡ false → ws' ≡ ws → called 18 ws' os ≡ checked_w one well ws list os sh
-  check_bad b ws' e f k = rw (k, sym e ∙ f)
-
-  pub check_good : (b : Bool) (ws' : List ℕ) (x : Called) → b ≡ well ws sh → b ≡ true → ws' ≡ ws → x ≡ requests_w one well ws' os sh list (read_list list) → x ≡ checked_w one well ws list os sh
-  check_good b ws' x e t k p = rw (sym e ∙ t) (p ∙ ap (λ (v : List ℕ). requests_w one well v os sh list (read_list list)) k)
-
-pub run_bad : (one : One) (well : List ℕ → Shape → Bool) (ws list os : List ℕ) (x : CodeOption Shape) → x ≡ shape_of ws → x ≡ None → called 18 ws os ≡ run_w one well ws list os
-unfolding run_w
-run_bad one well ws list os x e q = on_bad ws (called 18 ws os) (within_w one well ws list os) x (called 18 ws os) e q refl
-
-pub run_found : (one : One) (well : List ℕ → Shape → Bool) (ws list os : List ℕ) (x : CodeOption Shape) (sh : Shape) (y : Called) → x ≡ shape_of ws → x ≡ Some sh → y ≡ within_w one well ws list os sh → y ≡ run_w one well ws list os
-unfolding run_w
-run_found one well ws list os x sh y e q p = on_found ws (called 18 ws os) (within_w one well ws list os) x sh y e q p
-
--- the part of the slice that is lent on, and what lies after it
-pub run_within : (one : One) (well : List ℕ → Shape → Bool) (ws list os vs us : List ℕ) (sh : Shape) (r n : ℕ) → n ≡ total sh → called r vs us ≡ checked_w one well (take (n - 0) (drop 0 ws)) list os sh
-    → called r (vs ++ drop (n - 0) (drop 0 ws)) us ≡ within_w one well ws list os sh
-run_within one well ws list os vs us sh r n e p =
-    let z : n - 0 ≡ total sh = omega (arith, e) in
-    let q : called r vs us ≡ checked_w one well (take (total sh) ws) list os sh = rw z at p in
-    rw z (ap (λ (x : Called). past x (drop (total sh) ws)) q)

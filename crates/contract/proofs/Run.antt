@@ -5,7 +5,7 @@ use Rattle.std.proofs.Common.{sym, ◌∙◌, length-append, length-take-le, tak
 use Rattle.std.proofs.Math.Path.{ap}
 use mathlib.Core.List.{List, [], ◌∷◌, ◌++◌, append_assoc}
 use Rattle.std.proofs.Math.Option.{some}
-use Prim.Native.Nat.{ℕ, zero, suc, ◌+◌, ◌-◌, ◌*◌, ◌≤◌, ◌<◌}
+use Prim.Native.Nat.{ℕ, zero, suc, ◌+◌, ◌-◌, ◌*◌, ◌≤◌}
 use native.Mathlib.Omega.{arith}
 use Rattle.std.proofs.Math.ListN.{length, take, drop, take-append-drop}
 use Rattle.std.proofs.Math.Seq.{drop-append-add, drop-drop}
@@ -23,7 +23,7 @@ use Rattle.representation.specs.Represents.{Rep}
 use Rattle.request.specs.Place.{request_at, next_at}
 use Rattle.request.specs.Answers.{cleared, answer_is}
 use Rattle.request.specs.Laws.{Turn, list_at, list_done}
-use Rattle.answer.specs.Does.{Both, both}
+use Rattle.answer.specs.Does.{Both}
 use Rattle.contract.specs.Run.{One, list_r, Steps, Ran}
 
 -- the answers after one request, in front of those of the rest
@@ -88,18 +88,3 @@ module _ (one : One) (steps : Steps one) where
                 (list_r one n x.state x.answers sh list (next_at list at) (base + answer_words)).answers (omega arith) wl us (answer_words * length t.rest) ran.answers in
                 rw q at j;
           })
-
--- what the code's loop goes by
-pub list_turn : (one : One) (n : ℕ) (ws os ws' os' : List ℕ) (sh : Shape) (list : List ℕ) (at base next base' : ℕ) (x : Both) → 0 < n → both ws' os' ≡ one ws (cleared os base answer_words) sh list at base
-    → next ≡ next_at list at → base' ≡ base + answer_words → list_r one n ws os sh list at base ≡ x → list_r one (n - 1) ws' os' sh list next base' ≡ x
-unfolding list_r
-list_turn one zero ws os ws' os' sh list at base next base' x h e q r p = absurd (omega arith)
-list_turn one (suc n) ws os ws' os' sh list at base next base' x h e q r p =
-    let y : suc n - 1 ≡ n = omega arith in
-    let z : list_r one n (one ws (cleared os base answer_words) sh list at base).state (one ws (cleared os base answer_words) sh list at base).answers sh list (next_at list at) (base + answer_words) ≡ x = p in
-    rw (y, q, r) (ap (λ (v : Both). list_r one n v.state v.answers sh list (next_at list at) (base + answer_words)) e ∙ z)
-
-pub list_end : (one : One) (n : ℕ) (ws os : List ℕ) (sh : Shape) (list : List ℕ) (at base : ℕ) (x : Both) → n ≤ 0 → list_r one n ws os sh list at base ≡ x → both ws os ≡ x
-unfolding list_r
-list_end one zero ws os sh list at base x h p = p
-list_end one (suc n) ws os sh list at base x h p = absurd (omega arith)
