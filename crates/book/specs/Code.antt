@@ -1,17 +1,18 @@
 -- What the code's loops and stores say, in the terms of the definitions. Assumes nothing.
 use Rattle.std.specs.Prelude.{◌≡◌, Bool, true, false, List, ℕ, zero, suc, ◌+◌, ◌-◌, ◌/◌, ◌≤◌, ◌<◌, min, ltb, Option, Some, None}
 use Rattle.std.proofs.Math.Path.{refl, sym, ap}
-use Rattle.std.proofs.Common.{◌∙◌, arith, eq-eqb, ne_eqb}
+use Rattle.std.proofs.Common.{◌∙◌, arith}
+use Rattle.std.specs.Bool.{then_some}
 use Rattle.std.proofs.Math.Dec.{eqb}
-use Rattle.words.specs.Pick.{pick, yes_is, no_is, pick_has}
+use Rattle.words.specs.Pick.{pick, bool, yes_is, no_is, pick_has}
 use Rattle.layout.specs.declared.Shape.{Shape}
-use Rattle.layout.specs.Layout.{Mem, root, index, rank, row, item, load, save}
-use Rattle.layout.specs.Fields.{root_next_id, root_used_rows, row_id, row_kind, row_table, row_length, item_slot}
+use Rattle.layout.specs.Layout.{Mem, index, rank, row, item, load, save}
+use Rattle.layout.specs.Fields.{row_id, row_kind, item_slot}
 use Rattle.layout.specs.Sizes.{batch_max}
 use Rattle.storage.specs.Ops.{up, vacate_w}
 use Rattle.storage.specs.Links.{place_of}
 pub use Rattle.storage.specs.Links.{place_is, no_place, place_by}
-use Rattle.book.specs.Ops.{id_at, link_from, used_of, likely_rank, likely_link, row_link, kind_link, spare, open_p, open_w, shift_w, close_w, vacate_items_w}
+use Rattle.book.specs.Ops.{id_at, link_from, row_link, kind_link, shift_w, vacate_items_w}
 
 -- the row of a kind with an id
 module _ (what : ℕ) (m : Mem) (sh : Shape) (i : ℕ) (r : Option ℕ) (e : r ≡ place_of (row_link m sh i)) where
@@ -28,13 +29,9 @@ module _ (what : ℕ) (m : Mem) (sh : Shape) (i : ℕ) (r : Option ℕ) (e : r �
     kind_here : m (row (row_link m sh i - 1) row_kind) ≡ w
     kind_here = let z : row_link m sh i - 1 ≡ x = omega (arith, row_here) in rw z (sym g)
 
-    pub kind_same : w ≡ what → Some x ≡ place_of (kind_link what m sh i)
+    pub kind_found : (t : Bool) → t ≡ eqb w what → then_some t x ≡ place_of (kind_link what m sh i)
     unfolding kind_link
-    kind_same y = ap place_of (yes_is _ _ _ _ (eq-eqb _ _ (kind_here ∙ y)) (sym row_here))
-
-    pub kind_other : (w ≡ what → ⊥) → None ≡ place_of (kind_link what m sh i)
-    unfolding kind_link
-    kind_other n = ap place_of (no_is (eqb (m (row (row_link m sh i - 1) row_kind)) what) 0 (row_link m sh i) 0 (ne_eqb _ _ (λ y. n (sym kind_here ∙ y))) refl)
+    kind_found t q = rw q (bool (eqb w what) (λ y. rw (kind_here, y, row_here)) (λ y. rw (kind_here, y)))
 
 -- ---- `search_row`
 
@@ -81,58 +78,6 @@ module _ (m : Mem) (l id i n : ℕ) (inv : l ≡ link_from m id n i n) where
   pub link_end : n ≤ 0 → 0 ≡ l
   link_end none = let z : n ≡ 0 = omega arith in sym (inv ∙ ap (λ (v : ℕ). link_from m id v i v) z)
 
--- ---- `likely_row`
-
-module _ (m : Mem) (id n next d i : ℕ) (t : Bool) (e₁ : next ≡ m (root root_next_id)) (e₂ : d ≡ next - id) (e₃ : i ≡ n - d) (e₄ : t ≡ ltb i n) where
-  rank_is : likely_rank m id n ≡ i
-  rank_is = rw (e₃, e₂, e₁)
-
-  under_is : ltb (likely_rank m id n) n ≡ t
-  under_is = rw (e₄, rank_is)
-
-  pub likely_out : t ≡ false → 0 ≡ likely_link m id n
-  unfolding likely_link
-  likely_out f = no_is _ _ _ _ (under_is ∙ f) refl
-
-  module _ (y : t ≡ true) (x w : ℕ) (u : Bool) (e₅ : x ≡ m (index i)) (e₆ : w ≡ m (row x row_id)) (e₇ : u ≡ eqb w id) where
-    likely_test : eqb (id_at m (likely_rank m id n)) id ≡ u
-    likely_test = rw (e₇, e₆, e₅, rank_is)
-
-    pub likely_yes : (r : ℕ) → u ≡ true → r ≡ up x → r ≡ likely_link m id n
-    unfolding likely_link
-    likely_yes r f q = yes_is _ _ _ _ (under_is ∙ y) (yes_is _ _ _ _ (likely_test ∙ f) (rw (q, e₅, rank_is)))
-
-    pub likely_no : u ≡ false → 0 ≡ likely_link m id n
-    unfolding likely_link
-    likely_no f = yes_is _ _ _ _ (under_is ∙ y) (no_is _ _ _ _ (likely_test ∙ f) refl)
-
--- ---- `row_of`
-
-module _ (m : Mem) (sh : Shape) (id u n l : ℕ) (t : Bool) (e₁ : u ≡ m (root root_used_rows)) (e₂ : n ≡ min u sh.rows) (e₃ : l ≡ likely_link m id n) (e₄ : t ≡ eqb l 0) where
-  used_here : n ≡ used_of m sh
-  used_here = rw (e₂, e₁)
-
-  likely_none : eqb (likely_link m id (used_of m sh)) 0 ≡ t
-  likely_none = rw (e₄, e₃, used_here)
-
-  pub row_search : (r : ℕ) → t ≡ true → r ≡ link_from m id n 0 n → r ≡ row_link m sh id
-  unfolding row_link
-  row_search r y q = yes_is _ _ _ _ (likely_none ∙ y) (rw (q, used_here))
-
-  pub row_likely : t ≡ false → l ≡ row_link m sh id
-  unfolding row_link
-  row_likely y = no_is _ _ _ _ (likely_none ∙ y) (rw (e₃, used_here))
-
--- ---- `open_row`
-
-pub open_is : (ws : List ℕ) (sh : Shape) (what b n x id used next more : ℕ) (w₁ w₂ w₃ w₄ w₅ w₆ : List ℕ)
-    → x ≡ spare (load ws sh) → id ≡ load ws sh (root root_next_id) → used ≡ load ws sh (root root_used_rows) → next ≡ up id → more ≡ up used
-    → w₁ ≡ save ws sh (row x row_id) id → w₂ ≡ save w₁ sh (row x row_kind) what → w₃ ≡ save w₂ sh (row x row_table) b → w₄ ≡ save w₃ sh (row x row_length) n
-    → w₅ ≡ save w₄ sh (root root_used_rows) more → w₆ ≡ save w₅ sh (root root_next_id) next
-    → w₆ ≡ open_w ws sh what b n
-unfolding open_w open_p
-open_is ws sh what b n x id used next more w₁ w₂ w₃ w₄ w₅ w₆ e₁ e₂ e₃ e₄ e₅ a₁ a₂ a₃ a₄ a₅ a₆ = rw (a₆, a₅, a₄, a₃, a₂, a₁, e₄, e₅, e₃, e₂, e₁)
-
 -- ---- `shift_down`
 
 pub shift_none : (ws : List ℕ) (sh : Shape) (r : ℕ) → ws ≡ shift_w ws sh r (r - r)
@@ -164,12 +109,3 @@ vacate_more ws sh b x i j k us vs l e d a =
 
 pub vacate_end : (ws : List ℕ) (sh : Shape) (b x i j n end : ℕ) (us : List ℕ) → end ≡ min n batch_max → j - i ≤ end - i → end ≤ j → us ≡ vacate_items_w ws sh b x i (j - i) → us ≡ vacate_items_w ws sh b x i (min n batch_max - i)
 vacate_end ws sh b x i j n end us d l h e = let z : j - i ≡ min n batch_max - i = omega arith in rw z at e
-
--- ---- `close_row`
-
-pub close_is : (ws : List ℕ) (sh : Shape) (x r u n last : ℕ) (w₁ w₂ w₃ w₄ : List ℕ)
-    → r ≡ load ws sh (rank x) → u ≡ load ws sh (root root_used_rows) → n ≡ min u sh.rows → last ≡ n - 1
-    → w₁ ≡ shift_w ws sh r (last - r) → w₂ ≡ save w₁ sh (index last) x → w₃ ≡ save w₂ sh (rank x) last → w₄ ≡ save w₃ sh (root root_used_rows) last
-    → w₄ ≡ close_w ws sh x
-unfolding close_w
-close_is ws sh x r u n last w₁ w₂ w₃ w₄ e₁ e₂ e₃ e₄ a₁ a₂ a₃ a₄ = rw (a₄, a₃, a₂, a₁, e₄, e₃, e₂, e₁)

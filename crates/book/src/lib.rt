@@ -17,6 +17,7 @@ pub const LAST_ID: u64 = 0xffff_ffff_ffff_ffff;
 
 // The link of the row of the likely rank among n, if that row has the id; else 0. A link is a place plus 1, as the definitions write it: the largest word stays, which an Option could not tell. Where no row that opened after it has left, a row stands as far from the ranks' end
 // as its id is from the next one.
+#[tactic(auto, unfolding(crate::specs::Ops::likely_link), using(std::proofs::lemmas::Bool::Decides::nat_tests))]
 fn likely_row(s: &[u64], sh: Shape, id: u64, n: u64) -> u64
     ensures { result ≡ likely_link (loadAt s.now sh) id n }
 {
@@ -31,6 +32,7 @@ fn likely_row(s: &[u64], sh: Shape, id: u64, n: u64) -> u64
 }
 
 // The link of the row with an id among the first count ranks; 0 if there is none. Ids rise with rank, so that each look leaves half of the ranks.
+#[tactic(auto, using(crate::specs::Code::link_yes, crate::specs::Code::link_above, crate::specs::Code::link_below, crate::specs::Code::link_end, std::proofs::lemmas::Bool::Decides::nat_tests))]
 fn search_row(s: &[u64], sh: Shape, id: u64, count: u64) -> u64
     ensures { result ≡ link_from (loadAt s.now sh) id count 0 count }
 {
@@ -54,6 +56,7 @@ fn search_row(s: &[u64], sh: Shape, id: u64, count: u64) -> u64
 }
 
 // The place of the row in use with an id. The likely rank first, then a search.
+#[tactic(auto, unfolding(crate::specs::Ops::row_link), using(crate::specs::Code::place_by, std::proofs::lemmas::Bool::Decides::nat_tests))]
 pub fn row_of(s: &[u64], sh: Shape, id: u64) -> Option<u64>
     ensures { result ≡ place_of (row_link (loadAt s.now sh) sh id) }
 {
@@ -67,15 +70,12 @@ pub fn row_of(s: &[u64], sh: Shape, id: u64) -> Option<u64>
 }
 
 // The place of the row of a kind with an id.
+#[tactic(auto, using(crate::specs::Code::kind_missing, crate::specs::Code::kind_found, std::proofs::lemmas::Bool::Decides::nat_tests))]
 pub fn row_of_kind(s: &[u64], sh: Shape, id: ReservationId, what: u64) -> Option<u64>
     ensures { result ≡ place_of (kind_link what (loadAt s.now sh) sh id.0) }
 {
     let x = row_of(s, sh, id.0)?;
-    if layout::row_word(s, sh, x, field::ROW_KIND) == what {
-        Some(x)
-    } else {
-        None
-    }
+    (layout::row_word(s, sh, x, field::ROW_KIND) == what).then_some(x)
 }
 
 // Whether a row is left.
@@ -105,6 +105,7 @@ pub fn spare_place(s: &[u64], sh: Shape) -> u64
 }
 
 // A row opens under the next id: 1 a reservation, 2 a claim of table b, 3 a parcel, 4 a plan; n items, which stand in its place already, as a plan's further words do.
+#[tactic(auto, unfolding(crate::specs::Ops::open_w, crate::specs::Ops::open_p))]
 pub fn open_row(s: &mut [u64], sh: Shape, what: u64, b: u64, n: u64)
     ensures words { s.new ≡ open_w s.old sh what b n }
 {
@@ -122,6 +123,7 @@ pub fn open_row(s: &mut [u64], sh: Shape, what: u64, b: u64, n: u64)
 }
 
 // A handle into item j of the row in place x.
+#[tactic(auto, unfolding(crate::specs::Ops::handle_w))]
 pub fn put_handle(s: &mut [u64], sh: Shape, x: u64, j: u64, object: u64, rights: u64, flags: u64)
     ensures words { s.new ≡ handle_w s.old sh x j object rights flags }
 {
@@ -131,6 +133,7 @@ pub fn put_handle(s: &mut [u64], sh: Shape, x: u64, j: u64, object: u64, rights:
 }
 
 // The rows of ranks above r, up to the last, come one rank down.
+#[tactic(auto, using(crate::specs::Code::shift_none, crate::specs::Code::shift_more, crate::specs::Code::shift_end))]
 fn shift_down(s: &mut [u64], sh: Shape, r: u64, last: u64)
     ensures words { s.new ≡ shift_w s.old sh r (last - r) }
 {
@@ -142,6 +145,7 @@ fn shift_down(s: &mut [u64], sh: Shape, r: u64, last: u64)
 }
 
 // The row in place x leaves; its place is the first out of use.
+#[tactic(auto, unfolding(crate::specs::Ops::close_w))]
 pub fn close_row(s: &mut [u64], sh: Shape, x: u64)
     ensures words { s.new ≡ close_w s.old sh x }
 {
@@ -156,6 +160,7 @@ pub fn close_row(s: &mut [u64], sh: Shape, x: u64)
 }
 
 // The row in place x has n items.
+#[tactic(auto, unfolding(crate::specs::Ops::shrink_w))]
 pub fn shrink_row(s: &mut [u64], sh: Shape, x: u64, n: u64)
     ensures words { s.new ≡ shrink_w s.old sh x n }
 {
@@ -163,6 +168,7 @@ pub fn shrink_row(s: &mut [u64], sh: Shape, x: u64, n: u64)
 }
 
 // The slots that the items of a reservation of table b name, from one item up to another, fall vacant; the row stands in place x.
+#[tactic(auto, using(crate::specs::Code::vacate_none, crate::specs::Code::vacate_more, crate::specs::Code::vacate_end))]
 pub fn vacate_items(s: &mut [u64], sh: Shape, b: u64, x: u64, from: u64, to: u64)
     ensures words { s.new ≡ vacate_items_w s.old sh b x from (min to batch_max - from) }
 {
@@ -182,6 +188,7 @@ pub fn vacate_items(s: &mut [u64], sh: Shape, b: u64, x: u64, from: u64, to: u64
 }
 
 // The next id is spent.
+#[tactic(auto, unfolding(crate::specs::Ops::spend_w))]
 pub fn spend_id(s: &mut [u64], sh: Shape)
     ensures words { s.new ≡ spend_w s.old sh }
 {

@@ -29,6 +29,7 @@ const PAGE_SIZE: u8 = size::PAGE_SIZE as u8;
 const LAST_PAGE_SIZE: u8 = size::LAST_PAGE_SIZE as u8;
 
 // How many slots page p has. "Page 262,143 has 63 slots".
+#[tactic(auto, using(model::proofs::Bounds::slots_full, model::proofs::Bounds::slots_none, model::proofs::Bounds::slots_last))]
 pub fn slots_of(p: u64) -> u8
     ensures { result ≡ slots_of till p }
 {
@@ -153,7 +154,7 @@ impl TableHead {
     }
 }
 
-// The same steps on a head that is lent.
+// The same steps on a head that is lent: document 01 has both, a `TableHead` lent by `&mut` above steps by value.
 impl TableHead {
     pub fn free(&mut self, first: u64)
         ensures { self.new ≡ freed_by self.old first }
@@ -212,7 +213,8 @@ impl TableHead {
 
 // ---- over words
 
-// The head of table b.
+// The head of table b. Compiled in place, so that a caller reads the words that it uses.
+#[inline(always)]
 #[tactic(auto, unfolding(crate::specs::Head::head_at))]
 pub fn load(s: &[u64], sh: Shape, b: u64) -> TableHead
     ensures { result ≡ head_at (loadAt s.now sh) b }

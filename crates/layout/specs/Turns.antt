@@ -26,9 +26,6 @@ module _ (ws : List ℕ) (sh : Shape) (f : ℕ → List Write) where
   unfolding turns
   turns_more k us vs e q = rw (add-one, ← e) q
 
-  pub turns_at : (k n : ℕ) (us : List ℕ) → us ≡ turns ws sh f k → k ≡ n → us ≡ turns ws sh f n
-  turns_at k n us e q = rw (← q) e
-
   pub length_turns : (n : ℕ) → length (turns ws sh f n) ≡ length ws
   unfolding turns
   length_turns zero = refl

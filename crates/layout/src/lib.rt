@@ -187,7 +187,8 @@ pub fn cell_word(s: &[u64], sh: Shape, fr: u64, j: u64, f: u64) -> u64
     load(s, sh, region::REGION_CELL, fr, j, f)
 }
 
-// All words of slot j of a frame, each with its own test.
+// All words of slot j of a frame, each with its own test. Compiled in place, where it shares the place's sums with `cell_at`.
+#[inline(always)]
 fn cell_each(s: &[u64], sh: Shape, fr: u64, j: u64) -> CellWords
     ensures { result ≡ cell_at (loadAt s.now sh) fr j }
 {
@@ -204,7 +205,9 @@ fn cell_each(s: &[u64], sh: Shape, fr: u64, j: u64) -> CellWords
 // As a place.
 const SLOT_WORDS: usize = size::SLOT_SIZE as usize;
 
-// All words of slot j of a frame, with one test where all six are lent.
+// All words of slot j of a frame, with one test where all six are lent. Compiled in place, so that they stay in registers.
+#[inline(always)]
+#[tactic(auto, using(crate::specs::Cells::cell_read))]
 pub fn cell_at(s: &[u64], sh: Shape, fr: u64, j: u64) -> CellWords
     ensures { result ≡ cell_at (loadAt s.now sh) fr j }
 {
@@ -281,7 +284,7 @@ pub fn put_row(s: &mut [u64], sh: Shape, k: u64, f: u64, v: u64)
     save(s, sh, region::REGION_ROW, k, 0, f, v);
 }
 
-// Of item j of a row.
+// Of item j of a row. The test is kept: without it j + 1 would have to saturate, and the end of a row's blocks be shown for that sum.
 #[tactic(auto, using(crate::specs::Layout::item_load))]
 pub fn item_word(s: &[u64], sh: Shape, k: u64, j: u64, f: u64) -> u64
     ensures { result ≡ loadAt s.now sh (item k j f) }
@@ -303,6 +306,7 @@ pub fn put_item(s: &mut [u64], sh: Shape, k: u64, j: u64, f: u64, v: u64)
 }
 
 // The shape that the header gives: version 1, counts within the limits, and words enough for them.
+#[tactic(auto, unfolding(crate::specs::ShapeOf::shape_at), using(crate::specs::ShapeOf::shape_long, crate::specs::ShapeOf::shape_short, crate::specs::ShapeOf::shape_bad))]
 pub fn shape_of(s: &[u64]) -> Option<Shape>
     ensures { result ≡ shape_of s.now }
 {
@@ -324,6 +328,7 @@ pub fn shape_of(s: &[u64]) -> Option<Shape>
         && t <= p
         && p <= t * size::PAGES_MAX
     {
+        // Field by field, since each is a cast to the field's own type.
         let sh = Shape {
             tables: t as u8,
             pages: p as u32,

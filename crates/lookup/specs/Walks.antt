@@ -169,7 +169,7 @@ module _ (m : Mem) (b start n : ℕ) (es : List SnapshotEntry) (len at left : �
           → ◌≡◌ {A = SnapshotPage} (record { entries = es; len = n; next = next_at k long; examined = k - start }) (record { entries = es'; len = n'; next = next_at k' long; examined = k' - start })
       parts start long es es' n n' k k' a d e = rw (a, d, e)
 
--- "at most 256"
+-- "at most 256", in any memory; the clause `bounded` of `scan` says it of a state's words
 pub examined_few : (m : Mem) (b c : ℕ) → (scan_of m b c).examined ≤ 256
 unfolding scan_of
 examined_few m b c =

@@ -9,7 +9,6 @@ ghost use Rattle.std.specs.Prelude.{◌≡◌, ◌∷◌, ◌≤◌, ◌<◌, ta
 ghost use Rattle.layout.specs.Layout.{load as loadAt};
 ghost use Rattle.layout.specs.Fields.{slot_tag};
 ghost use Rattle.representation.specs.Represents.{word_in, frame_of};
-ghost use Rattle.storage.specs.Cells.{cell_in};
 ghost use Rattle.format.specs.Format.{answer_words};
 ghost use Rattle.request.specs.Answers.{puts};
 ghost use Rattle.format.specs.Refusals.{number_of};
@@ -113,48 +112,6 @@ pub fn active_table(s: &[u64], sh: Shape, b: u64) -> Result<(), Refusal>
     Ok(())
 }
 
-// As `storage::frame_link`, for `find_handle` alone: with one caller it is compiled in place, and it reads no more of the table's head than it needs.
-// Tried with `storage::frame_link`: slower.
-#[tactic(auto, unfolding(model::specs::State::max_slots))]
-fn slot_frame(s: &[u64], sh: Shape, b: u64, k: u64) -> u64
-    ensures { result ≡ frame_of (loadAt s.now sh) b k }
-{
-    if k >= size::SLOTS_MAX {
-        return 0;
-    }
-    let n = layout::head_word(s, sh, b, field::HEAD_PAGES);
-    if k / size::PAGE_SIZE >= n {
-        return 0;
-    }
-    let e = layout::head_word(s, sh, b, field::HEAD_FIRST_ENTRY);
-    storage::page_word(s, sh, e, k / size::PAGE_SIZE, field::ENTRY_FRAME)
-}
-
-// As `storage::cell_in`, for `find_handle` alone, so that the words stay in registers. Tried with `storage::cell_in`: `get_info` took twice as long.
-fn slot_words(s: &[u64], sh: Shape, fr: u64, j: u64) -> CellWords
-    ensures { result ≡ cell_in (loadAt s.now sh) fr j }
-{
-    if fr == 0 {
-        return CellWords {
-            tag: 0,
-            generation: 0,
-            object: 0,
-            rights: 0,
-            flags: 0,
-            unused: 0,
-        };
-    }
-    let x = fr - 1;
-    CellWords {
-        tag: layout::cell_word(s, sh, x, j, field::SLOT_TAG),
-        generation: layout::cell_word(s, sh, x, j, field::SLOT_GENERATION),
-        object: layout::cell_word(s, sh, x, j, field::SLOT_OBJECT),
-        rights: layout::cell_word(s, sh, x, j, field::SLOT_RIGHTS),
-        flags: layout::cell_word(s, sh, x, j, field::SLOT_FLAGS),
-        unused: layout::cell_word(s, sh, x, j, field::SLOT_UNUSED),
-    }
-}
-
 // What slot k, whose words are given, shows to a value of generation g: a slot of equal generation that is TransferReserved is Busy.
 fn open_slot(k: u64, g: u64, w: CellWords) -> Result<PreparedHandle, Refusal>
     ensures { result ≡ view_result (shown g w.tag (handle_by k w)) }
@@ -180,9 +137,7 @@ pub fn find_handle(s: &[u64], sh: Shape, b: u64, v: HandleValue) -> Result<Prepa
         mask: layout::head_word(s, sh, b, field::HEAD_MASK),
     };
     let Decoded { slot, generation } = codec.decode(v).ok_or(Refusal::InvalidHandle)?;
-    let fr = slot_frame(s, sh, b, slot);
-    let w = slot_words(s, sh, fr, slot % size::PAGE_SIZE);
-    open_slot(slot, generation, w)
+    open_slot(slot, generation, storage::slot_at(s, sh, b, slot))
 }
 
 // The handle that a value names in an active table.

@@ -1,6 +1,5 @@
 -- An object's record, and the steps on it by value. Assumes nothing.
-use Rattle.std.specs.Prelude.{◌≡◌, List, ℕ, ◌-◌, ◌≤◌, ◌<◌, ltb, length, get_or, set}
-use Rattle.std.proofs.Common.{◌∙◌, arith, lt-ltb, le-ltb}
+use Rattle.std.specs.Prelude.{◌≡◌, List, ℕ, ◌-◌, ltb, length, get_or, set}
 use Rattle.words.specs.Pick.{pick}
 use Rattle.storage.specs.Ops.{up}
 use Rattle.object.specs.declared.ObjectRecord.{ObjectRecord}
@@ -32,7 +31,7 @@ abbrev pub no_record : ObjectRecord
 no_record = record { koid = record { 0 = 0 }; kind = 0; class = 0; supported = 0; exportable = 0; stage = 0; count = 0; limit = 0 }
 
 -- what a step makes of record i of a list; nothing past its end
-abbrev pub list_by : (ObjectRecord → ObjectRecord) → List ObjectRecord → ℕ → List ObjectRecord
+unfoldable pub list_by : (ObjectRecord → ObjectRecord) → List ObjectRecord → ℕ → List ObjectRecord
 list_by f xs i = pick (ltb i (length xs)) (set xs i (f (get_or xs i no_record))) xs
 
 -- so for a step of which only its contract is known, a relation of the record before and after
@@ -45,10 +44,3 @@ answer_by code xs i = pick (ltb i (length xs)) (code (get_or xs i no_record)) 0
 
 abbrev pub count_in : ObjectRecord → ℕ
 count_in x = x.count
-
--- the two arms of `lowered`
-pub lowered_more : (x y : ObjectRecord) → 1 < x.count → y ≡ with_count x x.stage (x.count - 1) → y ≡ lowered_by x
-lowered_more x y h e = e ∙ rw (lt-ltb 1 x.count h)
-
-pub lowered_last : (x y : ObjectRecord) → x.count ≤ 1 → y ≡ with_count x stage_retired 0 → y ≡ lowered_by x
-lowered_last x y h e = let z : x.count - 1 ≡ 0 = omega arith in e ∙ rw (le-ltb 1 x.count h, z)

@@ -1,9 +1,9 @@
 -- An object's record in the state's words, and the words that each step leaves. Assumes nothing.
-use Rattle.std.specs.Prelude.{◌≡◌, Bool, true, false, List, [], ◌∷◌, ℕ}
-use Rattle.std.proofs.Math.Path.{refl, sym, ap}
+use Rattle.std.specs.Prelude.{◌≡◌, List, [], ◌∷◌, ℕ}
+use Rattle.std.proofs.Math.Path.{ap}
 use Rattle.std.proofs.Common.{◌∙◌}
 use Rattle.std.proofs.Math.Dec.{eqb}
-use Rattle.words.specs.Pick.{pick, yes_is, no_is}
+use Rattle.words.specs.Pick.{pick}
 use Rattle.layout.specs.declared.Shape.{Shape}
 use Rattle.layout.specs.Layout.{Mem, object, load, Write, Write.at, writes}
 use Rattle.layout.specs.Fields.{object_koid, object_kind, object_class, object_supported, object_exportable, object_stage, object_active, object_limit}
@@ -27,10 +27,6 @@ record_at m o = record {
 -- what a step reads of it, in the record of no object
 unfoldable pub standing_at : Mem → ℕ → ObjectRecord
 standing_at m o = with_count no_record (m (object o object_stage)) (m (object o object_active))
-
-pub standing_is : (m : Mem) (o g n : ℕ) (x y : ObjectRecord) → g ≡ m (object o object_stage) → n ≡ m (object o object_active) → x ≡ no_record → y ≡ with_count x g n → y ≡ standing_at m o
-unfolding standing_at
-standing_is m o g n x y a b e d = d ∙ rw (e, a, b)
 
 -- its stage and its count, the two words that a step writes
 abbrev pub record_p : ℕ → ObjectRecord → List Write
@@ -74,26 +70,3 @@ raise_refusal m o =
     pick (eqb (record_at m o).stage stage_retired) 9
     (pick (eqb (record_at m o).count (record_at m o).limit) 11
     0)
-
--- `raise_refusal`
-module _ (m : Mem) (o stage : ℕ) (d : stage ≡ m (object o object_stage)) (t₁ : Bool) (e₁ : t₁ ≡ eqb stage stage_retired) where
-  stage_tells : eqb (record_at m o).stage stage_retired ≡ t₁
-  unfolding record_at
-  stage_tells = sym (e₁ ∙ ap (λ (z : ℕ). eqb z stage_retired) d)
-
-  pub raise_retired : t₁ ≡ true → 9 ≡ raise_refusal m o
-  unfolding raise_refusal
-  raise_retired y = yes_is _ _ _ _ (stage_tells ∙ y) refl
-
-  module _ (n₁ : t₁ ≡ false) (count limit : ℕ) (f : count ≡ m (object o object_active)) (g : limit ≡ m (object o object_limit)) (t₂ : Bool) (e₂ : t₂ ≡ eqb count limit) where
-    count_tells : eqb (record_at m o).count (record_at m o).limit ≡ t₂
-    unfolding record_at
-    count_tells = sym (e₂ ∙ ap (λ (z : ℕ). eqb z limit) f ∙ ap (eqb (m (object o object_active))) g)
-
-    pub raise_full : t₂ ≡ true → 11 ≡ raise_refusal m o
-    unfolding raise_refusal
-    raise_full y = no_is _ _ _ _ (stage_tells ∙ n₁) (yes_is _ _ _ _ (count_tells ∙ y) refl)
-
-    pub raise_free : t₂ ≡ false → 0 ≡ raise_refusal m o
-    unfolding raise_refusal
-    raise_free y = no_is _ _ _ _ (stage_tells ∙ n₁) (no_is _ _ _ _ (count_tells ∙ y) refl)

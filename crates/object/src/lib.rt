@@ -93,8 +93,10 @@ impl ObjectRecord {
 }
 
 // ---- a lent list
+// These functions are kept beside those over words: document 01 has object records as a lent slice of structs.
 
 // Does a step on record i and answers the count that it had; 0 past the end.
+#[tactic(auto, unfolding(crate::specs::Record::list_by))]
 fn step<F: FnOnce(ObjectRecord) -> ObjectRecord>(
     objects: &mut [ObjectRecord],
     i: usize,
@@ -181,6 +183,7 @@ fn write_object(s: &mut [u64], sh: Shape, o: u64, x: ObjectRecord)
 }
 
 // Does a step on object o.
+#[tactic(auto, unfolding(crate::specs::Record::list_by, crate::specs::Words::step_w), using(crate::specs::Words::step_is))]
 fn step_object<F: FnOnce(ObjectRecord) -> ObjectRecord>(s: &mut [u64], sh: Shape, o: u64, f: F)
     requires { F.IsAlwaysCallable f }
     ensures { WordsStepped (F.post f) s.old s.new sh o }
@@ -191,6 +194,7 @@ fn step_object<F: FnOnce(ObjectRecord) -> ObjectRecord>(s: &mut [u64], sh: Shape
 }
 
 // Object o is active and has its first handle.
+#[tactic(auto, unfolding(crate::specs::Words::record_at, crate::specs::Words::standing_at))]
 pub fn activate_object(s: &mut [u64], sh: Shape, o: u64)
     ensures words { s.new ≡ activate_w s.old sh o }
 {
@@ -198,6 +202,7 @@ pub fn activate_object(s: &mut [u64], sh: Shape, o: u64)
 }
 
 // Object o has one handle more.
+#[tactic(auto, unfolding(crate::specs::Words::record_at, crate::specs::Words::standing_at))]
 pub fn raise_object(s: &mut [u64], sh: Shape, o: u64)
     ensures words { s.new ≡ raise_w s.old sh o }
 {
@@ -205,6 +210,7 @@ pub fn raise_object(s: &mut [u64], sh: Shape, o: u64)
 }
 
 // Object o has one handle fewer.
+#[tactic(auto, unfolding(crate::specs::Words::record_at, crate::specs::Words::standing_at))]
 pub fn lower_object(s: &mut [u64], sh: Shape, o: u64)
     ensures words { s.new ≡ lower_w s.old sh o }
 {
@@ -212,6 +218,7 @@ pub fn lower_object(s: &mut [u64], sh: Shape, o: u64)
 }
 
 // Object o is retired by its owner.
+#[tactic(auto, unfolding(crate::specs::Words::record_at, crate::specs::Words::standing_at))]
 pub fn retire_object(s: &mut [u64], sh: Shape, o: u64)
     ensures words { s.new ≡ retire_w s.old sh o }
 {

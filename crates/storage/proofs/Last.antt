@@ -135,3 +135,30 @@ take_is ws sh b k r j h t u fr g n nf w₁ w₂ w₃ e₁ e₂ e₃ e₄ e₅ a�
     ∙ raise_last v sh b (k / page_size) (slot_word m b k slot_generation) (taken_by (head_at m b) x)
     (sym (held_keeps ws sh b head_first_entry (frame_of m b k) k (link_frame m b x) x r j)) (sym (held_keeps ws sh b head_first_empty (frame_of m b k) k (link_frame m b x) x r j))) in
     a₃ ∙ rw (a₂, e₇) (sym z)
+
+-- ---- both, by the words before alone
+
+module _ (ws : List ℕ) (sh : Shape) (b k : ℕ) where
+  abbrev own : TableHead
+  own = head_at (load ws sh) b
+
+  abbrev here : ℕ
+  here = frame_from (load ws sh) own k
+
+  abbrev told : ℕ → ℕ
+  told f = word_in (load ws sh) here (k % page_size) f
+
+  abbrev fell : List ℕ
+  fell = vacant_w ws sh here k (next_generation (told slot_generation)) (link_from (load ws sh) own own.first_free) own.first_free
+
+  pub vacate_last : vacate_w ws sh b k
+      ≡ writes (fewer_w fell sh (freed_by own (up k)) (k / page_size) (next_generation (told slot_generation))) sh (orders_p b (fewer_by (load fell sh) (freed_by own (up k)) (k / page_size)))
+  vacate_last = sym (vacate_is ws sh b k _ _ _ _ _ _ _ _ _ _ _ refl refl refl refl refl refl refl refl refl refl refl)
+
+  module _ (r j : ℕ) where
+    abbrev held : List ℕ
+    held = held_w ws sh here k (link_from (load ws sh) own (told slot_next_free)) (told slot_next_free) r j
+
+    pub take_last : take_w ws sh b k r j
+        ≡ writes (more_w held sh (taken_by own (told slot_next_free)) (k / page_size) (told slot_generation)) sh (orders_p b (more_by held sh (taken_by own (told slot_next_free)) (k / page_size) (told slot_generation)))
+    take_last = sym (take_is ws sh b k r j _ _ _ _ _ _ _ _ _ _ refl refl refl refl refl refl refl refl refl refl)

@@ -1,12 +1,11 @@
--- What the code's sums and links say, in the terms of the definitions. Assumes nothing.
-use Rattle.std.specs.Prelude.{◌≡◌, ℕ, zero, suc, ◌+◌, ◌-◌, ◌≤◌, ◌<◌, min, ltb}
-use Rattle.std.proofs.Math.Path.{refl, sym, ap}
+-- What the code's sums say, in the terms of the definitions. Assumes nothing.
+use Rattle.std.specs.Prelude.{◌≡◌, ℕ, ◌+◌, ◌≤◌, ◌<◌, min, ltb}
+use Rattle.std.proofs.Math.Path.{sym, ap}
 use Rattle.std.proofs.Common.{◌∙◌, arith, ltb-true, ltb-false}
 use Rattle.std.proofs.Math.Bool.{false}
 use mathlib.Core.List.{List}
 use Rattle.layout.specs.declared.Shape.{Shape}
-use Rattle.layout.specs.Layout.{Mem, entry, cell, is_in, in_no, load, save, load_out, save_out}
-use Rattle.representation.specs.Represents.{word_in}
+use Rattle.layout.specs.Layout.{entry, is_in, in_no, load, save, load_out, save_out}
 use Rattle.words.specs.Pick.{bool}
 
 -- an entry past the last stands nowhere
@@ -25,8 +24,3 @@ entry_save ws sh e p f v h = bool (ltb (e + p) 4294967296)
     (λ q. ap (λ (i : ℕ). save ws sh (entry i f) v) (omega (arith, ltb-true (e + p) 4294967296 q)))
     (λ q. save_out ws sh (entry (min (e + p) 0xffff_ffff_ffff_ffff) f) v (entry_out sh (min (e + p) 0xffff_ffff_ffff_ffff) f (omega (arith, ltb-false (e + p) 4294967296 q)))
     ∙ sym (save_out ws sh (entry (e + p) f) v (entry_out sh (e + p) f (omega (arith, ltb-false (e + p) 4294967296 q)))))
-
--- the word of a slot in a frame, given as a link
-pub word_some : (m : Mem) (r fr j f : ℕ) → (fr ≡ 0 → ⊥) → r ≡ m (cell (fr - 1) j f) → r ≡ word_in m fr j f
-word_some m r zero j f h q = absurd (h refl)
-word_some m r (suc fr) j f h q = let y : suc fr - 1 ≡ fr = omega arith in rw y at q

@@ -52,7 +52,8 @@ fn frame_of(s: &[u64], sh: Shape, h: TableHead, k: u64) -> u64
     }
 }
 
-// Of table b.
+// Of table b. Compiled in place, as the two that give all words of a slot are: lookup opens a value by them.
+#[inline(always)]
 #[tactic(auto, using(crate::specs::Late::frame_of_law))]
 pub fn frame_link(s: &[u64], sh: Shape, b: u64, k: u64) -> u64
     ensures { result ≡ frame_of (loadAt s.now sh) b k }
@@ -160,6 +161,7 @@ fn lower_busy(s: &mut [u64], sh: Shape, h: &mut TableHead, p: u64, g: u64)
 }
 
 // Slot k falls vacant: its generation advances and it goes to the head of the free order.
+#[tactic(auto, using(crate::proofs::Last::vacate_last))]
 pub fn vacate(s: &mut [u64], sh: Shape, b: u64, k: u64)
     ensures words { s.new ≡ vacate_w s.old sh b k }
 {
@@ -223,7 +225,7 @@ fn reserve_free_slot(s: &mut [u64], sh: Shape, fr: u64, k: u64, nf: u64, n: u64,
 }
 
 // Takes the head of the free order for position j of the row in place r, and gives its number.
-#[tactic(auto, unfolding(head::specs::Head::head_at, crate::specs::Sight::look))]
+#[tactic(auto, unfolding(head::specs::Head::head_at, crate::specs::Sight::look), using(crate::proofs::Last::take_last))]
 pub fn take_free(s: &mut [u64], sh: Shape, b: u64, r: u64, j: u64) -> u64
     ensures slot { result ≡ seen s.old sh b (hd head_first_free) - 1 }
     ensures words { s.new ≡ take_w s.old sh b result r j }
@@ -267,6 +269,7 @@ pub fn occupy(s: &mut [u64], sh: Shape, b: u64, k: u64, object: u64, rights: u64
 }
 
 // All words of slot j of a frame, given plus 1; zeros where there is none.
+#[inline(always)]
 pub fn cell_in(s: &[u64], sh: Shape, fr: u64, j: u64) -> CellWords
     ensures { result ≡ cell_in (loadAt s.now sh) fr j }
 {
@@ -278,6 +281,7 @@ pub fn cell_in(s: &[u64], sh: Shape, fr: u64, j: u64) -> CellWords
 }
 
 // All words of slot k of table b; zeros where there is none.
+#[inline(always)]
 pub fn slot_at(s: &[u64], sh: Shape, b: u64, k: u64) -> CellWords
     ensures { result ≡ slot_at (loadAt s.now sh) b k }
 {

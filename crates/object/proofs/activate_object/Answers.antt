@@ -1,8 +1,0 @@
-use Rattle.std.proofs.Common.{refl}
-use Rattle.object.specs.Record.{activated_by}
-use Rattle.object.specs.Words.{record_at, standing_at}
-use Rattle.object.proofs.activate_object.Goals as goal
-
-pub returns : goal.returns
-unfolding record_at standing_at
-returns c = record { words = c.step_object.ensures activated_by (λ x y p. p.1) refl }
