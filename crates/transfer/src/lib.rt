@@ -654,7 +654,6 @@ pub fn serve_prepare_transfer(
 }
 
 // The request of a list at a place: its fields are read.
-#[tactic(auto, unfolding(request::specs::Place::three_at))]
 pub fn serve_prepare_consumption(
     s: &mut [u64],
     sh: Shape,
@@ -665,23 +664,27 @@ pub fn serve_prepare_consumption(
 )
     ensures { both s.new out.new ≡ consumption_r s.old out.old sh base (field_of rq.now at table_field) (field_of rq.now at value_field) (field_of rq.now at rights_field) (field_of rq.now at kind_field) (field_of rq.now at koid_field) }
 {
-    let f = request::read_three(
+    let [table, value, rights, kind, koid] = request::read_fields(
         rq,
         at,
         format::op::OP_PREPARE_CONSUMPTION,
-        format::field::FIELD_TABLE,
-        format::field::FIELD_VALUE,
-        format::field::FIELD_RIGHTS,
+        [
+            format::field::FIELD_TABLE,
+            format::field::FIELD_VALUE,
+            format::field::FIELD_RIGHTS,
+            format::field::FIELD_KIND,
+            format::field::FIELD_KOID,
+        ],
     );
-    let g = request::read_three(
-        rq,
-        at,
-        format::op::OP_PREPARE_CONSUMPTION,
-        format::field::FIELD_KIND,
-        format::field::FIELD_KOID,
-        format::field::NO_FIELD,
-    );
-    match prepare_consumption(s, sh, f.a, HandleValue(f.b), Rights(f.c), g.a, Koid(g.b)) {
+    match prepare_consumption(
+        s,
+        sh,
+        table,
+        HandleValue(value),
+        Rights(rights),
+        kind,
+        Koid(koid),
+    ) {
         Ok(id) => answer::say(out, base, &[id.0]),
         Err(refusal) => answer::refuse(out, base, refusal),
     }
