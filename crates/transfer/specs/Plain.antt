@@ -18,7 +18,7 @@ module _ (rq : List ℕ) (at : ℕ) (p : has_map rq at transfer_item_must ≡ tr
   unfolding has_map
   plain_map = eqb-true _ _ (and_right _ _ p)
 
-  -- `read_item`
+  -- `plain_item`
   pub plain_item : item_at rq at
       ≡ record {
         operation = operation_of (get_or rq (at + 1) 0);
@@ -33,7 +33,7 @@ module _ (rq : List ℕ) (at : ℕ) (p : has_map rq at transfer_item_must ≡ tr
       let z : at + 1 ≡ suc at = omega arith in let y : at + 2 ≡ suc (suc at) = omega arith in let x : at + 3 ≡ suc (suc (suc at)) = omega arith in
       rw (z, y, x) (fields_by rq at transfer_item_must plain_map item_of)
 
-  -- `item_end`
+  -- the end of its record
   pub plain_end : end_at rq at ≡ at + 4
   unfolding after
   plain_end = let z : at + 4 ≡ suc (suc (suc (suc at))) = omega arith in rw z (ends_by rq at transfer_item_must plain_map plain_there)
