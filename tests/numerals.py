@@ -4,7 +4,7 @@
 What is a fault, with file, line and numeral:
 
   a  a field argument that is no name of crates/layout's field.rt, and one of a record's field that is no name of crates/format's. A function, or a closure that has a name, has a field
-     argument if it hands a parameter on as one, or each of an array's in turn; the first are layout's place_in and request's field_in. Of an array each of its words is looked at. An
+     argument if it hands a parameter on as one, or each of an array's in turn; the first are layout's place_in and the method find of request's Fields. Of an array each of its words is looked at. An
      accessor of ACCESSORS takes fields of its own record
   b  a numeral compared with, stored in, or passed as a word that stands for a case: a name of CASES, what a field of CASE_FIELDS holds, what is compared with a name of value.rt,
      and parameters that are given such a word; and one stored in a state's word by its place. The ends of a range that is asked for a word, and what a match or `matches!` asks it for, are
@@ -57,7 +57,7 @@ layout ROW: row_word put_row
 layout ITEM: item_word put_item
 storage ENTRY: page_word put_page put_page_link
 storage SLOT: frame_word put_frame slot_word put_slot_word put_slot_link
-request: field_in field has find field_known fields_found fields_known read_fields read_three fit_one"""
+request: find has field fields fields_found fit_one"""
 RECORDS = {(line.split()[0], name): line.split(":")[0].split()[1] for line in ACCESSORS.splitlines() if " " in line.split(":")[0] for name in line.split(": ")[1].split()}
 GROUPS = "free frames are counted in groups of 16, of 256 and of 4,096 (docs/formats.md, the regions)"
 PARAMETERS = "creation's parameters: 4 words, 2 for each table, 6 for each object (docs/formats.md)"
@@ -85,7 +85,7 @@ EXCUSED = [
     ("layout/src/lib.rt", ["(f + 15) / 16", "(f + 255) / 256", "(f + 4095) / 4096"], GROUPS),
     ("lookup/src/lib.rt", ["answer_put(out, base, i + 2, x.info.kind)", "answer_put(out, base, i + 3, x.info.rights)", "answer_put(out, base, i + 4, x.info.flags)", "put_entry(out, base, 5 + k * 5, *entry)", "base 5 (entry_list", "pub fn words(self) -> [u64; 4]"], ANSWER),
     ("lookup/src/lib.rt", [".examined ≤ 256"], "the most slots that a scan looks at, format's SCAN_SLOTS (document 01)"),
-    ("parcel/src/lib.rt", ["words::word(rq, at + 2)", "end: at + 3,"], RECORD),
+    ("parcel/src/lib.rt", ["words::word(words, at + 2)", "end: at + 3,"], RECORD),
     ("replay/src/main.rt", ["const PATTERN: u64 = 0x5c5c_c5c5_5c5c_c5c5;", "const FILL: u64 = 0xa5a5_5a5a_a5a5_5a5a;", "const STATE_ROOM: usize = 16384;", "const CALL_ROOM: usize = 512;"], REPLAY),
     ("replay/src/main.rt", ["let mut bytes = [0; 8];"], REPLAY),
     ("replay/src/main.rt", ["1 => creation(", "2 => given(", "3 => {", "4 => {"], REPLAY),
@@ -96,7 +96,7 @@ EXCUSED = [
     ("lookup/src/lib.rt", ["tag: 0,"], NO_FRAME),
     ("lookup/src/lib.rt", ["const NO_ENTRY: SnapshotEntry = SnapshotEntry { value: HandleValue(0), info: HandleInfo { koid: Koid(0), kind: 0, rights: 0, flags: 0, }, };"], "the entry of no handle, whose words are all 0"),
     ("structure/src/lib.rt", ["(16 * size)", "{ size < 4096 }", "for i in 0..16 {", "(g as u32) * 16", "groups_ok(s, sh, 0, 16)", "sums_ok(s, sh, 0, 16)", "sums_ok(s, sh, 1, 256)"], GROUPS),
-    ("transfer/src/lib.rt", ["words::word(rq, at + 2)", "words::word(rq, at + 3)", "return at + 4;"], RECORD),
+    ("transfer/src/lib.rt", ["words::word(rq, at + 2)", "words::word(rq, at + 3)", "self.at = at + 4;"], RECORD),
     ("transfer/src/lib.rt", ["exportable: 0, stage: 0, count: 0"], "a record of which three other words are looked at"),
     ("transfer/src/lib.rt", ["(v % 64)"], BITS),
     ("transfer/src/lib.rt", ["(self.0 >> (v % WORD_BITS)) % 2"], HALF),
@@ -306,13 +306,19 @@ class Source:
     def around(self, at):
         return self.inside.get(at)
 
-    def find_calls(self, known):
+    def find_calls(self, known, methods):
         t = self.tokens
         for at, token in enumerate(t):
             opening = at + 1
             if token.kind == "name" and at + 2 < len(t) and t[at + 1].text == "::" and t[at + 2].text == "<":
                 opening = self.past_generics(at + 2)
-            if token.kind != "name" or opening >= len(t) or t[opening].text != "(" or at and t[at - 1].text in ("fn", "."):
+            if token.kind != "name" or opening >= len(t) or t[opening].text != "(" or at and t[at - 1].text == "fn":
+                continue
+            if at and t[at - 1].text == ".":
+                args = [[], *parts(t, self.closing, opening + 1, self.closing[opening])]  # `self` is not looked at
+                target = methods.get((token.text, len(args)))
+                if target is not None and t[opening + 1].text != "|":  # an iterator's `find` has a closure
+                    self.calls.append(Call((target.crate, token.text, target), args, at, self.around(at)))
                 continue
             path = self.paths.get(token.text, ())
             crate = self.crate if (self.crate, token.text) in known else path[0] if len(path) == 2 else None
@@ -349,15 +355,16 @@ def in_place(index):
 class Look:
     def __init__(self, texts):
         self.sources = [Source(file, text) for file, text in sorted(texts.items())]
-        # methods have `self` first and are called with a dot: their names are not looked up
+        # methods have `self` first and are called with a dot: their names are not looked up, but for those of request's records, which have an array or a bit; of one name by the number of their parameters
         self.known = {(f.crate, f.name): f for source in self.sources for f in source.functions if "self" not in f.params[:1]}
+        self.methods = {(f.name, len(f.params)): f for source in self.sources for f in source.functions if source.crate == "request" and f.params[:1] == ["self"] and f.params[1:]}
         self.names = {
             table: {t.text for s in self.sources if s.file == f"crates/layout/src/{table}.rt" for t, before in zip(s.tokens[1:], s.tokens) if before.text == "const"} for table in ("field", "value")
         }
         self.names["value"] -= NO_CASES
         self.names["bit"] = {t.text for s in self.sources if s.file == "crates/format/src/field.rt" for t, before in zip(s.tokens[1:], s.tokens) if before.text == "const"}
         for source in self.sources:
-            source.find_calls(self.known)
+            source.find_calls(self.known, self.methods)
             source.pairs = list(self.pairs(source))
         self.find_accessors()
         while self.find_cases():
@@ -365,9 +372,9 @@ class Look:
 
     def find_accessors(self):
         """Functions with a field argument: the place of a state's field, the places of a record's fields."""
-        first, record, more = self.known.get(("layout", "place_in")), self.known.get(("request", "field_in")), True
+        first, record, more = self.known.get(("layout", "place_in")), self.methods.get(("find", 2)), True
         if first is None or "f" not in first.params or record is None or "bit" not in record.params:
-            sys.exit("layout::place_in with a parameter f, or request::field_in with a parameter bit, is not there")
+            sys.exit("layout::place_in with a parameter f, or request's method find with a parameter bit, is not there")
         first.field, record.bits = first.params.index("f"), {record.params.index("bit")}
         while more:
             more = False
@@ -627,7 +634,7 @@ class Look:
         for at, token in enumerate(t):
             if token.text in CASE_PARTS and at + 3 < len(t) and t[at + 1].text == ":" and t[at + 2].kind == "number" and t[at + 3].text in (",", "}"):
                 fault(at + 2, "b", f"given to {token.text}")
-            if token.text == "const":
+            if token.text == "const" and t[at - 1].text not in ("<", ","):  # no parameter
                 value = range(*(next(p for p in range(at, len(t)) if t[p].text == sign) for sign in ("=", ";")))
                 for p in numerals(value) if not any(re.fullmatch("[A-Z][A-Z_0-9]+", x) for x in source.text(value)) else ():
                     fault(p, "f", "in a constant outside the tables")
@@ -678,7 +685,7 @@ WRONG = [
     ("crates/growth/src/lib.rt", "storage::put_page(s, sh, e, p, field::ENTRY_BUSY, 0);", "storage::put_page(s, sh, e, p, 2, 0);", "a", "2"),
     ("crates/storage/src/lib.rt", "layout::cell_word(s, sh, fr - 1, j, f)", "layout::cell_word(s, sh, fr - 1, j, f + 1)", "a", "1"),
     ("crates/head/src/lib.rt", "TableHead {\n        life: layout::head_word(s, sh, b, field::HEAD_LIFECYCLE),", "let two = 1;\n    TableHead {\n        life: layout::head_word(s, sh, b, two),", "a", "two"),
-    ("crates/runner/src/lib.rt", "let op = request::field(rq, at, field::FIELD_OP);", "let op = request::field(rq, at, 0);", "a", "0"),
+    ("crates/runner/src/lib.rt", "let op = rq.field(field::FIELD_OP);", "let op = rq.field(0);", "a", "0"),
     ("crates/survey/src/lib.rt", "u64::from(c.tag == value::TAG_VACANT)", "u64::from(c.tag == 0)", "b", "0"),
     ("crates/lookup/src/lib.rt", "if w.tag == value::TAG_TRANSFER_RESERVED {", "if w.tag == 2 {", "b", "2"),
     ("crates/ledger/src/lib.rt", "    w == value::KIND_PARCEL\n", "    w == 3\n", "b", "3"),
@@ -704,10 +711,10 @@ WRONG = [
     ("crates/format/src/lib.rt", "word <= size::ROUTE_LAST", "word <= 2", "e", "2"),
     ("crates/close/src/lib.rt", "op::OP_CLOSE, [FIELD_TABLE, FIELD_VALUE]", "op::OP_CLOSE, [FIELD_TABLE, 4]", "a", "4"),
     ("crates/lookup/src/lib.rt", "op::OP_GET_INFO, [FIELD_TABLE, FIELD_VALUE]", "op::OP_GET_INFO, [FIELD_TABLE, Rights::NONE]", "a", "Rights"),
-    ("crates/plan/src/lib.rt", "let id = request::field(rq, at, FIELD_ID);\n    use_plan", "let id = request::field(rq, at, op::OP_CLOSE);\n    use_plan", "a", "op"),
+    ("crates/plan/src/lib.rt", "let id = rq.field(FIELD_ID);\n    use_plan", "let id = rq.field(op::OP_CLOSE);\n    use_plan", "a", "op"),
     ("crates/detach/src/lib.rt", "use format::field::FIELD_TABLE;", "const FIELD_TABLE: u64 = op::OP_CLOSE;", "a", "FIELD_TABLE"),
-    ("crates/request/src/lib.rt", "*word = field_known(rq, at, map, *word);", "*word = field_known(rq, at, map, 3);", "a", "3"),
-    ("crates/request/src/lib.rt", "read_fields(rq, at, op, [a, b, c])", "read_fields(rq, at, op, [a, 5, c])", "a", "5"),
+    ("crates/request/src/lib.rt", "self.find(bit).is_some()", "self.find(3).is_some()", "a", "3"),
+    ("crates/parcel/src/lib.rt", "[FIELD_OBJECT, FIELD_RIGHTS, FIELD_FLAGS]", "[FIELD_OBJECT, 5, FIELD_FLAGS]", "a", "5"),
     ("crates/request/src/lib.rt", "fits(format::field::FIELD_ROUTE, FieldKind::Route)", "fits(12, FieldKind::Route)", "a", "12"),
     ("crates/counts/src/lib.rt", "matches!(stage, value::STAGE_NEW | value::STAGE_RETIRED)", "matches!(stage, value::STAGE_NEW | 2)", "c", "2"),
     ("crates/counts/src/lib.rt", "(value::KIND_CLAIM..=value::KIND_PARCEL).contains(&kind)", "(2..=value::KIND_PARCEL).contains(&kind)", "b", "2"),
@@ -731,7 +738,9 @@ def main():
     lost = []
     for line in ACCESSORS.splitlines():
         crate, names = line.split()[0].strip(":"), line.split(": ")[1]
-        lost += [f"{crate}::{name} has no field argument" for name in names.split() if not ((f := look.known.get((crate, name))) and (f.field is not None or f.bits))]
+        for name in names.split():
+            named = [f for (of, _), f in look.methods.items() if of == name] if crate == "request" else [look.known[crate, name]] if (crate, name) in look.known else []
+            lost += [f"{crate}::{name} has no field argument"] if not named or any(f.field is None and not f.bits for f in named) else []
     changed = {**texts, "crates/words/src/plain.rt": PLAIN}
     for file, old, new, _, _ in WRONG:
         if changed.get(file, "").count(old) != 1:

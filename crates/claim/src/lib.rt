@@ -14,11 +14,14 @@ ghost use Rattle.claim.specs.EndsOps.{aborted_w, trimmed_w, abort_r, trim_r};
 ghost use Rattle.claim.specs.Ops.{undo_w, undone_w, rolled_w, rollback_r, sent_rights, leave_w, left_w, send_w, sent_w, committed_w, commit_r};
 ghost use Rattle.claim.specs.Ops.{pair_of, filled_w, direct_w, direct_commit_r, direct_rollback_r};
 ghost use Rattle.format.specs.Fields.{count_field, id_field, destination_field};
-ghost use Rattle.request.specs.Place.{field_of};
+ghost use Rattle.request.specs.Place.{word_of};
 
 use codec::ReservationId;
+use format::field::{FIELD_COUNT, FIELD_DESTINATION, FIELD_ID};
+use format::op;
 use format::refusal::Refusal;
 use layout::{Shape, field, value};
+use request::Record;
 
 // The places of a claim's row and of a reservation's, of one length.
 #[derive(Clone, Copy)]
@@ -289,88 +292,46 @@ pub fn direct_rollback(
 }
 
 // The request of a list at a place: its fields are read.
-#[tactic(auto, unfolding(request::specs::Place::three_at))]
-pub fn serve_trim(s: &mut [u64], sh: Shape, rq: &[u64], at: usize, out: &mut [u64], base: usize)
-    ensures { both s.new out.new ≡ trim_r s.old out.old sh base (field_of rq.now at id_field) (field_of rq.now at count_field) }
+pub fn serve_trim(s: &mut [u64], sh: Shape, rq: &Record, out: &mut [u64], base: usize)
+    ensures { both s.new out.new ≡ trim_r s.old out.old sh base (word_of rq.now id_field) (word_of rq.now count_field) }
 {
-    let f = request::read_three(
-        rq,
-        at,
-        format::op::OP_TRIM,
-        format::field::FIELD_ID,
-        format::field::FIELD_COUNT,
-        format::field::NO_FIELD,
-    );
-    let id = ReservationId(f.a);
-    let count = f.b;
-    answer::outcome(out, base, trim(s, sh, id, count));
+    let [id, count] = rq.fields(op::OP_TRIM, [FIELD_ID, FIELD_COUNT]);
+    answer::outcome(out, base, trim(s, sh, ReservationId(id), count));
 }
 
-pub fn serve_abort(s: &mut [u64], sh: Shape, rq: &[u64], at: usize, out: &mut [u64], base: usize)
-    ensures { both s.new out.new ≡ abort_r s.old out.old sh base (field_of rq.now at id_field) }
+pub fn serve_abort(s: &mut [u64], sh: Shape, rq: &Record, out: &mut [u64], base: usize)
+    ensures { both s.new out.new ≡ abort_r s.old out.old sh base (word_of rq.now id_field) }
 {
-    let id = ReservationId(request::field(rq, at, format::field::FIELD_ID));
+    let id = ReservationId(rq.field(FIELD_ID));
     answer::outcome(out, base, abort(s, sh, id));
 }
 
-pub fn serve_rollback(s: &mut [u64], sh: Shape, rq: &[u64], at: usize, out: &mut [u64], base: usize)
-    ensures { both s.new out.new ≡ rollback_r s.old out.old sh base (field_of rq.now at id_field) }
+pub fn serve_rollback(s: &mut [u64], sh: Shape, rq: &Record, out: &mut [u64], base: usize)
+    ensures { both s.new out.new ≡ rollback_r s.old out.old sh base (word_of rq.now id_field) }
 {
-    let id = ReservationId(request::field(rq, at, format::field::FIELD_ID));
+    let id = ReservationId(rq.field(FIELD_ID));
     answer::outcome(out, base, rollback(s, sh, id));
 }
 
-pub fn serve_commit(s: &mut [u64], sh: Shape, rq: &[u64], at: usize, out: &mut [u64], base: usize)
-    ensures { both s.new out.new ≡ commit_r s.old out.old sh base (field_of rq.now at id_field) }
+pub fn serve_commit(s: &mut [u64], sh: Shape, rq: &Record, out: &mut [u64], base: usize)
+    ensures { both s.new out.new ≡ commit_r s.old out.old sh base (word_of rq.now id_field) }
 {
-    let id = ReservationId(request::field(rq, at, format::field::FIELD_ID));
+    let id = ReservationId(rq.field(FIELD_ID));
     answer::outcome(out, base, commit(s, sh, id));
 }
 
-#[tactic(auto, unfolding(request::specs::Place::three_at))]
-pub fn serve_direct_commit(
-    s: &mut [u64],
-    sh: Shape,
-    rq: &[u64],
-    at: usize,
-    out: &mut [u64],
-    base: usize,
-)
-    ensures { both s.new out.new ≡ direct_commit_r s.old out.old sh base (field_of rq.now at id_field) (field_of rq.now at destination_field) }
+pub fn serve_direct_commit(s: &mut [u64], sh: Shape, rq: &Record, out: &mut [u64], base: usize)
+    ensures { both s.new out.new ≡ direct_commit_r s.old out.old sh base (word_of rq.now id_field) (word_of rq.now destination_field) }
 {
-    let f = request::read_three(
-        rq,
-        at,
-        format::op::OP_DIRECT_COMMIT,
-        format::field::FIELD_ID,
-        format::field::FIELD_DESTINATION,
-        format::field::NO_FIELD,
-    );
-    let id = ReservationId(f.a);
-    let destination = ReservationId(f.b);
-    answer::outcome(out, base, direct_commit(s, sh, id, destination));
+    let [id, destination] = rq.fields(op::OP_DIRECT_COMMIT, [FIELD_ID, FIELD_DESTINATION]);
+    let outcome = direct_commit(s, sh, ReservationId(id), ReservationId(destination));
+    answer::outcome(out, base, outcome);
 }
 
-#[tactic(auto, unfolding(request::specs::Place::three_at))]
-pub fn serve_direct_rollback(
-    s: &mut [u64],
-    sh: Shape,
-    rq: &[u64],
-    at: usize,
-    out: &mut [u64],
-    base: usize,
-)
-    ensures { both s.new out.new ≡ direct_rollback_r s.old out.old sh base (field_of rq.now at id_field) (field_of rq.now at destination_field) }
+pub fn serve_direct_rollback(s: &mut [u64], sh: Shape, rq: &Record, out: &mut [u64], base: usize)
+    ensures { both s.new out.new ≡ direct_rollback_r s.old out.old sh base (word_of rq.now id_field) (word_of rq.now destination_field) }
 {
-    let f = request::read_three(
-        rq,
-        at,
-        format::op::OP_DIRECT_ROLLBACK,
-        format::field::FIELD_ID,
-        format::field::FIELD_DESTINATION,
-        format::field::NO_FIELD,
-    );
-    let id = ReservationId(f.a);
-    let destination = ReservationId(f.b);
-    answer::outcome(out, base, direct_rollback(s, sh, id, destination));
+    let [id, destination] = rq.fields(op::OP_DIRECT_ROLLBACK, [FIELD_ID, FIELD_DESTINATION]);
+    let outcome = direct_rollback(s, sh, ReservationId(id), ReservationId(destination));
+    answer::outcome(out, base, outcome);
 }

@@ -12,7 +12,7 @@ ghost use Rattle.close.specs.Close.{closed_r, close_r};
 ghost use Rattle.close.specs.Renew.{high_w, renew_w};
 ghost use Rattle.close.specs.Replace.{value_list, replaced_r, replace_r};
 ghost use Rattle.format.specs.Fields.{table_field, value_field, rights_field};
-ghost use Rattle.request.specs.Place.{field_of};
+ghost use Rattle.request.specs.Place.{word_of};
 
 use authority::Rights;
 use codec::{HandleCodec, HandleValue};
@@ -21,6 +21,7 @@ use format::op;
 use format::refusal::Refusal;
 use layout::{Shape, field, size};
 use lookup::{HandleInfo, PreparedHandle};
+use request::Record;
 
 // The handle found: its slot falls vacant and its count is released. Its info is told.
 #[tactic(auto, unfolding(crate::specs::Close::closed_r))]
@@ -101,12 +102,10 @@ pub fn replace(
 }
 
 // The request of a list at a place: its fields are read.
-pub fn serve_replace(s: &mut [u64], sh: Shape, rq: &[u64], at: usize, out: &mut [u64], base: usize)
-    ensures { both s.new out.new ≡ replace_r s.old out.old sh base (field_of rq.now at table_field) (field_of rq.now at value_field) (field_of rq.now at rights_field) }
+pub fn serve_replace(s: &mut [u64], sh: Shape, rq: &Record, out: &mut [u64], base: usize)
+    ensures { both s.new out.new ≡ replace_r s.old out.old sh base (word_of rq.now table_field) (word_of rq.now value_field) (word_of rq.now rights_field) }
 {
-    let [table, value, rights] = request::read_fields(
-        rq,
-        at,
+    let [table, value, rights] = rq.fields(
         op::OP_REPLACE,
         [FIELD_TABLE, FIELD_VALUE, FIELD_RIGHTS],
     );
@@ -116,10 +115,10 @@ pub fn serve_replace(s: &mut [u64], sh: Shape, rq: &[u64], at: usize, out: &mut 
     }
 }
 
-pub fn serve_close(s: &mut [u64], sh: Shape, rq: &[u64], at: usize, out: &mut [u64], base: usize)
-    ensures { both s.new out.new ≡ close_r s.old out.old sh base (field_of rq.now at table_field) (field_of rq.now at value_field) }
+pub fn serve_close(s: &mut [u64], sh: Shape, rq: &Record, out: &mut [u64], base: usize)
+    ensures { both s.new out.new ≡ close_r s.old out.old sh base (word_of rq.now table_field) (word_of rq.now value_field) }
 {
-    let [table, value] = request::read_fields(rq, at, op::OP_CLOSE, [FIELD_TABLE, FIELD_VALUE]);
+    let [table, value] = rq.fields(op::OP_CLOSE, [FIELD_TABLE, FIELD_VALUE]);
     match close(s, sh, table, HandleValue(value)) {
         Ok(info) => answer::say(
             out,

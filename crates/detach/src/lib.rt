@@ -11,7 +11,7 @@ ghost use Rattle.answer.specs.Does.{both, reply, Gives};
 ghost use Rattle.storage.specs.Links.{place_of};
 ghost use Rattle.storage.specs.Ops.{leave_w};
 ghost use Rattle.format.specs.Fields.{table_field};
-ghost use Rattle.request.specs.Place.{field_of};
+ghost use Rattle.request.specs.Place.{word_of};
 ghost use Rattle.detach.specs.Late.{without_w, without_by};
 ghost use Rattle.detach.specs.Ops.{unlink_page_w, join_detached_w, detach_w, first_empty, page_list, take_page_r};
 
@@ -19,6 +19,7 @@ use format::field::FIELD_TABLE;
 use format::refusal::Refusal;
 use head::TableHead;
 use layout::{Shape, field, size, value};
+use request::Record;
 
 // Slot j of the frame fr, which is vacant, leaves the free order of the table of a head, wherever it stands in it. Its own words stay.
 #[tactic(auto, unfolding(crate::specs::Late::without_w, crate::specs::Late::without_by))]
@@ -104,17 +105,10 @@ pub fn take_empty_page(s: &mut [u64], sh: Shape, b: u64) -> Result<Option<u64>, 
 }
 
 // The request of a list at a place: its fields are read.
-pub fn serve_take_empty_page(
-    s: &mut [u64],
-    sh: Shape,
-    rq: &[u64],
-    at: usize,
-    out: &mut [u64],
-    base: usize,
-)
-    ensures { both s.new out.new ≡ take_page_r s.old out.old sh base (field_of rq.now at table_field) }
+pub fn serve_take_empty_page(s: &mut [u64], sh: Shape, rq: &Record, out: &mut [u64], base: usize)
+    ensures { both s.new out.new ≡ take_page_r s.old out.old sh base (word_of rq.now table_field) }
 {
-    let table = request::field(rq, at, FIELD_TABLE);
+    let table = rq.field(FIELD_TABLE);
     match take_empty_page(s, sh, table) {
         Ok(Some(p)) => answer::say(out, base, &[1, p]),
         Ok(None) => answer::say(out, base, &[0]),

@@ -17,7 +17,7 @@ ghost use Rattle.lookup.specs.View.{handle_by, handle_at, shown, view_of, view_r
 ghost use Rattle.lookup.specs.Read.{info_at, info_list, get_info_r, resolved_list, resolved_r, resolve_r};
 ghost use Rattle.lookup.specs.Scan.{length_at, entry_by, entry_of, no_entry, FrameFor, ended_of, scan_of, entry_words, entry_list, page_list, scan_r};
 ghost use Rattle.format.specs.Fields.{table_field, value_field, rights_field, kind_field, cursor_field};
-ghost use Rattle.request.specs.Place.{field_of};
+ghost use Rattle.request.specs.Place.{word_of};
 
 use authority::Rights;
 use codec::{Decoded, HandleCodec, HandleValue, Koid};
@@ -25,6 +25,7 @@ use format::field::{FIELD_CURSOR, FIELD_KIND, FIELD_RIGHTS, FIELD_TABLE, FIELD_V
 use format::op;
 use format::refusal::Refusal;
 use layout::{CellWords, Shape, field, size, value};
+use request::Record;
 
 // A handle in its slot, by value.
 #[derive(Clone, Copy)]
@@ -348,22 +349,20 @@ pub fn scan_handles(s: &[u64], sh: Shape, b: u64, cursor: u64) -> Result<Snapsho
 }
 
 // The request of a list at a place: its fields are read.
-pub fn serve_get_info(s: &mut [u64], sh: Shape, rq: &[u64], at: usize, out: &mut [u64], base: usize)
-    ensures { both s.new out.new ≡ get_info_r s.old out.old sh base (field_of rq.now at table_field) (field_of rq.now at value_field) }
+pub fn serve_get_info(s: &mut [u64], sh: Shape, rq: &Record, out: &mut [u64], base: usize)
+    ensures { both s.new out.new ≡ get_info_r s.old out.old sh base (word_of rq.now table_field) (word_of rq.now value_field) }
 {
-    let [table, value] = request::read_fields(rq, at, op::OP_GET_INFO, [FIELD_TABLE, FIELD_VALUE]);
+    let [table, value] = rq.fields(op::OP_GET_INFO, [FIELD_TABLE, FIELD_VALUE]);
     match get_info(s, sh, table, HandleValue(value)) {
         Ok(info) => answer::say(out, base, &info.words()),
         Err(refusal) => answer::refuse(out, base, refusal),
     }
 }
 
-pub fn serve_resolve(s: &mut [u64], sh: Shape, rq: &[u64], at: usize, out: &mut [u64], base: usize)
-    ensures { both s.new out.new ≡ resolve_r s.old out.old sh base (field_of rq.now at table_field) (field_of rq.now at value_field) (field_of rq.now at rights_field) (field_of rq.now at kind_field) }
+pub fn serve_resolve(s: &mut [u64], sh: Shape, rq: &Record, out: &mut [u64], base: usize)
+    ensures { both s.new out.new ≡ resolve_r s.old out.old sh base (word_of rq.now table_field) (word_of rq.now value_field) (word_of rq.now rights_field) (word_of rq.now kind_field) }
 {
-    let [table, value, rights, kind] = request::read_fields(
-        rq,
-        at,
+    let [table, value, rights, kind] = rq.fields(
         op::OP_RESOLVE,
         [FIELD_TABLE, FIELD_VALUE, FIELD_RIGHTS, FIELD_KIND],
     );
@@ -373,22 +372,10 @@ pub fn serve_resolve(s: &mut [u64], sh: Shape, rq: &[u64], at: usize, out: &mut 
     }
 }
 
-pub fn serve_scan_handles(
-    s: &mut [u64],
-    sh: Shape,
-    rq: &[u64],
-    at: usize,
-    out: &mut [u64],
-    base: usize,
-)
-    ensures { both s.new out.new ≡ scan_r s.old out.old sh base (field_of rq.now at table_field) (field_of rq.now at cursor_field) }
+pub fn serve_scan_handles(s: &mut [u64], sh: Shape, rq: &Record, out: &mut [u64], base: usize)
+    ensures { both s.new out.new ≡ scan_r s.old out.old sh base (word_of rq.now table_field) (word_of rq.now cursor_field) }
 {
-    let [table, cursor] = request::read_fields(
-        rq,
-        at,
-        op::OP_SCAN_HANDLES,
-        [FIELD_TABLE, FIELD_CURSOR],
-    );
+    let [table, cursor] = rq.fields(op::OP_SCAN_HANDLES, [FIELD_TABLE, FIELD_CURSOR]);
     match scan_handles(s, sh, table, cursor) {
         Ok(page) => say_page(out, base, page),
         Err(refusal) => answer::refuse(out, base, refusal),

@@ -18,7 +18,7 @@ ids_at rq at n = map (parcel_at rq) (places_from n rq at)
 
 -- the same of the code's own record
 abbrev pub ids_left : ParcelIds → List ℕ
-ids_left p = ids_at p.rq.now p.at p.count
+ids_left p = ids_at p.item.words.now p.item.at p.count
 
 -- two numbers added; the largest word stays
 abbrev pub plus : ℕ → ℕ → ℕ

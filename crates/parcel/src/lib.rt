@@ -13,7 +13,7 @@ ghost use Rattle.model.specs.Base.{member};
 ghost use Rattle.model.specs.Decision.{distinct};
 ghost use Rattle.format.specs.Fields.{id_field, table_field, object_field, value_field, rights_field, flags_field};
 ghost use Rattle.format.specs.Refusals.{number_of};
-ghost use Rattle.request.specs.Place.{parcel_at, end_at, count_at, field_of};
+ghost use Rattle.request.specs.Place.{parcel_at, end_at, count_at, word_of};
 ghost use Rattle.layout.specs.Layout.{load as loadAt};
 ghost use Rattle.answer.specs.Does.{both, reply, no_words, Gives};
 ghost use Rattle.parcel.specs.Ops.{retire_r, parcel_w, activation_refusal, new_refusal, new_object_r};
@@ -22,10 +22,15 @@ ghost use Rattle.parcel.specs.Publishing.{ids_at, ids_left, fits, filled_w, publ
 
 use authority::Rights;
 use codec::{HandleValue, ReservationId};
+use format::field::{
+    FIELD_COUNT, FIELD_FLAGS, FIELD_ID, FIELD_OBJECT, FIELD_RIGHTS, FIELD_TABLE, FIELD_VALUE,
+};
+use format::op;
 use format::refusal::Refusal;
 use layout::{Shape, field, value};
 use lookup::PreparedHandle;
 use object::ObjectRecord;
+use request::Record;
 
 // "Its owner may retire it by a request accepted in any state"; "unknown .. object": 18.
 #[tactic(auto, unfolding(crate::specs::Ops::retire_r))]
@@ -204,29 +209,29 @@ struct ParcelItem {
     end: usize,
 }
 
-// The item at a place: where the record has no field but its id, that stands behind the operation.
+// The item that is a record of the list: where that has no field but its id, that stands behind the operation.
 #[tactic(auto, unfolding(request::specs::Place::parcel_at), using(crate::specs::Plain::plain_id, crate::specs::Plain::plain_end))]
-fn read_item(rq: &[u64], at: usize) -> ParcelItem
-    ensures id { result.id.0 ≡ parcel_at rq.now at }
-    ensures end { result.end ≡ end_at rq.now at }
+fn read_item(item: &Record) -> ParcelItem
+    ensures id { result.id.0 ≡ parcel_at item.now.words.now item.now.at }
+    ensures end { result.end ≡ end_at item.now.words.now item.now.at }
 {
-    if at < rq.len() && rq[at] == format::maps::PARCEL_ITEM_MUST {
+    let Record { words, at } = *item;
+    if at < words.len() && words[at] == format::maps::PARCEL_ITEM_MUST {
         return ParcelItem {
-            id: ReservationId(words::word(rq, at + 2)),
+            id: ReservationId(words::word(words, at + 2)),
             end: at + 3,
         };
     }
     ParcelItem {
-        id: ReservationId(request::field(rq, at, format::field::FIELD_ID)),
-        end: request::record_end(rq, at),
+        id: ReservationId(item.field(FIELD_ID)),
+        end: item.end(),
     }
 }
 
-// The parcels that a publish names, by their ids: its items, `count` records from `at` on in the request list.
+// The parcels that a publish names, by their ids: its items, `count` records of the list from one on.
 #[derive(Clone, Copy)]
 pub struct ParcelIds<'a> {
-    pub rq: &'a [u64],
-    pub at: usize,
+    pub item: Record<'a>,
     pub count: u64,
 }
 
@@ -242,8 +247,8 @@ impl<'a> Iterator for ParcelIds<'a> {
         if self.count == 0 {
             return None;
         }
-        let item = read_item(self.rq, self.at);
-        self.at = item.end;
+        let item = read_item(&self.item);
+        self.item.at = item.end;
         self.count -= 1;
         Some(item.id)
     }
@@ -358,100 +363,56 @@ pub fn publish(
 }
 
 // The request of a list at a place: its fields are read.
-#[tactic(auto, unfolding(request::specs::Place::three_at))]
-pub fn serve_new_object(
-    s: &mut [u64],
-    sh: Shape,
-    rq: &[u64],
-    at: usize,
-    out: &mut [u64],
-    base: usize,
-)
-    ensures { both s.new out.new ≡ new_object_r s.old out.old sh base (field_of rq.now at object_field) (field_of rq.now at rights_field) (field_of rq.now at flags_field) }
+pub fn serve_new_object(s: &mut [u64], sh: Shape, rq: &Record, out: &mut [u64], base: usize)
+    ensures { both s.new out.new ≡ new_object_r s.old out.old sh base (word_of rq.now object_field) (word_of rq.now rights_field) (word_of rq.now flags_field) }
 {
-    let f = request::read_three(
-        rq,
-        at,
-        format::op::OP_NEW_OBJECT,
-        format::field::FIELD_OBJECT,
-        format::field::FIELD_RIGHTS,
-        format::field::FIELD_FLAGS,
+    let [object, rights, flags] = rq.fields(
+        op::OP_NEW_OBJECT,
+        [FIELD_OBJECT, FIELD_RIGHTS, FIELD_FLAGS],
     );
-    match new_object(s, sh, f.a, Rights(f.b), f.c) {
+    match new_object(s, sh, object, Rights(rights), flags) {
         Ok(id) => answer::say(out, base, &[id.0]),
         Err(refusal) => answer::refuse(out, base, refusal),
     }
 }
 
-#[tactic(auto, unfolding(request::specs::Place::three_at))]
-pub fn serve_duplicate(
-    s: &mut [u64],
-    sh: Shape,
-    rq: &[u64],
-    at: usize,
-    out: &mut [u64],
-    base: usize,
-)
-    ensures { both s.new out.new ≡ duplicate_r s.old out.old sh base (field_of rq.now at table_field) (field_of rq.now at value_field) (field_of rq.now at rights_field) }
+pub fn serve_duplicate(s: &mut [u64], sh: Shape, rq: &Record, out: &mut [u64], base: usize)
+    ensures { both s.new out.new ≡ duplicate_r s.old out.old sh base (word_of rq.now table_field) (word_of rq.now value_field) (word_of rq.now rights_field) }
 {
-    let f = request::read_three(
-        rq,
-        at,
-        format::op::OP_DUPLICATE,
-        format::field::FIELD_TABLE,
-        format::field::FIELD_VALUE,
-        format::field::FIELD_RIGHTS,
+    let [table, value, rights] = rq.fields(
+        op::OP_DUPLICATE,
+        [FIELD_TABLE, FIELD_VALUE, FIELD_RIGHTS],
     );
-    match duplicate(s, sh, f.a, HandleValue(f.b), Rights(f.c)) {
+    match duplicate(s, sh, table, HandleValue(value), Rights(rights)) {
         Ok(id) => answer::say(out, base, &[id.0]),
         Err(refusal) => answer::refuse(out, base, refusal),
     }
 }
 
-pub fn serve_release_parcel(
-    s: &mut [u64],
-    sh: Shape,
-    rq: &[u64],
-    at: usize,
-    out: &mut [u64],
-    base: usize,
-)
-    ensures { both s.new out.new ≡ release_r s.old out.old sh base (field_of rq.now at id_field) }
+pub fn serve_release_parcel(s: &mut [u64], sh: Shape, rq: &Record, out: &mut [u64], base: usize)
+    ensures { both s.new out.new ≡ release_r s.old out.old sh base (word_of rq.now id_field) }
 {
-    let id = request::field(rq, at, format::field::FIELD_ID);
+    let id = rq.field(FIELD_ID);
     answer::outcome(out, base, release_parcel(s, sh, ReservationId(id)));
 }
 
-pub fn serve_retire_object(
-    s: &mut [u64],
-    sh: Shape,
-    rq: &[u64],
-    at: usize,
-    out: &mut [u64],
-    base: usize,
-)
-    ensures { both s.new out.new ≡ retire_r s.old out.old sh base (field_of rq.now at object_field) }
+pub fn serve_retire_object(s: &mut [u64], sh: Shape, rq: &Record, out: &mut [u64], base: usize)
+    ensures { both s.new out.new ≡ retire_r s.old out.old sh base (word_of rq.now object_field) }
 {
-    let object = request::field(rq, at, format::field::FIELD_OBJECT);
+    let object = rq.field(FIELD_OBJECT);
     answer::outcome(out, base, retire_object(s, sh, object));
 }
 
-#[tactic(auto, unfolding(request::specs::Place::three_at))]
-pub fn serve_publish(s: &mut [u64], sh: Shape, rq: &[u64], at: usize, out: &mut [u64], base: usize)
-    ensures { both s.new out.new ≡ publish_r s.old out.old sh base (field_of rq.now at id_field) (ids_at rq.now (end_at rq.now at) (count_at rq.now at)) }
+pub fn serve_publish(s: &mut [u64], sh: Shape, rq: &Record, out: &mut [u64], base: usize)
+    ensures { both s.new out.new ≡ publish_r s.old out.old sh base (word_of rq.now id_field) (ids_at rq.now.words.now (end_at rq.now.words.now rq.now.at) (count_at rq.now.words.now rq.now.at)) }
 {
-    let f = request::read_three(
-        rq,
-        at,
-        format::op::OP_PUBLISH,
-        format::field::FIELD_ID,
-        format::field::FIELD_COUNT,
-        format::field::NO_FIELD,
-    );
+    let [id, count] = rq.fields(op::OP_PUBLISH, [FIELD_ID, FIELD_COUNT]);
     let parcels = ParcelIds {
-        rq,
-        at: request::record_end(rq, at),
-        count: f.b,
+        item: Record {
+            at: rq.end(),
+            ..*rq
+        },
+        count,
     };
-    answer::outcome(out, base, publish(s, sh, ReservationId(f.a), parcels));
+    answer::outcome(out, base, publish(s, sh, ReservationId(id), parcels));
 }

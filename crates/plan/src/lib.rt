@@ -7,7 +7,7 @@
 
 ghost use Rattle.std.specs.Prelude.{◌≡◌, ◌∷◌};
 ghost use Rattle.layout.specs.Layout.{load as loadAt};
-ghost use Rattle.request.specs.Place.{field_of};
+ghost use Rattle.request.specs.Place.{word_of};
 ghost use Rattle.format.specs.Fields.{table_field, count_field, id_field};
 ghost use Rattle.answer.specs.Does.{both, reply, no_words, Gives};
 ghost use Rattle.format.specs.Refusals.{number_of};
@@ -18,6 +18,7 @@ use format::field::{FIELD_COUNT, FIELD_ID, FIELD_TABLE};
 use format::op;
 use format::refusal::Refusal;
 use layout::{Shape, field, size, value};
+use request::Record;
 
 // "1 the id, 2 the count, 3 the number of frames": what is told of a plan that was made.
 #[derive(Clone, Copy)]
@@ -213,40 +214,26 @@ pub fn drop_plan(s: &mut [u64], sh: Shape, id: ReservationId) -> Result<(), Refu
 }
 
 // The requests of a list at a place: their fields are read.
-pub fn serve_make_plan(
-    s: &mut [u64],
-    sh: Shape,
-    rq: &[u64],
-    at: usize,
-    out: &mut [u64],
-    base: usize,
-)
-    ensures { both s.new out.new ≡ make_plan_r s.old out.old sh base (field_of rq.now at table_field) (field_of rq.now at count_field) }
+pub fn serve_make_plan(s: &mut [u64], sh: Shape, rq: &Record, out: &mut [u64], base: usize)
+    ensures { both s.new out.new ≡ make_plan_r s.old out.old sh base (word_of rq.now table_field) (word_of rq.now count_field) }
 {
-    let [table, count] = request::read_fields(rq, at, op::OP_MAKE_PLAN, [FIELD_TABLE, FIELD_COUNT]);
+    let [table, count] = rq.fields(op::OP_MAKE_PLAN, [FIELD_TABLE, FIELD_COUNT]);
     match make_plan(s, sh, table, count) {
         Ok(plan) => answer::say(out, base, &[plan.id.0, plan.count, plan.frames]),
         Err(refusal) => answer::refuse(out, base, refusal),
     }
 }
 
-pub fn serve_use_plan(s: &mut [u64], sh: Shape, rq: &[u64], at: usize, out: &mut [u64], base: usize)
-    ensures { both s.new out.new ≡ use_plan_r s.old out.old sh base (field_of rq.now at id_field) }
+pub fn serve_use_plan(s: &mut [u64], sh: Shape, rq: &Record, out: &mut [u64], base: usize)
+    ensures { both s.new out.new ≡ use_plan_r s.old out.old sh base (word_of rq.now id_field) }
 {
-    let id = request::field(rq, at, FIELD_ID);
+    let id = rq.field(FIELD_ID);
     use_plan(s, sh, ReservationId(id), out, base);
 }
 
-pub fn serve_drop_plan(
-    s: &mut [u64],
-    sh: Shape,
-    rq: &[u64],
-    at: usize,
-    out: &mut [u64],
-    base: usize,
-)
-    ensures { both s.new out.new ≡ drop_plan_r s.old out.old sh base (field_of rq.now at id_field) }
+pub fn serve_drop_plan(s: &mut [u64], sh: Shape, rq: &Record, out: &mut [u64], base: usize)
+    ensures { both s.new out.new ≡ drop_plan_r s.old out.old sh base (word_of rq.now id_field) }
 {
-    let id = request::field(rq, at, FIELD_ID);
+    let id = rq.field(FIELD_ID);
     answer::outcome(out, base, drop_plan(s, sh, ReservationId(id)));
 }

@@ -10,17 +10,9 @@ use Rattle.format.specs.Fields.{an_op, an_operation, zero_word}
 use Rattle.model.specs.Base.{pick}
 use Rattle.model.specs.Request.{Request}
 use Rattle.model.specs.Words.{and_then, Fields, must, read_list}
-use Rattle.request.specs.declared.Three.{Three}
-use Rattle.request.specs.Place.{listed, up_to, three_at, end_at, record_end, many_end, places_from, place_of, items_end, op_at, count_at, request_end, next_at, request_of, request_at}
+use Rattle.request.specs.Place.{listed, up_to, end_at, record_end, many_end, places_from, place_of, items_end, op_at, count_at, request_end, next_at, request_of, request_at}
 use Rattle.request.specs.Fields.{Whole, record_whole, first_fits}
 use Rattle.request.specs.Lists.{known_op_law, place_later, request_ends, list_turn, list_end}
-
--- Fields
-
--- what was done with three fields that were read, by the fields
-pub three_read : {A : Type 0} (f : ℕ → ℕ → ℕ → A) (fs : Fields) (i j k : ℕ) (r : Three) (x : A) → r ≡ three_at fs i j k → x ≡ f r.a r.b r.c → x ≡ f (must fs i) (must fs j) (must fs k)
-unfolding three_at
-three_read f fs i j k r x e p = p ∙ ap (λ (t : Three). f t.a t.b t.c) e
 
 -- Items by their places
 

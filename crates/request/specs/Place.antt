@@ -10,7 +10,7 @@ use Rattle.model.specs.Request.{Item, Request, Request.get_info, Request.publish
 use Rattle.model.specs.Words.{Reading, and_then, Fields, odd, may, must, operation_of, route_of, plain_request}
 use Rattle.format.specs.Fields.{op_field, table_field, count_field, value_field, rights_field, flags_field, id_field, kind_field, koid_field, route_field, offered_rights_field, offered_kind_field, expected_kind_field, forbidden_object_field, forbidden_kind_field, number32, a_koid, a_route, an_operation, zero_word}
 use Rattle.format.specs.Ops.{op_publish, op_prepare_transfer}
-use Rattle.request.specs.declared.Three.{Three}
+use Rattle.request.specs.declared.Record.{Record}
 
 -- What the code answers
 
@@ -77,13 +77,16 @@ has_map ws at map = ltb at (length ws) && eqb (map_at ws at) map
 unfoldable pub fields_at : List ℕ → ℕ → Fields
 fields_at ws at = fields_from field_count (map_at ws at) ws (suc at)
 
+-- the same of the code's own record
+abbrev pub fields_of : Record → Fields
+fields_of r = fields_at r.words.now r.at
+
 -- a field's word
 abbrev pub field_of : List ℕ → ℕ → ℕ → ℕ
 field_of ws at k = must (fields_at ws at) k
 
--- three of a record's fields, by their bits
-unfoldable pub three_at : Fields → ℕ → ℕ → ℕ → Three
-three_at fs a b c = record { a = must fs a; b = must fs b; c = must fs c }
+abbrev pub word_of : Record → ℕ → ℕ
+word_of r k = must (fields_of r) k
 
 -- a record's fields, by their bits
 abbrev pub words_by : Fields → List ℕ → List ℕ

@@ -8,17 +8,25 @@ ghost use Rattle.format.specs.Format.{answer_words, field_count};
 ghost use Rattle.format.specs.Kinds.{kind_number};
 ghost use Rattle.model.specs.Base.{is_some};
 ghost use Rattle.model.specs.Words.{odd, may, must, read_request, read_list};
-ghost use Rattle.request.specs.Place.{next_of, placed, listed, optional, fields_from, fields_at, has_map, three_at, words_by, end_at, kinds_of, fit_one, narrow_fit, walk, good_map, record_end, many_end, items_end, here, place_of, next_at};
+ghost use Rattle.request.specs.Place.{next_of, placed, listed, optional, fields_from, fields_at, fields_of, has_map, words_by, end_at, kinds_of, fit_one, narrow_fit, walk, good_map, record_end, many_end, items_end, here, place_of, next_at};
 ghost use Rattle.request.specs.Answers.{cleared};
 
 use format::field::FieldKind;
 
-// Three fields of a record, read once.
+// A record of a list of requests: the list's words, and the record's place in them.
 #[derive(Clone, Copy)]
-pub struct Three {
-    pub a: u64,
-    pub b: u64,
-    pub c: u64,
+pub struct Record<'a> {
+    pub words: &'a [u64],
+    pub at: usize,
+}
+
+// The fields of a record: the list's words, the place of the first field in them, and the record's bit map.
+#[derive(Clone, Copy)]
+struct FieldWords<'a> {
+    words: &'a [u64],
+    at: usize,
+    map: u64,
+    ghost inside: { at ≤ length words.now },
 }
 
 // Whether the lowest bit of a map stands.
@@ -36,156 +44,12 @@ fn covers(held: u64, asked: u64) -> bool
     held & asked == asked
 }
 
-// The word at a place, where the map's lowest bit stands.
-fn word_of(rq: &[u64], map: u64, at: usize) -> Option<u64>
-    ensures { result ≡ optional (here (odd map) rq.now at) }
-{
-    lowest(map).then(|| words::word(rq, at))
-}
-
 // How many fields of a map stand below a bit.
 fn below(map: u64, bit: u64) -> usize
     requires { bit < 64 }
     ensures { result ≡ ones (map % 2 ^ bit) }
 {
     (map % (1 << bit)).count_ones() as usize
-}
-
-// A field by its bit, of the fields of a map that begin at a place.
-#[tactic(auto, using(crate::specs::Counted::may_at, crate::specs::Counted::may_past))]
-fn field_in(rq: &[u64], at: usize, map: u64, bit: u64) -> Option<u64>
-    requires { at ≤ length rq.now }
-    ensures { result ≡ optional (may (fields_from field_count map rq.now at) bit) }
-{
-    if bit >= format::field::FIELDS {
-        return None;
-    }
-    word_of(rq, map >> bit, at + below(map, bit))
-}
-
-// A field of the record at a place, by its bit.
-#[tactic(auto, unfolding(crate::specs::Place::fields_at), using(crate::specs::Fields::find_out))]
-pub fn find(rq: &[u64], at: usize, bit: u64) -> Option<u64>
-    ensures { result ≡ optional (may (fields_at rq.now at) bit) }
-{
-    let map = *rq.get(at)?;
-    field_in(rq, at + 1, map, bit)
-}
-
-// Whether a field stands.
-pub fn has(rq: &[u64], at: usize, bit: u64) -> bool
-    ensures { result ≡ is_some (may (fields_at rq.now at) bit) }
-{
-    find(rq, at, bit).is_some()
-}
-
-// A field's word; 0 where it does not stand.
-pub fn field(rq: &[u64], at: usize, bit: u64) -> u64
-    ensures { result ≡ must (fields_at rq.now at) bit }
-{
-    find(rq, at, bit).unwrap_or(0)
-}
-
-// A field's word by its bit, of the fields of a map that begin at a place; 0 where it does not stand.
-fn field_known(rq: &[u64], at: usize, map: u64, bit: u64) -> u64
-    requires { at ≤ length rq.now }
-    ensures { result ≡ must (fields_from field_count map rq.now at) bit }
-{
-    field_in(rq, at, map, bit).unwrap_or(0)
-}
-
-// Whether the record at a place has a map.
-#[tactic(auto, unfolding(crate::specs::Place::has_map))]
-fn has_map(rq: &[u64], at: usize, map: u64) -> bool
-    ensures { result ≡ has_map rq.now at map }
-{
-    at < rq.len() && rq[at] == map
-}
-
-// Fields of a record at a place, found one by one. A loop, since `map` of an array asks for a bound on `N`.
-#[tactic(auto, using(crate::specs::Counted::words_more))]
-fn fields_found<const N: usize>(rq: &[u64], at: usize, bits: [u64; N]) -> [u64; N]
-    ensures { result ≡ words_by (fields_at rq.now at) bits.entry }
-{
-    let mut words = bits;
-    for word in &mut words {
-        *word = field(rq, at, *word);
-    }
-    words
-}
-
-// Fields of a map, whose fields begin at a place.
-#[tactic(auto, using(crate::specs::Counted::words_more))]
-fn fields_known<const N: usize>(rq: &[u64], at: usize, map: u64, bits: [u64; N]) -> [u64; N]
-    requires { at ≤ length rq.now }
-    ensures { result ≡ words_by (fields_from field_count map rq.now at) bits.entry }
-{
-    let mut words = bits;
-    for word in &mut words {
-        *word = field_known(rq, at, map, *word);
-    }
-    words
-}
-
-// Fields of the record at a place by their bits, 0 for one that does not stand. Where the map is the op's `must` map, their places are known from
-// the op and the bits alone.
-#[tactic(auto, unfolding(crate::specs::Place::has_map, crate::specs::Place::fields_at))]
-pub fn read_fields<const N: usize>(rq: &[u64], at: usize, op: u64, bits: [u64; N]) -> [u64; N]
-    ensures { result ≡ words_by (fields_at rq.now at) bits.entry }
-{
-    let map = format::must(op);
-    if has_map(rq, at, map) {
-        return fields_known(rq, at + 1, map, bits);
-    }
-    fields_found(rq, at, bits)
-}
-
-// Three fields of the record at a place by their bits, as `read_fields` reads them; `field::NO_FIELD` names none.
-#[tactic(auto, unfolding(crate::specs::Place::three_at))]
-pub fn read_three(rq: &[u64], at: usize, op: u64, a: u64, b: u64, c: u64) -> Three
-    ensures { result ≡ three_at (fields_at rq.now at) a b c }
-{
-    let [a, b, c] = read_fields(rq, at, op, [a, b, c]);
-    Three { a, b, c }
-}
-
-// The place after the record at a place; a place past the end stays.
-#[tactic(auto, unfolding(crate::specs::Place::end_at), using(crate::specs::Counted::after_ones))]
-pub fn record_end(rq: &[u64], at: usize) -> usize
-    ensures { result ≡ end_at rq.now at }
-{
-    match rq.get(at) {
-        Some(map) => at + 1 + below(*map, format::field::FIELDS),
-        None => at,
-    }
-}
-
-// The place after `count` records in a row; a place past the end stays.
-#[tactic(auto, unfolding(crate::specs::Place::place_of), using(crate::specs::Laws::place_next, crate::specs::Lists::place_out))]
-pub fn records_end(rq: &[u64], at: usize, count: u64) -> usize
-    ensures { result ≡ place_of count rq.now at }
-{
-    let mut place = at;
-    for _i in 0..count {
-        if rq.len() <= place {
-            return place;
-        }
-        place = record_end(rq, place);
-    }
-    place
-}
-
-// The place after the request at a place, which is known to be well formed.
-#[tactic(auto, unfolding(crate::specs::Place::next_at))]
-pub fn next_request(rq: &[u64], at: usize) -> usize
-    ensures { result ≡ next_at rq.now at }
-{
-    let op = field(rq, at, format::field::FIELD_OP);
-    let end = record_end(rq, at);
-    if op == format::op::OP_PUBLISH || op == format::op::OP_PREPARE_TRANSFER {
-        return records_end(rq, end, field(rq, at, format::field::FIELD_COUNT));
-    }
-    end
 }
 
 // The map of the fields that do not take every word, bit 0 apart.
@@ -198,52 +62,87 @@ const NARROW: u64 = 1 << format::field::FIELD_FLAGS
     | 1 << format::field::FIELD_FORBIDDEN_OBJECT
     | 1 << format::field::FIELD_FORBIDDEN_KIND;
 
-// "too wide or a koid of 0": whether the field of a bit, where it stands, fits a kind.
-#[tactic(auto, unfolding(crate::specs::Place::fit_one))]
-fn fit_one(rq: &[u64], at: usize, map: u64, bit: u64, kind: FieldKind) -> bool
-    requires { at ≤ length rq.now }
-    ensures { result ≡ fit_one (kind_number kind) (may (fields_from field_count map rq.now at) bit) }
-{
-    field_in(rq, at, map, bit).is_none_or(|w| format::fits(kind, w))
-}
+impl<'a> FieldWords<'a> {
+    // The word at a place, where the lowest bit of a map stands.
+    fn word_of(self, map: u64, at: usize) -> Option<u64>
+        ensures { result ≡ optional (here (odd map) self.entry.words.now at) }
+    {
+        lowest(map).then(|| words::word(self.words, at))
+    }
 
-// Whether those fields fit that do not take every word, bit 0 apart, one after the other.
-#[tactic(auto, unfolding(crate::specs::Place::narrow_fit))]
-fn each_fits(rq: &[u64], at: usize, map: u64) -> bool
-    requires { at ≤ length rq.now }
-    ensures { result ≡ narrow_fit (fields_from field_count map rq.now at) }
-{
-    let fits = |bit: u64, kind: FieldKind| fit_one(rq, at, map, bit, kind);
-    fits(format::field::FIELD_FLAGS, FieldKind::Number32)
-        && fits(format::field::FIELD_KIND, FieldKind::Number32)
-        && fits(format::field::FIELD_KOID, FieldKind::Koid)
-        && fits(format::field::FIELD_ROUTE, FieldKind::Route)
-        && fits(format::field::FIELD_OFFERED_KIND, FieldKind::Number32)
-        && fits(format::field::FIELD_EXPECTED_KIND, FieldKind::Number32)
-        && fits(format::field::FIELD_FORBIDDEN_OBJECT, FieldKind::Koid)
-        && fits(format::field::FIELD_FORBIDDEN_KIND, FieldKind::Number32)
-}
+    // A field by its bit.
+    #[tactic(auto, using(crate::specs::Counted::may_at, crate::specs::Counted::may_past))]
+    fn find(self, bit: u64) -> Option<u64>
+        ensures { result ≡ optional (may (fields_from field_count self.entry.map self.entry.words.now self.entry.at) bit) }
+    {
+        if bit >= format::field::FIELDS {
+            return None;
+        }
+        self.word_of(self.map >> bit, self.at + below(self.map, bit))
+    }
 
-// Whether those fields fit that do not take every word, bit 0 apart: most maps have none of them.
-#[tactic(auto, using(crate::specs::Counted::none_narrow))]
-fn narrow_fit(rq: &[u64], at: usize, map: u64) -> bool
-    requires { at ≤ length rq.now }
-    ensures { result ≡ narrow_fit (fields_from field_count map rq.now at) }
-{
-    map & NARROW == 0 || each_fits(rq, at, map)
-}
+    // A field's word by its bit; 0 where it does not stand.
+    fn field(self, bit: u64) -> u64
+        ensures { result ≡ must (fields_from field_count self.entry.map self.entry.words.now self.entry.at) bit }
+    {
+        self.find(bit).unwrap_or(0)
+    }
 
-// "list ends inside a record"; "too wide or a koid of 0": the place after a record's fields, which begin at a place.
-#[tactic(auto, using(crate::specs::Counted::walk_is))]
-fn fields_end(rq: &[u64], at: usize, map: u64, first: FieldKind) -> Option<usize>
-    requires { at ≤ length rq.now }
-    ensures { result ≡ next_of (walk (kinds_of (kind_number first)) rq.now map at) }
-{
-    let count = below(map, format::field::FIELDS);
-    let fits = count <= rq.len() - at
-        && fit_one(rq, at, map, format::field::FIELD_OP, first)
-        && narrow_fit(rq, at, map);
-    fits.then_some(at + count)
+    // Fields by their bits, 0 for one that does not stand.
+    #[tactic(auto, using(crate::specs::Counted::words_more))]
+    fn fields<const N: usize>(self, bits: [u64; N]) -> [u64; N]
+        ensures { result ≡ words_by (fields_from field_count self.entry.map self.entry.words.now self.entry.at) bits.entry }
+    {
+        let mut words = bits;
+        for word in &mut words {
+            *word = self.field(*word);
+        }
+        words
+    }
+
+    // "too wide or a koid of 0": whether the field of a bit, where it stands, fits a kind.
+    #[tactic(auto, unfolding(crate::specs::Place::fit_one))]
+    fn fit_one(self, bit: u64, kind: FieldKind) -> bool
+        ensures { result ≡ fit_one (kind_number kind) (may (fields_from field_count self.entry.map self.entry.words.now self.entry.at) bit) }
+    {
+        self.find(bit).is_none_or(|w| format::fits(kind, w))
+    }
+
+    // Whether those fields fit that do not take every word, bit 0 apart, one after the other.
+    #[tactic(auto, unfolding(crate::specs::Place::narrow_fit))]
+    fn each_fits(self) -> bool
+        ensures { result ≡ narrow_fit (fields_from field_count self.entry.map self.entry.words.now self.entry.at) }
+    {
+        let fits = |bit: u64, kind: FieldKind| self.fit_one(bit, kind);
+        fits(format::field::FIELD_FLAGS, FieldKind::Number32)
+            && fits(format::field::FIELD_KIND, FieldKind::Number32)
+            && fits(format::field::FIELD_KOID, FieldKind::Koid)
+            && fits(format::field::FIELD_ROUTE, FieldKind::Route)
+            && fits(format::field::FIELD_OFFERED_KIND, FieldKind::Number32)
+            && fits(format::field::FIELD_EXPECTED_KIND, FieldKind::Number32)
+            && fits(format::field::FIELD_FORBIDDEN_OBJECT, FieldKind::Koid)
+            && fits(format::field::FIELD_FORBIDDEN_KIND, FieldKind::Number32)
+    }
+
+    // Whether those fields fit that do not take every word, bit 0 apart: most maps have none of them.
+    #[tactic(auto, using(crate::specs::Counted::none_narrow))]
+    fn narrow_fit(self) -> bool
+        ensures { result ≡ narrow_fit (fields_from field_count self.entry.map self.entry.words.now self.entry.at) }
+    {
+        self.map & NARROW == 0 || self.each_fits()
+    }
+
+    // "list ends inside a record"; "too wide or a koid of 0": the place after the fields; `first` is the kind of bit 0's word.
+    #[tactic(auto, using(crate::specs::Counted::walk_is))]
+    fn end(self, first: FieldKind) -> Option<usize>
+        ensures { result ≡ next_of (walk (kinds_of (kind_number first)) self.entry.words.now self.entry.map self.entry.at) }
+    {
+        let count = below(self.map, format::field::FIELDS);
+        let fits = count <= self.words.len() - self.at
+            && self.fit_one(format::field::FIELD_OP, first)
+            && self.narrow_fit();
+        fits.then_some(self.at + count)
+    }
 }
 
 // "Bit 0 .. always stands"; "field missing, extra".
@@ -254,74 +153,178 @@ fn map_ok(map: u64, must: u64, allowed: u64) -> bool
     lowest(map) && covers(map, must) && covers(allowed, map)
 }
 
-// Checks the record at a place, which must carry the fields `must` and no others than `allowed`; `first` is the kind of bit 0's word.
-#[tactic(auto, unfolding(crate::specs::Place::record_end))]
-pub fn record_ok(rq: &[u64], at: usize, first: FieldKind, must: u64, allowed: u64) -> Option<usize>
-    ensures { result ≡ next_of (record_end (kind_number first) must allowed rq.now at) }
-{
-    let map = *rq.get(at)?;
-    if !map_ok(map, must, allowed) {
-        return None;
+impl<'a> Record<'a> {
+    // A field by its bit.
+    #[tactic(auto, unfolding(crate::specs::Place::fields_at), using(crate::specs::Fields::find_out))]
+    pub fn find(&self, bit: u64) -> Option<u64>
+        ensures { result ≡ optional (may (fields_of self.now) bit) }
+    {
+        let map = *self.words.get(self.at)?;
+        let fields = FieldWords {
+            words: self.words,
+            at: self.at + 1,
+            map,
+        };
+        fields.find(bit)
     }
-    fields_end(rq, at + 1, map, first)
-}
 
-// Checks `count` records in a row; it stops where the list ends.
-#[tactic(auto, unfolding(crate::specs::Place::many_end), using(crate::specs::Lists::many_more, crate::specs::Lists::many_stops))]
-pub fn records_ok(
-    rq: &[u64],
-    at: usize,
-    count: u64,
-    first: FieldKind,
-    must: u64,
-    allowed: u64,
-) -> Option<usize>
-    ensures { result ≡ next_of (many_end (kind_number first) must allowed count rq.now at) }
-{
-    let mut place = at;
-    for _i in 0..count {
-        place = record_ok(rq, place, first, must, allowed)?;
+    // Whether a field stands.
+    pub fn has(&self, bit: u64) -> bool
+        ensures { result ≡ is_some (may (fields_of self.now) bit) }
+    {
+        self.find(bit).is_some()
     }
-    Some(place)
-}
 
-// "A transfer's items, or a publish's parcels, follow as records of their own, as many as its count field says".
-#[tactic(auto, unfolding(crate::specs::Place::items_end))]
-fn items_ok(rq: &[u64], at: usize, op: u64, count: u64) -> Option<usize>
-    ensures { result ≡ next_of (items_end op count rq.now at) }
-{
-    match op {
-        format::op::OP_PUBLISH => records_ok(
-            rq,
-            at,
-            count,
-            FieldKind::Zero,
-            format::maps::PARCEL_ITEM_MUST,
-            format::maps::PARCEL_ITEM_MUST + format::maps::PARCEL_ITEM_MAY,
-        ),
-        format::op::OP_PREPARE_TRANSFER => records_ok(
-            rq,
-            at,
-            count,
-            FieldKind::Operation,
-            format::maps::TRANSFER_ITEM_MUST,
-            format::maps::TRANSFER_ITEM_MUST + format::maps::TRANSFER_ITEM_MAY,
-        ),
-        _ => Some(at),
+    // A field's word; 0 where it does not stand.
+    pub fn field(&self, bit: u64) -> u64
+        ensures { result ≡ must (fields_of self.now) bit }
+    {
+        self.find(bit).unwrap_or(0)
     }
-}
 
-// Checks the request at a place, with its items, and gives the place after it.
-#[tactic(auto, using(crate::specs::Lists::request_bad, crate::specs::Lists::request_goes, format::proofs::Laws::must_below, format::proofs::Laws::may_below))]
-pub fn request_ok(rq: &[u64], at: usize) -> Option<usize>
-    ensures { result ≡ placed rq.now (read_request (drop at rq.now)) }
-{
-    let op = field(rq, at, format::field::FIELD_OP);
-    let must = format::must(op);
-    let may = format::may(op);
-    let end = record_ok(rq, at, FieldKind::Op, must, must + may)?;
-    let count = field(rq, at, format::field::FIELD_COUNT);
-    items_ok(rq, end, op, count)
+    // Whether it has that map.
+    #[tactic(auto, unfolding(crate::specs::Place::has_map))]
+    pub fn has_map(&self, map: u64) -> bool
+        ensures { result ≡ has_map self.now.words.now self.now.at map }
+    {
+        self.at < self.words.len() && self.words[self.at] == map
+    }
+
+    // Fields found one by one. A loop, since `map` of an array asks for a bound on `N`.
+    #[cold]
+    #[inline(never)]
+    #[tactic(auto, using(crate::specs::Counted::words_more))]
+    fn fields_found<const N: usize>(&self, bits: [u64; N]) -> [u64; N]
+        ensures { result ≡ words_by (fields_of self.now) bits.entry }
+    {
+        let mut words = bits;
+        for word in &mut words {
+            *word = self.field(*word);
+        }
+        words
+    }
+
+    // Fields by their bits, 0 for one that does not stand. Where the map is the op's `must` map, their places are known from the op and the bits alone.
+    #[inline(always)]
+    #[tactic(auto, unfolding(crate::specs::Place::has_map, crate::specs::Place::fields_at))]
+    pub fn fields<const N: usize>(&self, op: u64, bits: [u64; N]) -> [u64; N]
+        ensures { result ≡ words_by (fields_of self.now) bits.entry }
+    {
+        let map = format::must(op);
+        if self.has_map(map) {
+            let known = FieldWords {
+                words: self.words,
+                at: self.at + 1,
+                map,
+            };
+            return known.fields(bits);
+        }
+        self.fields_found(bits)
+    }
+
+    // The place after it; a place past the end stays.
+    #[tactic(auto, unfolding(crate::specs::Place::end_at), using(crate::specs::Counted::after_ones))]
+    pub fn end(&self) -> usize
+        ensures { result ≡ end_at self.now.words.now self.now.at }
+    {
+        match self.words.get(self.at) {
+            Some(map) => self.at + 1 + below(*map, format::field::FIELDS),
+            None => self.at,
+        }
+    }
+
+    // The place after it and the records that follow, `count` in all; a place past the end stays.
+    #[tactic(auto, unfolding(crate::specs::Place::place_of), using(crate::specs::Laws::place_next, crate::specs::Lists::place_out))]
+    pub fn records_end(&self, count: u64) -> usize
+        ensures { result ≡ place_of count self.now.words.now self.now.at }
+    {
+        let mut record = *self;
+        for _i in 0..count {
+            if record.words.len() <= record.at {
+                return record.at;
+            }
+            record.at = record.end();
+        }
+        record.at
+    }
+
+    // The place after the request, which is known to be well formed.
+    #[tactic(auto, unfolding(crate::specs::Place::next_at))]
+    pub fn next_request(&self) -> usize
+        ensures { result ≡ next_at self.now.words.now self.now.at }
+    {
+        let op = self.field(format::field::FIELD_OP);
+        let end = self.end();
+        if op == format::op::OP_PUBLISH || op == format::op::OP_PREPARE_TRANSFER {
+            let items = Record { at: end, ..*self };
+            return items.records_end(self.field(format::field::FIELD_COUNT));
+        }
+        end
+    }
+
+    // Checks the record, which must carry the fields `must` and no others than `allowed`; `first` is the kind of bit 0's word.
+    #[tactic(auto, unfolding(crate::specs::Place::record_end))]
+    pub fn record_ok(&self, first: FieldKind, must: u64, allowed: u64) -> Option<usize>
+        ensures { result ≡ next_of (record_end (kind_number first) must allowed self.now.words.now self.now.at) }
+    {
+        let map = *self.words.get(self.at)?;
+        if !map_ok(map, must, allowed) {
+            return None;
+        }
+        let fields = FieldWords {
+            words: self.words,
+            at: self.at + 1,
+            map,
+        };
+        fields.end(first)
+    }
+
+    // Checks `count` records in a row, of which it is the first; it stops where the list ends.
+    #[tactic(auto, unfolding(crate::specs::Place::many_end), using(crate::specs::Lists::many_more, crate::specs::Lists::many_stops))]
+    pub fn records_ok(&self, count: u64, first: FieldKind, must: u64, allowed: u64) -> Option<usize>
+        ensures { result ≡ next_of (many_end (kind_number first) must allowed count self.now.words.now self.now.at) }
+    {
+        let mut record = *self;
+        for _i in 0..count {
+            record.at = record.record_ok(first, must, allowed)?;
+        }
+        Some(record.at)
+    }
+
+    // "A transfer's items, or a publish's parcels, follow as records of their own, as many as its count field says": those of an op, of which it is the first.
+    #[tactic(auto, unfolding(crate::specs::Place::items_end))]
+    fn items_ok(&self, op: u64, count: u64) -> Option<usize>
+        ensures { result ≡ next_of (items_end op count self.now.words.now self.now.at) }
+    {
+        match op {
+            format::op::OP_PUBLISH => self.records_ok(
+                count,
+                FieldKind::Zero,
+                format::maps::PARCEL_ITEM_MUST,
+                format::maps::PARCEL_ITEM_MUST + format::maps::PARCEL_ITEM_MAY,
+            ),
+            format::op::OP_PREPARE_TRANSFER => self.records_ok(
+                count,
+                FieldKind::Operation,
+                format::maps::TRANSFER_ITEM_MUST,
+                format::maps::TRANSFER_ITEM_MUST + format::maps::TRANSFER_ITEM_MAY,
+            ),
+            _ => Some(self.at),
+        }
+    }
+
+    // Checks the request, with its items, and gives the place after it.
+    #[tactic(auto, using(crate::specs::Lists::request_bad, crate::specs::Lists::request_goes, format::proofs::Laws::must_below, format::proofs::Laws::may_below))]
+    pub fn request_ok(&self) -> Option<usize>
+        ensures { result ≡ placed self.now.words.now (read_request (drop self.now.at self.now.words.now)) }
+    {
+        let op = self.field(format::field::FIELD_OP);
+        let must = format::must(op);
+        let may = format::may(op);
+        let end = self.record_ok(FieldKind::Op, must, must + may)?;
+        let count = self.field(format::field::FIELD_COUNT);
+        Record { at: end, ..*self }.items_ok(op, count)
+    }
 }
 
 // "Order: .. list 19": how many requests a list has. "An empty list is accepted."
@@ -329,11 +332,11 @@ pub fn request_ok(rq: &[u64], at: usize) -> Option<usize>
 pub fn list_ok(rq: &[u64]) -> Option<u64>
     ensures { result ≡ listed (read_list rq.now) }
 {
-    let mut place: usize = 0;
+    let mut record = Record { words: rq, at: 0 };
     let mut count: u64 = 0;
     // A `while`: it goes from place to place, and no range or iterator has these places.
-    while place < rq.len() {
-        place = request_ok(rq, place)?;
+    while record.at < rq.len() {
+        record.at = record.request_ok()?;
         count += 1;
     }
     Some(count)
@@ -369,4 +372,36 @@ pub fn clear_answer(out: &mut [u64], base: usize)
     } else {
         out[base..base + format::size::ANSWER_PLACES].fill(0);
     }
+}
+
+// To go when no crate calls them.
+pub fn find(rq: &[u64], at: usize, bit: u64) -> Option<u64>
+    ensures { result ≡ optional (may (fields_at rq.now at) bit) }
+{
+    Record { words: rq, at }.find(bit)
+}
+
+pub fn field(rq: &[u64], at: usize, bit: u64) -> u64
+    ensures { result ≡ must (fields_at rq.now at) bit }
+{
+    Record { words: rq, at }.field(bit)
+}
+
+#[inline]
+pub fn read_fields<const N: usize>(rq: &[u64], at: usize, op: u64, bits: [u64; N]) -> [u64; N]
+    ensures { result ≡ words_by (fields_at rq.now at) bits.entry }
+{
+    Record { words: rq, at }.fields(op, bits)
+}
+
+pub fn record_end(rq: &[u64], at: usize) -> usize
+    ensures { result ≡ end_at rq.now at }
+{
+    Record { words: rq, at }.end()
+}
+
+pub fn next_request(rq: &[u64], at: usize) -> usize
+    ensures { result ≡ next_at rq.now at }
+{
+    Record { words: rq, at }.next_request()
 }

@@ -13,13 +13,14 @@ ghost use Rattle.answer.specs.Does.{Both, both, answered};
 ghost use Rattle.format.specs.Refusals.{number_of};
 ghost use Rattle.reserve.specs.Ops.{batch_refusal, room_refusal, listed_w, list_w, taken_w, batch_w, values_at, batch_words, slots_r, open_r, room_r, checked_r, reserve_r};
 ghost use Rattle.format.specs.Fields.{table_field, count_field};
-ghost use Rattle.request.specs.Place.{field_of};
+ghost use Rattle.request.specs.Place.{word_of};
 
 use codec::HandleCodec;
 use format::field::{FIELD_COUNT, FIELD_TABLE};
 use format::op;
 use format::refusal::Refusal;
 use layout::{Shape, field, size, value};
+use request::Record;
 
 // "Reserve: 16, 17, 13", for n slots in table b.
 #[tactic(auto, unfolding(crate::specs::Ops::batch_refusal))]
@@ -164,9 +165,9 @@ pub fn reserve(s: &mut [u64], sh: Shape, b: u64, n: u64, out: &mut [u64], base: 
 }
 
 // The request of a list at a place: its fields are read.
-pub fn serve_reserve(s: &mut [u64], sh: Shape, rq: &[u64], at: usize, out: &mut [u64], base: usize)
-    ensures { both s.new out.new ≡ reserve_r s.old out.old sh base (field_of rq.now at table_field) (field_of rq.now at count_field) }
+pub fn serve_reserve(s: &mut [u64], sh: Shape, rq: &Record, out: &mut [u64], base: usize)
+    ensures { both s.new out.new ≡ reserve_r s.old out.old sh base (word_of rq.now table_field) (word_of rq.now count_field) }
 {
-    let [table, count] = request::read_fields(rq, at, op::OP_RESERVE, [FIELD_TABLE, FIELD_COUNT]);
+    let [table, count] = rq.fields(op::OP_RESERVE, [FIELD_TABLE, FIELD_COUNT]);
     reserve(s, sh, table, count, out, base);
 }

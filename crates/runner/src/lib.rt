@@ -18,14 +18,16 @@ ghost use Rattle.format.specs.Refusals.{number_of};
 use format::field;
 use format::refusal::{self, Refusal};
 use layout::Shape;
+use request::Record;
 
 // The request at a place, whose answer's 72 words begin at a base.
 fn run_one(s: &mut [u64], sh: Shape, rq: &[u64], at: usize, out: &mut [u64], base: usize)
     ensures { both s.new out.new ≡ one_r s.old (cleared out.old base answer_words) sh rq.now at base }
 {
     request::clear_answer(out, base);
-    let op = request::field(rq, at, field::FIELD_OP);
-    serve::serve(s, sh, rq, at, op, out, base);
+    let rq = Record { words: rq, at };
+    let op = rq.field(field::FIELD_OP);
+    serve::serve(s, sh, &rq, op, out, base);
 }
 
 // "Then every request runs; a refused one does not stop the next": n requests, for whose answers there are words enough.

@@ -13,11 +13,14 @@ ghost use Rattle.book.specs.Ops.{place_of};
 ghost use Rattle.answer.specs.Does.{both, reply, no_words, Gives};
 ghost use Rattle.teardown.specs.Ops.{found_in, next_link, remove_w, life_w, opens_at, open_in, tearing, removed_list, closed_list, stopped_r, stopping_r, teardown_start_r, torn_r, teardown_step_r, teardown_finish_r};
 ghost use Rattle.format.specs.Fields.{table_field, cursor_field};
-ghost use Rattle.request.specs.Place.{field_of};
+ghost use Rattle.request.specs.Place.{word_of};
 
+use format::field::{FIELD_CURSOR, FIELD_TABLE};
+use format::op;
 use format::refusal::Refusal;
 use layout::{Shape, field, size, value};
 use lookup::{HandleInfo, SnapshotEntry};
+use request::Record;
 
 // What a turn of `remove_stopping_owner` removed, if anything, and the cursor as left.
 #[derive(Clone, Copy)]
@@ -204,26 +207,17 @@ pub fn finish_teardown(s: &mut [u64], sh: Shape, b: u64) -> Result<(), Refusal>
 }
 
 // The request of a list at a place: its fields are read.
-#[tactic(auto, unfolding(request::specs::Place::three_at))]
 pub fn serve_remove_stopping_owner(
     s: &mut [u64],
     sh: Shape,
-    rq: &[u64],
-    at: usize,
+    rq: &Record,
     out: &mut [u64],
     base: usize,
 )
-    ensures { both s.new out.new ≡ stopping_r s.old out.old sh base (field_of rq.now at table_field) (field_of rq.now at cursor_field) }
+    ensures { both s.new out.new ≡ stopping_r s.old out.old sh base (word_of rq.now table_field) (word_of rq.now cursor_field) }
 {
-    let f = request::read_three(
-        rq,
-        at,
-        format::op::OP_REMOVE_STOPPING_OWNER,
-        format::field::FIELD_TABLE,
-        format::field::FIELD_CURSOR,
-        format::field::NO_FIELD,
-    );
-    match remove_stopping_owner(s, sh, f.a, f.b) {
+    let [table, cursor] = rq.fields(op::OP_REMOVE_STOPPING_OWNER, [FIELD_TABLE, FIELD_CURSOR]);
+    match remove_stopping_owner(s, sh, table, cursor) {
         Ok(
             Removed {
                 entry: Some(x),
@@ -252,31 +246,17 @@ pub fn serve_remove_stopping_owner(
     }
 }
 
-pub fn serve_teardown_start(
-    s: &mut [u64],
-    sh: Shape,
-    rq: &[u64],
-    at: usize,
-    out: &mut [u64],
-    base: usize,
-)
-    ensures { both s.new out.new ≡ teardown_start_r s.old out.old sh base (field_of rq.now at table_field) }
+pub fn serve_teardown_start(s: &mut [u64], sh: Shape, rq: &Record, out: &mut [u64], base: usize)
+    ensures { both s.new out.new ≡ teardown_start_r s.old out.old sh base (word_of rq.now table_field) }
 {
-    let table = request::field(rq, at, format::field::FIELD_TABLE);
+    let table = rq.field(FIELD_TABLE);
     answer::outcome(out, base, begin_teardown(s, sh, table));
 }
 
-pub fn serve_teardown_step(
-    s: &mut [u64],
-    sh: Shape,
-    rq: &[u64],
-    at: usize,
-    out: &mut [u64],
-    base: usize,
-)
-    ensures { both s.new out.new ≡ teardown_step_r s.old out.old sh base (field_of rq.now at table_field) }
+pub fn serve_teardown_step(s: &mut [u64], sh: Shape, rq: &Record, out: &mut [u64], base: usize)
+    ensures { both s.new out.new ≡ teardown_step_r s.old out.old sh base (word_of rq.now table_field) }
 {
-    let table = request::field(rq, at, format::field::FIELD_TABLE);
+    let table = rq.field(FIELD_TABLE);
     match remove_next(s, sh, table) {
         Ok(Some(info)) => answer::say(
             out,
@@ -288,16 +268,9 @@ pub fn serve_teardown_step(
     }
 }
 
-pub fn serve_teardown_finish(
-    s: &mut [u64],
-    sh: Shape,
-    rq: &[u64],
-    at: usize,
-    out: &mut [u64],
-    base: usize,
-)
-    ensures { both s.new out.new ≡ teardown_finish_r s.old out.old sh base (field_of rq.now at table_field) }
+pub fn serve_teardown_finish(s: &mut [u64], sh: Shape, rq: &Record, out: &mut [u64], base: usize)
+    ensures { both s.new out.new ≡ teardown_finish_r s.old out.old sh base (word_of rq.now table_field) }
 {
-    let table = request::field(rq, at, format::field::FIELD_TABLE);
+    let table = rq.field(FIELD_TABLE);
     answer::outcome(out, base, finish_teardown(s, sh, table));
 }
