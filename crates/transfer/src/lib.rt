@@ -203,7 +203,8 @@ fn read_rules(rq: &[u64], at: usize) -> TransferRules
 }
 
 // Whether the item whose record stands at a place has no optional field: its words are read where they stand, which `request::field` would
-// count anew from the map for each field. 64 items that are read so take 52,800 instructions with their rollback, and 71,300 by `any_item`.
+// count anew from the map for each field. 64 such items take 52,800 instructions with their rollback, 64 with one
+// optional field, which `any_item` reads, 71,300.
 #[tactic(auto, unfolding(request::specs::Place::has_map))]
 fn is_plain(rq: &[u64], at: usize) -> bool
     ensures { result ≡ has_map rq.now at transfer_item_must }
@@ -268,6 +269,7 @@ impl<'a> Iterator for TransferItems<'a> {
 
     ghost remaining = { λ s. at_most s.count };
 
+    // Compiled in place: a call would hand each item over in memory.
     #[inline(always)]
     #[tactic(auto, unfolding(crate::specs::Checks::items_at, request::specs::Place::places_from), using(crate::specs::Plain::plain_there, crate::specs::Plain::plain_end))]
     fn next(&mut self) -> Option<HandleTransferRequest> {
