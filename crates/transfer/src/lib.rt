@@ -203,7 +203,8 @@ fn read_rules(rq: &[u64], at: usize) -> TransferRules
 }
 
 // Whether the item whose record stands at a place has no optional field: its words are read where they stand, which `request::field` would
-// count anew from the map for each field. 64 items that are read so take 53,800 instructions with their rollback, and 72,400 by `any_item`.
+// count anew from the map for each field. 64 such items take 52,800 instructions with their rollback, 64 with one
+// optional field, which `any_item` reads, 71,300.
 #[tactic(auto, unfolding(request::specs::Place::has_map))]
 fn is_plain(rq: &[u64], at: usize) -> bool
     ensures { result ≡ has_map rq.now at transfer_item_must }
@@ -268,6 +269,7 @@ impl<'a> Iterator for TransferItems<'a> {
 
     ghost remaining = { λ s. at_most s.count };
 
+    // Compiled in place: a call would hand each item over in memory.
     #[inline(always)]
     #[tactic(auto, unfolding(crate::specs::Checks::items_at, request::specs::Place::places_from), using(crate::specs::Plain::plain_there, crate::specs::Plain::plain_end))]
     fn next(&mut self) -> Option<HandleTransferRequest> {
@@ -453,7 +455,7 @@ fn check_item(
 }
 
 // "item by item": the first refusal of the items.
-#[tactic(auto, unfolding(crate::specs::Checks::items_refusal, crate::specs::Checks::earlier_at), using(crate::specs::Code::number_some, crate::specs::Code::items_none, crate::specs::Code::items_length, crate::specs::Code::turn_rest, crate::specs::Code::turn_earlier, crate::specs::Code::turn_item, crate::specs::Seen::seen_none, crate::specs::Seen::seen_turn))]
+#[tactic(auto, unfolding(crate::specs::Checks::items_refusal, crate::specs::Checks::earlier_at), using(crate::specs::Code::number_some, crate::specs::Code::items_none, crate::specs::Code::turn_rest, crate::specs::Code::turn_earlier, crate::specs::Code::turn_item, crate::specs::Seen::seen_none, crate::specs::Seen::seen_turn))]
 fn check_items(
     s: &[u64],
     sh: Shape,
@@ -463,11 +465,9 @@ fn check_items(
 ) -> Result<(), Refusal>
     ensures { number_of result ≡ items_refusal (loadAt s.now sh) b t.route (as_option t.forbidden_object) (as_option t.forbidden_kind) [] (items_left items.entry) }
 {
-    let mut before = items.first(0);
     let mut seen = SeenValues(0);
-    for q in items {
-        check_item(s, sh, before, seen, b, q, t)?;
-        before.count += 1;
+    for (i, q) in items.enumerate() {
+        check_item(s, sh, items.first(i as u64), seen, b, q, t)?;
         seen = seen.with(q.value.0);
     }
     Ok(())
@@ -518,17 +518,15 @@ fn lower_items(s: &mut [u64], sh: Shape, items: TransferItems, b: u64)
 }
 
 // Each copy's object gets one handle more, in order. Where one refuses, those before it are lowered again.
-#[tactic(auto, unfolding(crate::specs::Preparing::raised_items), using(crate::specs::Code::number_some, crate::specs::Code::items_none, crate::specs::Code::items_length, crate::specs::Code::turn_rest, crate::specs::Code::turn_items))]
+#[tactic(auto, unfolding(crate::specs::Preparing::raised_items), using(crate::specs::Code::number_some, crate::specs::Code::items_none, crate::specs::Code::turn_rest, crate::specs::Code::turn_items))]
 fn raise_items(s: &mut [u64], sh: Shape, items: TransferItems, b: u64) -> Result<(), Refusal>
     ensures { tried (number_of result) s.new ≡ raised_items s.old sh b [] (items_left items.entry) }
 {
-    let mut raised = items.first(0);
-    for q in items {
+    for (i, q) in items.enumerate() {
         if let Err(refusal) = raise_item(s, sh, b, q) {
-            lower_items(s, sh, raised, b);
+            lower_items(s, sh, items.first(i as u64), b);
             return Err(refusal);
         }
-        raised.count += 1;
     }
     Ok(())
 }
@@ -575,17 +573,14 @@ fn put_entry(s: &mut [u64], sh: Shape, b: u64, x: u64, j: u64, q: HandleTransfer
     }
 }
 
-// So for every item, in the row that opens next. Counted by hand, as in the loops above: the forms tried with `enumerate` took 60,100 to 67,300
-// instructions for 64 moves and their rollback, this one 53,800.
-#[tactic(auto, unfolding(crate::specs::Preparing::entries_w), using(crate::specs::Code::items_length))]
+// So for every item, in the row that opens next.
+#[tactic(auto, unfolding(crate::specs::Preparing::entries_w))]
 fn put_entries(s: &mut [u64], sh: Shape, items: TransferItems, b: u64)
     ensures words { s.new ≡ entries_w s.old sh b (spare (loadAt s.old sh)) 0 (items_left items.entry) }
 {
     let x = book::spare_place(s, sh);
-    let mut j: u64 = 0;
-    for q in items {
-        put_entry(s, sh, b, x, j, q);
-        j += 1;
+    for (j, q) in items.enumerate() {
+        put_entry(s, sh, b, x, j as u64, q);
     }
 }
 

@@ -1,15 +1,13 @@
-use Rattle.std.proofs.Common.{◌≡◌, ◌+◌, ◌++◌, [], length}
+use Rattle.std.proofs.Common.{◌≡◌, ◌++◌, []}
+use Rattle.std.specs.Iterator.Adapters.{enumerate_source, enumerate_count}
 use Rattle.layout.specs.Layout.{load}
-use Rattle.transfer.specs.Checks.{as_option, items_left, earlier_left, items_refusal}
+use Rattle.transfer.specs.Checks.{as_option, items_at, items_left, earlier_at, items_refusal}
 use Rattle.transfer.specs.Seen.{Seen}
 use Rattle.transfer.proofs.check_items.Given as goal
 
-abbrev pub invariant-loop-q : goal.invariant-loop-q
-invariant-loop-q l = record {
-  list : l.before.rq ≡ l.items.rq;
-  place : l.before.at ≡ l.items.at;
-  count : l.before.count + length (items_left l.q-iterator) ≡ l.items.count;
-  taken : items_left l.items ≡ items_left l.before ++ items_left l.q-iterator;
-  left : items_refusal (load l.s l.sh) l.b l.t.route (as_option l.t.forbidden_object) (as_option l.t.forbidden_kind) [] (items_left l.items) ≡ items_refusal (load l.s l.sh) l.b l.t.route (as_option l.t.forbidden_object) (as_option l.t.forbidden_kind) (earlier_left l.before) (items_left l.q-iterator);
-  seen : Seen l.before.rq.now l.before.at l.before.count l.seen.0;
+abbrev pub invariant-loop-i : goal.invariant-loop-i
+invariant-loop-i l = record {
+  taken : items_left l.items ≡ items_at l.items.rq.now l.items.at (enumerate_count l.i-iterator) ++ items_left (enumerate_source l.i-iterator);
+  left : items_refusal (load l.s l.sh) l.b l.t.route (as_option l.t.forbidden_object) (as_option l.t.forbidden_kind) [] (items_left l.items) ≡ items_refusal (load l.s l.sh) l.b l.t.route (as_option l.t.forbidden_object) (as_option l.t.forbidden_kind) (earlier_at l.items.rq.now l.items.at (enumerate_count l.i-iterator)) (items_left (enumerate_source l.i-iterator));
+  seen : Seen l.items.rq.now l.items.at (enumerate_count l.i-iterator) l.seen.0;
 }

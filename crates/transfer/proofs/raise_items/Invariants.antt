@@ -1,13 +1,11 @@
-use Rattle.std.proofs.Common.{◌≡◌, ◌+◌, ◌++◌, [], length}
-use Rattle.transfer.specs.Checks.{items_left}
+use Rattle.std.proofs.Common.{◌≡◌, ◌++◌, []}
+use Rattle.std.specs.Iterator.Adapters.{enumerate_source, enumerate_count}
+use Rattle.transfer.specs.Checks.{items_at, items_left}
 use Rattle.transfer.specs.Preparing.{raised_items}
 use Rattle.transfer.proofs.raise_items.Given as goal
 
-abbrev pub invariant-loop-q : goal.invariant-loop-q
-invariant-loop-q l = record {
-  list : l.raised.rq ≡ l.items.rq;
-  place : l.raised.at ≡ l.items.at;
-  count : l.raised.count + length (items_left l.q-iterator) ≡ l.items.count;
-  taken : items_left l.items ≡ items_left l.raised ++ items_left l.q-iterator;
-  left : raised_items l.fn.s l.sh l.b [] (items_left l.items) ≡ raised_items l.s l.sh l.b (items_left l.raised) (items_left l.q-iterator);
+abbrev pub invariant-loop-i : goal.invariant-loop-i
+invariant-loop-i l = record {
+  taken : items_left l.items ≡ items_at l.items.rq.now l.items.at (enumerate_count l.i-iterator) ++ items_left (enumerate_source l.i-iterator);
+  left : raised_items l.fn.s l.sh l.b [] (items_left l.items) ≡ raised_items l.s l.sh l.b (items_at l.items.rq.now l.items.at (enumerate_count l.i-iterator)) (items_left (enumerate_source l.i-iterator));
 }
