@@ -1,13 +1,13 @@
 -- What a turn of the code's loop does, and what its shape leaves room for. Assumes nothing.
 use Rattle.std.specs.Prelude.{◌≡◌, refl, Some, List, ℕ, ◌+◌, ◌-◌, ◌≤◌, ◌<◌, length, suc}
-use Rattle.std.proofs.Common.{sym, arith}
+use Rattle.std.proofs.Common.{arith}
 use Rattle.format.specs.Format.{answer_words}
 use Rattle.layout.specs.declared.Shape.{Shape}
 use Rattle.layout.specs.Layout.{total}
 use Rattle.layout.specs.ShapeOf.{shape_of, shape_found}
 use Rattle.request.specs.Place.{next_at}
 use Rattle.request.specs.Answers.{cleared}
-use Rattle.answer.specs.Does.{Both, both}
+use Rattle.answer.specs.Does.{both}
 use Rattle.contract.specs.Run.{One, list_r}
 
 -- request i of n, and those after it
