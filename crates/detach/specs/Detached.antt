@@ -1,7 +1,7 @@
 -- A page leaves the empty pages' order and is detached: the table as it is seen then is the model's. Assumes nothing.
 use Rattle.std.specs.Prelude.{◌≡◌, true, false, ◌&&◌, List, ℕ, zero, suc, ◌/◌, ◌%◌, ◌<◌, eqb, ltb}
 use Rattle.std.proofs.Math.Path.{refl, ap, fun_ext}
-use Rattle.std.proofs.Common.{sym, ◌∙◌, ⊎_elim, arith}
+use Rattle.std.proofs.Common.{sym, ◌∙◌, arith}
 use Rattle.std.proofs.Math.Bool.{and-false, and-true}
 use borrow.Author.Tests.{eqb-true, eq-eqb, ne_eqb, lt-ltb}
 use Rattle.words.specs.Pick.{pick, bool, clash, eqb_add}
@@ -18,7 +18,7 @@ use Rattle.layout.specs.Layout.{Mem, head, entry, upds}
 use Rattle.layout.specs.Fields.{head_epoch, head_pages, head_first_free, head_first_empty, head_first_detached, head_first_entry, entry_frame, entry_next, entry_previous, slot_next_free, slot_previous_free}
 use Rattle.layout.specs.Sizes.{page_size}
 use Rattle.representation.specs.Represents.{entry_at, word_in, frame_of}
-use Rattle.storage.specs.Order.{chain_frame, chain_without, next_in, prev_in, linked_frame}
+use Rattle.storage.specs.Order.{chain_frame, chain_out, chain_before, next_in, linked_frame}
 use Rattle.storage.specs.Sight.{Spot, Spot.hd, Spot.pg, Spot.sl, look}
 use Rattle.storage.specs.Slots.{slot_v, Seen, free_vacant}
 use Rattle.storage.specs.Ops.{up, leave_p}
@@ -39,10 +39,7 @@ leave_slots v p i f = refl
 module _ (m : Mem) (v : Spot → ℕ) (t : Table) (z : Seen m v t) (p : ℕ) (inside : 0 < occurs p t.empty) where
   -- the pages before and after it are of the order
   pub before_empty : (q : ℕ) → v (pg p entry_previous) ≡ suc q → 0 < occurs q t.empty
-  before_empty q e = ⊎_elim
-      (λ (y : v (pg p entry_previous) ≡ 0). absurd (omega arith))
-      (λ y. let d : q ≡ y.0 = omega (arith, y.1) in rw d y.2)
-      (prev_in (λ x. v (pg x entry_next)) (λ x. v (pg x entry_previous)) (v (hd head_first_empty)) 0 t.empty p z.empty inside)
+  before_empty q e = chain_before (λ x. v (pg x entry_next)) (λ x. v (pg x entry_previous)) (v (hd head_first_empty)) t.empty p q z.empty inside e
 
   pub after_empty : (q : ℕ) → v (pg p entry_next) ≡ suc q → 0 < occurs q t.empty
   after_empty q e = next_in (λ x. v (pg x entry_next)) (λ x. v (pg x entry_previous)) (v (hd head_first_empty)) 0 t.empty p q z.empty inside e
@@ -61,14 +58,7 @@ module _ (m : Mem) (v : Spot → ℕ) (t : Table) (z : Seen m v t) (p : ℕ) (in
     slots = z.slots;
     free = z.free;
     free_count = z.free_count;
-    empty = chain_without (λ x. v (pg x entry_next)) (λ x. v (pg x entry_previous)) _ _ p (v (hd head_first_empty)) _ t.empty (record {
-      next_at = λ q h e. rw (eq-eqb (v (pg p entry_previous)) (suc q) e);
-      next_off = λ q h e. rw (ne_eqb (v (pg p entry_previous)) (suc q) e);
-      prev_at = λ q h e. rw (eq-eqb (v (pg p entry_next)) (suc q) e);
-      prev_off = λ q h e. rw (ne_eqb (v (pg p entry_next)) (suc q) e);
-    }) z.empty inside
-        (λ e. rw (eq-eqb (v (pg p entry_previous)) 0 e))
-        (λ e. rw (ne_eqb (v (pg p entry_previous)) 0 e));
+    empty = chain_out (λ x. v (pg x entry_next)) (λ x. v (pg x entry_previous)) p (v (hd head_first_empty)) t.empty z.empty inside;
     detached = linked_frame (λ x. v (pg x entry_next)) _ (v (hd head_first_detached)) t.detached z.detached
         (λ q h. rw (ne_eqb (v (pg p entry_previous)) (suc q) (λ e. omega (arith, apart q (before_empty q e)))));
   }

@@ -2,8 +2,8 @@
 use Rattle.std.specs.Prelude.{◌≡◌, true, false, List, [], ◌∷◌, ℕ, suc, ◌+◌, ◌-◌, ◌/◌, ◌≤◌, ◌<◌, length, eqb}
 use Rattle.std.proofs.Math.Path.{refl}
 use Rattle.std.proofs.Math.Bool.{and-false}
-use Rattle.std.proofs.Common.{⊎_elim, arith}
-use borrow.Author.Tests.{eq-eqb, ne_eqb}
+use Rattle.std.proofs.Common.{arith}
+use borrow.Author.Tests.{ne_eqb}
 use Rattle.words.specs.Pick.{bool, clash}
 use Rattle.model.specs.Base.{occurs, without}
 use Rattle.model.specs.State.{Table, is_vacant}
@@ -13,7 +13,7 @@ use Rattle.layout.specs.Fields.{head_pages, head_first_free, head_free_slots, en
 use Rattle.layout.specs.Values.{tag_vacant}
 use Rattle.layout.specs.Sizes.{page_size}
 use Rattle.representation.specs.Represents.{tagged}
-use Rattle.storage.specs.Order.{chain_once, chain_without, next_in, prev_in}
+use Rattle.storage.specs.Order.{chain_once, chain_out, chain_before, next_in}
 use Rattle.storage.specs.Sight.{Spot, Spot.hd, Spot.pg, Spot.sl, Put, Put.to_head, Put.to_slot, puts}
 use Rattle.storage.specs.Slots.{frame_v, framed, slot_v, Seen, vacant_tag}
 use Rattle.detach.specs.Ops.{first_after}
@@ -41,10 +41,7 @@ module _ (m : Mem) (v : Spot → ℕ) (t : Table) (l : List ℕ) (z : Seen m v (
     (k : ℕ) (inside : 0 < occurs k l) where
   -- the slots before and after it are vacant
   pub before_vacant : (i : ℕ) → v (sl k slot_previous_free) ≡ suc i → is_vacant (t.slots i) ≡ true
-  before_vacant i e = vacants i (⊎_elim
-      (λ (y : v (sl k slot_previous_free) ≡ 0). absurd (omega arith))
-      (λ y. let d : i ≡ y.0 = omega (arith, y.1) in rw d y.2)
-      (prev_in (λ x. v (sl x slot_next_free)) (λ x. v (sl x slot_previous_free)) (v (hd head_first_free)) 0 l k z.free inside))
+  before_vacant i e = vacants i (chain_before (λ x. v (sl x slot_next_free)) (λ x. v (sl x slot_previous_free)) (v (hd head_first_free)) l k i z.free inside e)
 
   pub after_vacant : (i : ℕ) → v (sl k slot_next_free) ≡ suc i → is_vacant (t.slots i) ≡ true
   after_vacant i e = vacants i (next_in (λ x. v (sl x slot_next_free)) (λ x. v (sl x slot_previous_free)) (v (hd head_first_free)) 0 l k i z.free inside e)
@@ -86,14 +83,7 @@ module _ (m : Mem) (v : Spot → ℕ) (t : Table) (l : List ℕ) (z : Seen m v (
     high = z.high;
     busy = z.busy;
     slots = unlink_slots;
-    free = chain_without (λ x. v (sl x slot_next_free)) (λ x. v (sl x slot_previous_free)) _ _ k (v (hd head_first_free)) _ l (record {
-      next_at = λ i n e. rw (eq-eqb (v (sl k slot_previous_free)) (suc i) e);
-      next_off = λ i n e. rw (ne_eqb (v (sl k slot_previous_free)) (suc i) e);
-      prev_at = λ i n e. rw (eq-eqb (v (sl k slot_next_free)) (suc i) e);
-      prev_off = λ i n e. rw (ne_eqb (v (sl k slot_next_free)) (suc i) e);
-    }) z.free inside
-        (λ e. rw (eq-eqb (v (sl k slot_previous_free)) 0 e))
-        (λ e. rw (ne_eqb (v (sl k slot_previous_free)) 0 e));
+    free = chain_out (λ x. v (sl x slot_next_free)) (λ x. v (sl x slot_previous_free)) k (v (hd head_first_free)) l z.free inside;
     free_count = let o = chain_once (λ x. v (sl x slot_next_free)) (λ x. v (sl x slot_previous_free)) (v (hd head_first_free)) 0 l z.free k in
         omega (arith, z.free_count, length_without k l o, o, inside);
     empty = z.empty;

@@ -3,6 +3,7 @@ use Rattle.std.specs.Prelude.{◌≡◌, refl, ◌⊎◌, Bool, true, false, Lis
 use Rattle.std.proofs.Common.{sym, ap, ◌∙◌, inl, inr, ⊎_elim, arith, eq-eqb, ne_eqb, eqb-true}
 use Rattle.std.proofs.Math.Nat.{suc_inj}
 use Rattle.std.proofs.lemmas.Bool.{eqb-false}
+use Rattle.words.specs.Pick.{pick}
 use Rattle.model.specs.Base.{bit, occurs, without, sum}
 use Rattle.representation.specs.Represents.{Chain, Linked}
 use Rattle.model.proofs.Sums.{without_none, sum_add}
@@ -215,6 +216,23 @@ pub chain_without : (next prev next' prev' : ℕ → ℕ) (x h h' : ℕ) (l : Li
 chain_without next prev next' prev' x h h' l u c i first other =
     let q = parts x l (omega (arith, chain_once next prev h 0 l c x)) in
     rw q.3 (chain_unlink next prev next' prev' x h 0 h' q.0 q.1 u (rw q.2 at c) (λ z e. absurd (omega arith)) first other)
+
+-- when x leaves, the number before it goes on with the next one, and that after it goes back to the previous one
+pub chain_out : (next prev : ℕ → ℕ) (x h : ℕ) (l : List ℕ) → Chain next prev h 0 l → 0 < occurs x l
+    → Chain (λ z. pick (eqb (prev x) (suc z)) (next x) (next z)) (λ z. pick (eqb (next x) (suc z)) (prev x) (prev z)) (pick (eqb (prev x) 0) (next x) h) 0 (without x l)
+chain_out next prev x h l c i = chain_without next prev _ _ x h _ l (record {
+  next_at = λ z n e. rw (eq-eqb (prev x) (suc z) e);
+  next_off = λ z n e. rw (ne_eqb (prev x) (suc z) e);
+  prev_at = λ z n e. rw (eq-eqb (next x) (suc z) e);
+  prev_off = λ z n e. rw (ne_eqb (next x) (suc z) e);
+}) c i (λ e. rw (eq-eqb (prev x) 0 e)) (λ e. rw (ne_eqb (prev x) 0 e))
+
+-- the number before x is one of the list
+pub chain_before : (next prev : ℕ → ℕ) (h : ℕ) (l : List ℕ) (x z : ℕ) → Chain next prev h 0 l → 0 < occurs x l → prev x ≡ suc z → 0 < occurs z l
+chain_before next prev h l x z c i e = ⊎_elim
+    (λ (y : prev x ≡ 0). absurd (omega arith))
+    (λ y. let d : z ≡ y.0 = omega (arith, y.1) in rw d y.2)
+    (prev_in next prev h 0 l x c i)
 
 -- ---- a list linked forward only
 

@@ -1,7 +1,7 @@
 -- A table whose first free slot is taken, as it is seen, is the model's. Assumes nothing.
 use Rattle.std.specs.Prelude.{◌≡◌, true, false, eqb, ltb}
 use Rattle.std.proofs.Math.Path.{refl, sym, ap}
-use Rattle.std.proofs.Common.{◌∙◌, ⊎_elim}
+use Rattle.std.proofs.Common.{◌∙◌}
 use mathlib.Core.List.{List, [], ◌∷◌}
 use Prim.Native.Nat.{ℕ, suc, ◌+◌, ◌/◌, ◌≤◌, ◌<◌}
 use native.Mathlib.Omega.{arith}
@@ -23,7 +23,7 @@ use Rattle.layout.specs.Fields.{head_first_free, head_free_slots, head_first_emp
 use Rattle.layout.specs.Values.{tag_vacant, tag_reserved}
 use Rattle.layout.specs.Sizes.{page_size}
 use Rattle.representation.specs.Represents.{link_of, tagged, Chain}
-use Rattle.storage.specs.Order.{occurs_head, chain_unlink, chain_without, next_in, prev_in, linked_frame}
+use Rattle.storage.specs.Order.{occurs_head, chain_unlink, chain_out, chain_before, next_in, linked_frame}
 use Rattle.storage.specs.Sight.{Spot, Spot.hd, Spot.pg, Spot.sl, puts}
 use Rattle.storage.specs.Slots.{frame_v, framed, slot_v, Seen, framed_is, slot_there, slot_gen, vacant_tag, free_vacant, empty_attached}
 use Rattle.storage.specs.Ops.{up, reserve_p, mark_p, leave_p}
@@ -187,10 +187,7 @@ module _ (m : Mem) (v : Spot → ℕ) (t : Table) (z : Seen m v t) (o : Sound ti
 
     -- the pages before and after it in the order
     pub before_in : (q : ℕ) → v (pg (k / page_size) entry_previous) ≡ suc q → 0 < occurs q t.empty
-    before_in q e = ⊎_elim
-        (λ (y : v (pg (k / page_size) entry_previous) ≡ 0). absurd (omega arith))
-        (λ y. let d : q ≡ y.0 = omega (arith, y.1) in rw d y.2)
-        (prev_in (λ p. v (pg p entry_next)) (λ p. v (pg p entry_previous)) (v (hd head_first_empty)) 0 t.empty (k / page_size) z.empty empty_in)
+    before_in q e = chain_before (λ p. v (pg p entry_next)) (λ p. v (pg p entry_previous)) (v (hd head_first_empty)) t.empty (k / page_size) q z.empty empty_in e
 
     pub after_in : (q : ℕ) → v (pg (k / page_size) entry_next) ≡ suc q → 0 < occurs q t.empty
     after_in q e = next_in (λ p. v (pg p entry_next)) (λ p. v (pg p entry_previous)) (v (hd head_first_empty)) 0 t.empty (k / page_size) q z.empty empty_in e
@@ -215,14 +212,7 @@ module _ (m : Mem) (v : Spot → ℕ) (t : Table) (z : Seen m v t) (o : Sound ti
       slots = taken_slots;
       free = taken_free;
       free_count = taken_count;
-      empty = rw idle (chain_without (λ p. v (pg p entry_next)) (λ p. v (pg p entry_previous)) _ _ (k / page_size) (v (hd head_first_empty)) _ t.empty (record {
-        next_at = λ q h e. rw (eq-eqb (v (pg (k / page_size) entry_previous)) (suc q) e);
-        next_off = λ q h e. rw (ne_eqb (v (pg (k / page_size) entry_previous)) (suc q) e);
-        prev_at = λ q h e. rw (eq-eqb (v (pg (k / page_size) entry_next)) (suc q) e);
-        prev_off = λ q h e. rw (ne_eqb (v (pg (k / page_size) entry_next)) (suc q) e);
-      }) z.empty empty_in
-          (λ e. rw (eq-eqb (v (pg (k / page_size) entry_previous)) 0 e))
-          (λ e. rw (ne_eqb (v (pg (k / page_size) entry_previous)) 0 e)));
+      empty = rw idle (chain_out (λ p. v (pg p entry_next)) (λ p. v (pg p entry_previous)) (k / page_size) (v (hd head_first_empty)) t.empty z.empty empty_in);
       detached = linked_frame (λ p. v (pg p entry_next)) _ (v (hd head_first_detached)) t.detached z.detached
           (λ q h. rw (ne_eqb (v (pg (k / page_size) entry_previous)) (suc q) (not_detached q h)));
     }
