@@ -53,7 +53,7 @@ counts = [
     (2, "load and store functions of one region each", found(r"(?m)^pub fn (?:put_)?(?:root|head|entry|owner|cell|object|index|rank|row|item)(?:_word)?\(", {n: t for n, t in code.items() if n.endswith("layout/src/lib.rt")})),
     (2, "functions `contains` of the kinds of rights", found(r"(?m)^ +pub fn contains\(|^ +fn contains\(")),
     (2, "functions that find the row of one kind", found(r"(?m)^(?:pub )?fn (?:kind|reservation|plan|claim|parcel)_of\(s: &\[u64\], sh: Shape, id")),
-    (3, "loops by `while`", found(r"\bwhile\b")),
+    (3, "loops by `while` or `loop`", found(r"\bwhile\b|\bloop \{")),
     (3, "loops by `for`", found(r"(?m)^ *for\b")),
     (4, "calls of functions that stand for an operator or a method of u64 (words::eq, ne, lt, le, inc, dec, left, larger, smaller)",
      found(r"\bwords::(?:eq|ne|lt|le|inc|dec|left|larger|smaller)\(")),

@@ -61,7 +61,7 @@ fn handle_ok(c: CellWords, bound: u64) -> bool
     c.object < bound && c.flags <= value::KNOWN_FLAGS
 }
 
-// A slot, on a page with that high mark. Most slots are occupied.
+// A slot, on a page with that high mark. Most slots are occupied. The generation's two tests stand as they are: `contains` of a range says the same, and no plainer.
 #[tactic(auto, unfolding(crate::specs::Checks::slot_c))]
 pub fn slot_ok(c: CellWords, bound: u64, high: u64) -> bool
     ensures { result ≡ slot_c bound high c }
