@@ -63,7 +63,6 @@ GROUPS = "free frames are counted in groups of 16, of 256 and of 4,096 (docs/for
 PARAMETERS = "creation's parameters: 4 words, 2 for each table, 6 for each object (docs/formats.md)"
 ANSWER = "the places of an answer's words (docs/formats.md, \"Answers\")"
 RECORD = "the words of a record whose map is known"
-NO_FRAME = "where there is no frame every word of a slot is 0, and the slot is absent"
 DOCUMENT_01 = "numbers of document 01, by name here"
 HALF = "half, or the lowest bit"
 BITS = "the bits of a word"
@@ -93,7 +92,6 @@ EXCUSED = [
     ("request/src/lib.rt", ["bit < 64"], BITS),
     ("reserve/src/lib.rt", ["answer_put(out, base, (j + 3) as usize, value.0)", "base 3 (values_at"], ANSWER),
     ("runner/src/lib.rt", ["called 20"], DOCUMENT_01),
-    ("lookup/src/lib.rt", ["tag: 0,"], NO_FRAME),
     ("lookup/src/lib.rt", ["const NO_ENTRY: SnapshotEntry = SnapshotEntry { value: HandleValue(0), info: HandleInfo { koid: Koid(0), kind: 0, rights: 0, flags: 0, }, };"], "the entry of no handle, whose words are all 0"),
     ("structure/src/lib.rt", ["(16 * size)", "{ size < 4096 }", "for i in 0..16 {", "(g as u32) * 16", "groups_ok(s, sh, 0, 16)", "sums_ok(s, sh, 0, 16)", "sums_ok(s, sh, 1, 256)"], GROUPS),
     ("transfer/src/lib.rt", ["words::word(rq, at + 2)", "words::word(rq, at + 3)", "self.at = at + 4;"], RECORD),
