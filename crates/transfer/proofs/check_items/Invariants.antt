@@ -7,7 +7,7 @@ use Rattle.transfer.proofs.check_items.Given as goal
 
 abbrev pub invariant-loop-i : goal.invariant-loop-i
 invariant-loop-i l = record {
-  taken : items_left l.items ≡ items_at l.items.rq.now l.items.at (enumerate_count l.i-iterator) ++ items_left (enumerate_source l.i-iterator);
-  left : items_refusal (load l.s l.sh) l.b l.t.route (as_option l.t.forbidden_object) (as_option l.t.forbidden_kind) [] (items_left l.items) ≡ items_refusal (load l.s l.sh) l.b l.t.route (as_option l.t.forbidden_object) (as_option l.t.forbidden_kind) (earlier_at l.items.rq.now l.items.at (enumerate_count l.i-iterator)) (items_left (enumerate_source l.i-iterator));
-  seen : Seen l.items.rq.now l.items.at (enumerate_count l.i-iterator) l.seen.0;
+  taken : items_left l.items ≡ items_at l.items.item.words.now l.items.item.at (enumerate_count l.i-iterator) ++ items_left (enumerate_source l.i-iterator);
+  left : items_refusal (load l.s l.sh) l.b l.t.route (as_option l.t.forbidden_object) (as_option l.t.forbidden_kind) [] (items_left l.items) ≡ items_refusal (load l.s l.sh) l.b l.t.route (as_option l.t.forbidden_object) (as_option l.t.forbidden_kind) (earlier_at l.items.item.words.now l.items.item.at (enumerate_count l.i-iterator)) (items_left (enumerate_source l.i-iterator));
+  seen : Seen l.items.item.words.now l.items.item.at (enumerate_count l.i-iterator) l.seen.0;
 }
