@@ -121,13 +121,6 @@ module _ {ℓ} {A : Type ℓ} where
   on_shape (Some sh) bad good = good sh
   on_shape None bad good = bad
 
-  -- for a caller's two arms: x is what `shape_of` gave
-  pub on_found : (ws : List ℕ) (bad : A) (good : Shape → A) (x : Option Shape) (sh : Shape) (r : A) → x ≡ shape_of ws → x ≡ Some sh → r ≡ good sh → r ≡ on_shape (shape_of ws) bad good
-  on_found ws bad good x sh r e q p = rw (sym e ∙ q) p
-
-  pub on_bad : (ws : List ℕ) (bad : A) (good : Shape → A) (x : Option Shape) (r : A) → x ≡ shape_of ws → x ≡ None → r ≡ bad → r ≡ on_shape (shape_of ws) bad good
-  on_bad ws bad good x r e q p = rw (sym e ∙ q) p
-
 -- ---- what the code's tests say
 
 -- the last test of `shape_of`: n words, and m needed

@@ -1,6 +1,6 @@
 -- The kernel's sizes as numbers, and how many slots a page has by its number. Assumes nothing.
 use Rattle.std.specs.Prelude.{◌≡◌, refl, ℕ, zero, suc, ◌*◌, ◌≤◌, ◌<◌}
-use Rattle.std.proofs.Common.{arith, mul-le-mul}
+use Rattle.std.proofs.Common.{arith}
 use Rattle.words.specs.Pick.{bool}
 use Rattle.model.specs.State.{Sizes, till, Slot, is_busy, max_slots, max_batch}
 use Rattle.model.specs.Storage.{slots_of, busy_in, busy_of}
@@ -26,10 +26,6 @@ slots_last p h = omega (arith, slots_max_law)
 
 pub slots_none : (p : ℕ) → 262143 < p → 0 ≡ slots_of till p
 slots_none p h = omega (arith, slots_max_law)
-
--- no group's first frame is large
-pub group_small : (g size : ℕ) → g < 65536 → size < 65536 → g * size < 4294967296
-group_small g size a b = let z : g * size ≤ 65535 * 65535 = mul-le-mul {n₁ = g} {m₁ = size} {n₂ = 65535} {m₂ = 65535} (omega arith) (omega arith) in omega arith
 
 busy_in_law : (f : ℕ → Slot) (k n : ℕ) → busy_in f k n ≤ n
 busy_in_law f k zero = omega arith

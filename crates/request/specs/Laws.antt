@@ -1,6 +1,5 @@
 -- What a caller that runs the requests of a list one after the other goes by.
 -- Assumes nothing.
-use Rattle.std.specs.Prelude.{Some, None}
 use Rattle.std.specs.Prelude.{◌≡◌, refl, Bool, true, false, List, [], ◌∷◌, ℕ, zero, suc, ◌+◌, ◌-◌, ◌≤◌, ◌<◌, length, get_or, drop, eqb}
 use Rattle.std.proofs.Common.{sym, ap, subst, ◌∙◌, arith, add-one}
 use Rattle.std.proofs.Math.Option.{Option, none, some}
@@ -10,21 +9,11 @@ use Rattle.format.specs.Fields.{an_op, an_operation, zero_word}
 use Rattle.model.specs.Base.{pick}
 use Rattle.model.specs.Request.{Request}
 use Rattle.model.specs.Words.{and_then, must, read_list}
-use Rattle.request.specs.Place.{listed, up_to, end_at, record_end, many_end, places_from, place_of, items_end, op_at, count_at, request_end, next_at, request_of, request_at}
+use Rattle.request.specs.Place.{up_to, end_at, record_end, many_end, places_from, place_of, items_end, op_at, count_at, request_end, next_at, request_of, request_at}
 use Rattle.request.specs.Fields.{Whole, record_whole, first_fits}
 use Rattle.request.specs.Lists.{known_op_law, place_later, request_ends, list_turn, list_end}
 
 -- Items by their places
-
-pub places_turn : (n : ℕ) (ws : List ℕ) (at : ℕ) → 0 < n → places_from n ws at ≡ at ∷ places_from (n - 1) ws (end_at ws at)
-unfolding places_from
-places_turn zero ws at h = absurd (omega arith)
-places_turn (suc n) ws at h = let e : suc n - 1 ≡ n = omega arith in rw e
-
-pub places_end : (n : ℕ) (ws : List ℕ) (at : ℕ) → n ≤ 0 → places_from n ws at ≡ []
-unfolding places_from
-places_end zero ws at h = refl
-places_end (suc n) ws at h = absurd (omega arith)
 
 pub places_length : (n : ℕ) (ws : List ℕ) (at : ℕ) → length (places_from n ws at) ≡ n
 unfolding places_from
@@ -117,17 +106,6 @@ request_whole ws at e p = go (record_end an_op (get_or musts (op_at ws at) 0) (g
           rises = ends.0;
           short = ends.1;
         }
-
--- Lists
-
--- what `list_ok` says: number 19 exactly if the list cannot be read, or how many requests it has
-pub list_bad : (x : Option (List Request)) → None ≡ listed x → x ≡ none
-list_bad none p = refl
-list_bad (some rs) p = cc
-
-pub list_counted : (x : Option (List Request)) (n : ℕ) → Some n ≡ listed x → (rs : List Request) × (x ≡ some rs) × (length rs ≡ n)
-list_counted none n p = let z : ◌≡◌ {A = ℕ} 0 1 = cc in absurd (omega arith)
-list_counted (some rs) n p = (rs, refl, cc)
 
 -- what is left of a list that is well formed begins with the request at its place; what follows begins at that request's end
 pub record Turn (ws : List ℕ) (at : ℕ) (rs : List Request) : Type 0 where
