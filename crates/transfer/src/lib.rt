@@ -236,6 +236,15 @@ fn plain_item(item: &Record) -> HandleTransferRequest
     }
 }
 
+// The place after such a record.
+#[tactic(auto, using(crate::specs::Plain::plain_there, crate::specs::Plain::plain_end))]
+fn plain_end(item: &Record) -> usize
+    requires { has_map item.now.words.now item.now.at transfer_item_must ≡ true }
+    ensures { result ≡ end_at item.now.words.now item.now.at }
+{
+    item.at + 4
+}
+
 // The items of a transfer: `count` records of the list, of which the first is given.
 #[derive(Clone, Copy)]
 struct TransferItems<'a> {
@@ -262,7 +271,7 @@ impl<'a> Iterator for TransferItems<'a> {
 
     // Compiled in place: a call would hand each item over in memory.
     #[inline(always)]
-    #[tactic(auto, unfolding(crate::specs::Checks::items_at, request::specs::Place::places_from), using(crate::specs::Plain::plain_there, crate::specs::Plain::plain_end))]
+    #[tactic(auto, unfolding(crate::specs::Checks::items_at, request::specs::Place::places_from))]
     fn next(&mut self) -> Option<HandleTransferRequest> {
         if self.count == 0 {
             return None;
@@ -270,7 +279,7 @@ impl<'a> Iterator for TransferItems<'a> {
         let item = self.item;
         self.count -= 1;
         if item.has_map(format::maps::TRANSFER_ITEM_MUST) {
-            self.item.at = item.at + 4;
+            self.item.at = plain_end(&item);
             return Some(plain_item(&item));
         }
         self.item.at = item.end();
