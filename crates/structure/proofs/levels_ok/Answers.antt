@@ -1,11 +1,8 @@
 use Rattle.std.proofs.Common.{◌∙◌, sym}
 use Rattle.words.specs.Pick.{clash}
-use Rattle.structure.specs.Code.{sixteens_are, hundreds_are}
+use Rattle.structure.specs.Code.{hundreds_are}
 use Rattle.structure.proofs.levels_ok.Goals.{then-groups_ok, else-groups_ok}
 use Rattle.structure.proofs.levels_ok.Goals as goal
-
-pub sums_ok-requires-clause-below : goal.sums_ok-requires-clause-below
-sums_ok-requires-clause-below c = sixteens_are c.args.s.now c.args.sh _ c.groups_ok.ensures c.if-groups_ok.true
 
 pub sums_ok-requires-then-sums_ok-clause-below : goal.sums_ok-requires-then-sums_ok-clause-below
 sums_ok-requires-then-sums_ok-clause-below c = elim c.if-groups_ok.branch [
