@@ -125,12 +125,12 @@ module _ (m : Mem) (F level size n : ℕ) where
 -- ---- a level by the one below
 
 -- every count of a level is right; past the level's end both are 0
-abbrev pub LevelIs : Mem → ℕ → ℕ → ℕ → Type 0
+unfoldable pub LevelIs : Mem → ℕ → ℕ → ℕ → Type 0
 LevelIs m F level size = (i : ℕ) → m (group level i) ≡ free_from m F (i * size) size
 
 -- where the first n are, and the others are 0 and past the last frame
 level_is : (m : Mem) (F level size n : ℕ) → groups_b m F level size n ≡ true → ((i : ℕ) → n ≤ i → (m (group level i) ≡ 0) × (F ≤ i * size)) → LevelIs m F level size
-unfolding groups_b
+unfolding groups_b LevelIs
 level_is m F level size n e past i = bool (ltb i n)
     (λ q. eqb-true (m (group level i)) (free_from m F (i * size) size) (all_at n (group_test m F level size n) e i (ltb-true i n q)))
     (λ q. let k = past i (ltb-false i n q) in k.0 ∙ free_end m F (i * size) size 0 0 (omega arith) (λ l. omega (arith, k.1)) refl)

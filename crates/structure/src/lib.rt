@@ -165,7 +165,7 @@ fn groups_ok(s: &[u64], sh: Shape, level: u8, size: u16) -> bool
 }
 
 // The free frames of 16 groups of a level, by their counts, from group `first` on.
-#[tactic(auto, using(crate::specs::Code::free_more, crate::specs::Code::free_small))]
+#[tactic(auto, using(crate::specs::Code::free_more, crate::specs::Code::free_small), unfolding(crate::specs::Code::LevelIs))]
 fn free_under(s: &[u64], sh: Shape, level: u8, size: u16, first: u32) -> u64
     requires { LevelIs (loadAt s.now sh) sh.frames level size }
     ensures { result ≡ free_from (loadAt s.now sh) sh.frames (first * size) (16 * size) }
