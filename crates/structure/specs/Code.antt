@@ -1,5 +1,5 @@
 -- What the code's tests and loops say. Assumes nothing.
-use Rattle.std.specs.Prelude.{Option, Some, None, ◌≡◌, refl, Bool, not, List, ℕ, zero, suc, ◌+◌, ◌-◌, ◌*◌, ◌≤◌, ◌<◌, eqb, ltb}
+use Rattle.std.specs.Prelude.{Option, Some, None, ◌≡◌, refl, Bool, not, List, ℕ, zero, suc, ◌+◌, ◌-◌, ◌*◌, ◌≤◌, ◌<◌, eqb, ltb, min}
 use Rattle.std.specs.Int.{div_ceil}
 use Rattle.std.proofs.Math.Path.{sym}
 use Rattle.std.proofs.Common.{ap, ◌∙◌, arith, add-one, add-mul}
@@ -12,11 +12,10 @@ use Rattle.model.proofs.Tests.{bit_small}
 use Rattle.model.proofs.Sums.{sum_equal}
 use Rattle.model.proofs.Counting.{sum_append}
 use Rattle.layout.specs.declared.Shape.{Shape}
-use Rattle.layout.specs.Layout.{Mem, Addr.reg, head, entry, group, in_no, load, load_out}
+use Rattle.layout.specs.Layout.{Mem, head, entry, group, in_no, load, load_out}
 use Rattle.layout.specs.Fields.{head_page_limit, head_pages, head_first_entry, entry_frame}
 use Rattle.layout.specs.Sizes.{pages_max}
-use Rattle.layout.specs.RegionNames.{region_group16}
-use Rattle.structure.specs.Facts.{limits_to, is_free, free_from, attached_in}
+use Rattle.structure.specs.Facts.{HeadIs, limits_to, is_free, free_from, attached_in}
 use Rattle.structure.specs.Checks.{head_b, entry_b, entries_b, span_b, spans_b, groups_b, head_is}
 
 -- a count plus 1, or 0 where the test failed
@@ -51,37 +50,44 @@ module _ (m : Mem) (sh : Shape) (e n : ℕ) where
   abbrev pub entry_test : ℕ → Bool
   entry_test p = entry_b m sh (e + p)
 
-  pub entries_stop : (p x : ℕ) → p < n → entry_test p ≡ false → 0 ≡ counted (entries_b m sh e n) x
+  pub entries_stop : (p x : ℕ) (t : Bool) → p < n → t ≡ entry_b m sh (e + p) → t ≡ false → 0 ≡ counted (entries_b m sh e n) x
   unfolding entries_b
-  entries_stop p x h q = counted_no (all n entry_test) x (all_stop n entry_test p h q)
+  entries_stop p x t h d q = counted_no (all n entry_test) x (all_stop n entry_test p h (sym d ∙ q))
 
 -- ---- tables
 
-pub size_small : (m : Mem) (b e n : ℕ) (r : Bool) → r ≡ head_b m b e → r ≡ true → n ≡ m (head b head_pages) → n ≤ pages_max
-size_small m b e n r q f en = let h = head_is m b e (sym q ∙ f) in omega (arith, h.size, h.few_limit)
+pub size_small : (m : Mem) (b e : ℕ) → head_b m b e ≡ true → m (head b head_pages) ≤ pages_max
+size_small m b e q = let h = head_is m b e q in omega (arith, h.size, h.few_limit)
 
 attached_small : (m : Mem) (e n : ℕ) → attached_in m e n ≤ n
 attached_small m e zero = omega arith
 attached_small m e (suc n) = omega (arith, attached_small m e n, bit_small (not (eqb (m (entry (e + n) entry_frame)) 0)))
 
 -- what a table's answer says
-pub record Tabled (m : Mem) (sh : Shape) (b c : ℕ) : Type 0 where
-  pub passes : span_b m sh b (limits_to m b) ≡ true
-  pub count : c ≡ attached_in m (m (head b head_first_entry)) (m (head b head_pages))
-  pub few : c ≤ pages_max
-  pub limits : m (head b head_page_limit) ≤ pages_max
+module _ (m : Mem) (sh : Shape) (b e c : ℕ) (r : Option ℕ) (er : r ≡ Some c) (ec : plus_one r ≡ counted (span_b m sh b e) (attached_in m e (m (head b head_pages)))) where
+  table_is : (span_b m sh b e ≡ true) × (attached_in m e (m (head b head_pages)) ≡ c)
+  table_is = let t = counted_is (span_b m sh b e) (attached_in m e (m (head b head_pages))) (suc c) (rw er at ec) (λ z. omega (arith, z)) in (t.0, omega (arith, t.1))
 
-pub tabled : (m : Mem) (sh : Shape) (b e c : ℕ) (r : Option ℕ) → e ≡ limits_to m b → r ≡ Some c → plus_one r ≡ counted (span_b m sh b e) (attached_in m e (m (head b head_pages))) → Tabled m sh b c
-unfolding span_b
-tabled m sh b e c r q er ec =
-    let t = counted_is (span_b m sh b e) (attached_in m e (m (head b head_pages))) (suc c) (rw er at ec) (λ z. omega (arith, z)) in
-    let k = head_is m b e (both (head_b m b e) _ t.0).0 in
-    record {
-      passes = rw (← q) t.0;
-      count = let z : c ≡ attached_in m e (m (head b head_pages)) = omega (arith, t.1) in z ∙ rw k.first;
-      few = omega (arith, t.1, attached_small m e (m (head b head_pages)), k.size, k.few_limit);
-      limits = omega (arith, k.few_limit);
-    }
+  pub table_passes : span_b m sh b e ≡ true
+  table_passes = table_is.0
+
+  pub table_count : attached_in m e (m (head b head_pages)) ≡ c
+  table_count = table_is.1
+
+-- and the table itself
+module _ (m : Mem) (sh : Shape) (b e : ℕ) (t : span_b m sh b e ≡ true) where
+  span_head : HeadIs m b e
+  unfolding span_b
+  span_head = head_is m b e (both (head_b m b e) _ t).0
+
+  pub span_first : m (head b head_first_entry) ≡ e
+  span_first = span_head.first
+
+  pub span_limit : m (head b head_page_limit) ≤ pages_max
+  span_limit = span_head.few_limit
+
+  pub span_few : attached_in m e (m (head b head_pages)) ≤ pages_max
+  span_few = let h = span_head in omega (arith, attached_small m e (m (head b head_pages)), h.size, h.few_limit)
 
 module _ (m : Mem) (sh : Shape) where
   abbrev pub table_test : ℕ → Bool
@@ -104,6 +110,10 @@ free_end m F a (suc n) j x h p e = bool (ltb j (suc n))
     rw (le-ltb (a + n) F (omega arith)) (omega arith))
     (λ q. let z : j ≡ suc n = omega (arith, ltb-false j (suc n) q) in rw z at e)
 
+-- the same of a loop over places: it ends at the last frame or at the end
+pub free_out : (m : Mem) (F a n f : ℕ) → a ≤ f → f ≤ a + n → min (a + n) F ≤ f → free_from m F a (f - a) ≡ free_from m F a n
+free_out m F a n f l h g = free_end m F a n (f - a) (free_from m F a (f - a)) (omega arith) (λ k. omega arith) refl
+
 pub free_small : (m : Mem) (F a n : ℕ) → free_from m F a n ≤ n
 free_small m F a zero = omega arith
 free_small m F a (suc n) = omega (arith, free_small m F a n, bit_small (is_free m F (a + n)))
@@ -115,12 +125,12 @@ module _ (m : Mem) (F level size n : ℕ) where
 -- ---- a level by the one below
 
 -- every count of a level is right; past the level's end both are 0
-abbrev pub LevelIs : Mem → ℕ → ℕ → ℕ → Type 0
+unfoldable pub LevelIs : Mem → ℕ → ℕ → ℕ → Type 0
 LevelIs m F level size = (i : ℕ) → m (group level i) ≡ free_from m F (i * size) size
 
 -- where the first n are, and the others are 0 and past the last frame
 level_is : (m : Mem) (F level size n : ℕ) → groups_b m F level size n ≡ true → ((i : ℕ) → n ≤ i → (m (group level i) ≡ 0) × (F ≤ i * size)) → LevelIs m F level size
-unfolding groups_b
+unfolding groups_b LevelIs
 level_is m F level size n e past i = bool (ltb i n)
     (λ q. eqb-true (m (group level i)) (free_from m F (i * size) size) (all_at n (group_test m F level size n) e i (ltb-true i n q)))
     (λ q. let k = past i (ltb-false i n q) in k.0 ∙ free_end m F (i * size) size 0 0 (omega arith) (λ l. omega (arith, k.1)) refl)
@@ -132,16 +142,12 @@ module _ (ws : List ℕ) (sh : Shape) where
   pub hundreds_are : (r : Bool) → r ≡ groups_b (load ws sh) sh.frames 1 256 (div_ceil sh.frames 256) → r ≡ true → LevelIs (load ws sh) sh.frames 1 256
   hundreds_are r q y = level_is (load ws sh) sh.frames 1 256 (div_ceil sh.frames 256) (sym q ∙ y) (λ i h. (load_out ws sh (group 1 i) (in_no sh (group 1 i) (λ k. omega (arith, k.xs))), omega arith))
 
-module _ (m : Mem) (F level size : ℕ) (is : LevelIs m F level size) where
-  -- one more group
-  pub under_more : (k first i x v y : ℕ) → k ≡ region_group16 + level → x ≡ free_from m F (first * size) (i * size) → v ≡ m (reg k (first + i) 0 0) → y ≡ x + v → y ≡ free_from m F (first * size) ((i + 1) * size)
-  under_more k first i x v y ek ex ev ey =
-      let a : ℕ = first * size in let b : ℕ = i * size in
-      let e : (i + 1) * size ≡ i * size + size = add-mul i 1 size ∙ omega arith in
-      let d : (first + i) * size ≡ first * size + i * size = add-mul first i size in
-      let w : v ≡ (sum size λ j. bit (is_free m F (first * size + (i * size + j)))) =
-      ev ∙ ap (λ (z : ℕ). m (reg z (first + i) 0 0)) ek ∙ is (first + i) ∙ sum_equal size _ _ (λ j h. ap (λ (z : ℕ). bit (is_free m F z)) (omega (arith, d))) in
-      rw e (ey ∙ sym (sum_append (i * size) size (λ j. bit (is_free m F (first * size + j))) ∙ omega (arith, ex, w)))
-
-  pub under_small : (k i v : ℕ) → k ≡ region_group16 + level → v ≡ m (reg k i 0 0) → v ≤ size
-  under_small k i v ek ev = omega (arith, ev ∙ ap (λ (z : ℕ). m (reg z i 0 0)) ek ∙ is i, free_small m F (i * size) size)
+-- one more group
+pub free_more : (m : Mem) (F size first i : ℕ) → free_from m F (first * size) ((i + 1) * size) ≡ free_from m F (first * size) (i * size) + free_from m F ((first + i) * size) size
+free_more m F size first i =
+    let a : ℕ = first * size in let b : ℕ = i * size in
+    let e : (i + 1) * size ≡ i * size + size = add-mul i 1 size ∙ omega arith in
+    let d : (first + i) * size ≡ first * size + i * size = add-mul first i size in
+    let w : free_from m F ((first + i) * size) size ≡ (sum size λ j. bit (is_free m F (first * size + (i * size + j)))) =
+    sum_equal size _ _ (λ j h. ap (λ (z : ℕ). bit (is_free m F z)) (omega (arith, d))) in
+    rw e (sum_append (i * size) size (λ j. bit (is_free m F (first * size + j))) ∙ omega (arith, w))

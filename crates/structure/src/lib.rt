@@ -98,7 +98,7 @@ fn entry_ok(s: &[u64], sh: Shape, e: u64) -> bool
 }
 
 // How many of n pages from entry e on are attached; none if an entry is not as it must be.
-#[tactic(auto, unfolding(crate::specs::Checks::entries_b, words::specs::All::all))]
+#[tactic(auto, unfolding(crate::specs::Checks::entries_b, words::specs::All::all), using(crate::specs::Code::entries_stop))]
 fn entries_ok(s: &[u64], sh: Shape, e: u32, n: u32) -> Option<u64>
     ensures { plus_one result ≡ counted (entries_b (loadAt s.now sh) sh e n) (attached_in (loadAt s.now sh) e n) }
 {
@@ -114,7 +114,7 @@ fn entries_ok(s: &[u64], sh: Shape, e: u32, n: u32) -> Option<u64>
 }
 
 // The same of table b, whose head is tested first; its first page entry is e.
-#[tactic(auto, unfolding(crate::specs::Checks::span_b))]
+#[tactic(auto, unfolding(crate::specs::Checks::span_b), using(crate::specs::Code::size_small))]
 fn table_ok(s: &[u64], sh: Shape, b: u64, e: u32) -> Option<u64>
     ensures { plus_one result ≡ counted (span_b (loadAt s.now sh) sh b e) (attached_in (loadAt s.now sh) e (loadAt s.now sh (head b head_pages))) }
 {
@@ -126,7 +126,7 @@ fn table_ok(s: &[u64], sh: Shape, b: u64, e: u32) -> Option<u64>
 }
 
 // The same of all tables.
-#[tactic(auto, unfolding(crate::specs::Checks::spans_b, words::specs::All::all))]
+#[tactic(auto, unfolding(crate::specs::Checks::spans_b, words::specs::All::all), using(crate::specs::Code::tables_stop, crate::specs::Code::table_passes, crate::specs::Code::table_count, crate::specs::Code::span_first, crate::specs::Code::span_limit, crate::specs::Code::span_few))]
 fn tables_ok(s: &[u64], sh: Shape) -> Option<u64>
     ensures { plus_one result ≡ counted (spans_b (loadAt s.now sh) sh) (attached_to (loadAt s.now sh) sh.tables) }
 {
@@ -140,6 +140,7 @@ fn tables_ok(s: &[u64], sh: Shape) -> Option<u64>
 }
 
 // How many of n frames from a on are free; none is past the last frame.
+#[tactic(auto, using(crate::specs::Code::free_out))]
 fn free_in(s: &[u64], sh: Shape, a: u32, n: u16) -> u64
     ensures { result ≡ free_from (loadAt s.now sh) sh.frames a n }
 {
@@ -164,6 +165,7 @@ fn groups_ok(s: &[u64], sh: Shape, level: u8, size: u16) -> bool
 }
 
 // The free frames of 16 groups of a level, by their counts, from group `first` on.
+#[tactic(auto, using(crate::specs::Code::free_more, crate::specs::Code::free_small), unfolding(crate::specs::Code::LevelIs))]
 fn free_under(s: &[u64], sh: Shape, level: u8, size: u16, first: u32) -> u64
     requires { LevelIs (loadAt s.now sh) sh.frames level size }
     ensures { result ≡ free_from (loadAt s.now sh) sh.frames (first * size) (16 * size) }
@@ -191,7 +193,7 @@ fn sums_ok(s: &[u64], sh: Shape, level: u8, size: u16) -> bool
 }
 
 // Of all three levels: the first by the frames' owners, the others by the level below.
-#[tactic(auto, unfolding(crate::specs::Checks::levels_b))]
+#[tactic(auto, unfolding(crate::specs::Checks::levels_b), using(crate::specs::Code::sixteens_are, crate::specs::Code::hundreds_are))]
 fn levels_ok(s: &[u64], sh: Shape) -> bool
     ensures { result ≡ levels_b (loadAt s.now sh) sh.frames }
 {

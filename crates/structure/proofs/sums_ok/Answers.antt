@@ -1,14 +1,9 @@
-use Rattle.std.proofs.Common.{ℕ, ◌+◌, ◌*◌, eqb, ap, ◌∙◌, rules}
-use Rattle.words.specs.All.{all}
+use Rattle.std.proofs.Common.{rules}
 use borrow.Author.Tests.{tests}
-use Rattle.layout.specs.Layout.{load, group}
-use Rattle.structure.specs.Facts.{free_from}
 use Rattle.structure.specs.Checks.{groups_b}
 use Rattle.words.specs.Each.{range_all}
 use Rattle.structure.proofs.sums_ok.Goals as goal
 
 pub returns : goal.returns
 unfolding groups_b
-returns c =
-    range_all (λ g. eqb (load c.args.s.now c.args.sh (group (c.args.level + 1) g)) (free_from (load c.args.s.now c.args.sh) c.args.sh.frames (g * (16 * c.args.size)) (16 * c.args.size))) _ _ _ _ c.all.ensures.ran (λ x b q k. search (rules, tests))
-    ∙ ap (λ (n : ℕ). all n (λ g. eqb (load c.args.s.now c.args.sh (group (c.args.level + 1) g)) (free_from (load c.args.s.now c.args.sh) c.args.sh.frames (g * (16 * c.args.size)) (16 * c.args.size)))) c.div_ceil.ensures
+returns c = rw (← c.div_ceil.ensures) (range_all _ _ _ _ _ c.all.ensures.ran (λ x b q k. search (rules, tests)))
