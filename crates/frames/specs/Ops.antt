@@ -19,7 +19,7 @@ abbrev pub pool_p : ℕ → ℕ → ℕ → ℕ → ℕ → ℕ → List Write
 pool_p f o a b c n = at (owner f) o ∷ at (group 0 (f / 16)) a ∷ at (group 1 (f / 256)) b ∷ at (group 2 (f / 4096)) c ∷ at (root root_free_frames) n ∷ []
 
 -- the owner is o, and each count goes on by a step
-abbrev pub step_p : (ℕ → ℕ) → Mem → ℕ → ℕ → List Write
+unfoldable pub step_p : (ℕ → ℕ) → Mem → ℕ → ℕ → List Write
 step_p step m f o = pool_p f o (step (m (group 0 (f / 16)))) (step (m (group 1 (f / 256)))) (step (m (group 2 (f / 4096)))) (step (m (root root_free_frames)))
 
 -- frame f is taken, and o is its owner word

@@ -40,6 +40,7 @@ paged_pool b f m n l o p (reg k x y g) i =
 
 module _ (step : ℕ → ℕ) (m : Mem) (f o : ℕ) where
   pooled_plan : Pooled step m (upds m (step_p step m f o)) f o
+  unfolding step_p
   pooled_plan = record {
     own = rw (eq-eqb f f refl);
     owners = λ g e. rw (ne_eqb g f e);
@@ -61,6 +62,7 @@ module _ (step : ℕ → ℕ) (m : Mem) (f o : ℕ) where
       there (suc (suc (suc i))) l g e = absurd (omega arith)
 
   only_plan : OnlyPool f m (upds m (step_p step m f o))
+  unfolding step_p
   only_plan =
       only_write (Pool f) m _ (only_write (Pool f) m _ (only_write (Pool f) m _ (only_write (Pool f) m _ (only_write (Pool f) m m (λ c i. refl)
       (owner f) _ (inl (refl, refl)))
@@ -70,6 +72,7 @@ module _ (step : ℕ → ℕ) (m : Mem) (f o : ℕ) where
       (root root_free_frames) _ (inr (inr (refl, refl)))
 
   plan_in : (sh : Shape) → f < sh.frames → InAll sh (step_p step m f o)
+  unfolding step_p
   plan_in sh l = (in_owner sh f l, (in_sixteen sh f l, (in_hundred sh f l, (in_thousand sh f l, (in_root sh root_free_frames (omega arith), tt)))))
 
 -- words that differ from others in the pool only, at frame f

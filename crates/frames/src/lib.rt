@@ -47,6 +47,7 @@ pub fn lowest_free(s: &[u64], sh: Shape) -> u64
 }
 
 // The words of frame f in the pool: its owner is o, and the counts of its groups of 16, 256 and 4,096 and of all go on by a step.
+#[tactic(auto, unfolding(crate::specs::Ops::step_p))]
 fn count_frame<F: Fn(u64) -> u64>(s: &mut [u64], sh: Shape, f: u64, o: u64, step: F)
     requires { F.IsAlwaysCallable step }
     ensures { (g : ℕ → ℕ) → ((x r : ℕ) → F.post step x r → r ≡ g x) → s.new ≡ writes s.old sh (step_p g (loadAt s.old sh) f o) }

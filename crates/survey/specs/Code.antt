@@ -1,6 +1,6 @@
 -- What the functions' bodies and loops go by. Assumes nothing.
-use Rattle.std.specs.Prelude.{◌≡◌, refl, Bool, not, ◌&&◌, List, ℕ, ◌+◌, ◌-◌, ◌*◌, ◌≤◌, ◌<◌, eqb, ltb, leb}
-use Rattle.std.proofs.Common.{sym, ap, subst, ◌∙◌, add-one, arith}
+use Rattle.std.specs.Prelude.{◌≡◌, refl, Bool, not, ◌&&◌, List, ℕ, ◌+◌, ◌-◌, ◌*◌, ◌≤◌, ◌<◌, eqb, ltb, leb, length, get_or}
+use Rattle.std.proofs.Common.{sym, ap, subst, ◌∙◌, arith}
 use Rattle.std.proofs.Math.Bool.{true, false}
 use borrow.Author.Tests.{eq-eqb, ne_eqb, lt-ltb, le-ltb, ltb-true}
 use Rattle.words.specs.Pick.{pick, clash, both}
@@ -11,8 +11,8 @@ use Rattle.layout.specs.declared.CellWords.{CellWords}
 use Rattle.layout.specs.declared.Extent.{Extent}
 use Rattle.layout.specs.Regions.{region, place_in, in_place}
 use Rattle.layout.specs.Layout.{Mem, layout, total, cell, load, in_cell_law}
-use Rattle.layout.specs.Cells.{cell_at}
-use Rattle.layout.specs.Fields.{slot_tag}
+use Rattle.layout.specs.Cells.{cell_at, cell_read}
+use Rattle.layout.specs.Fields.{slot_tag, slot_generation, slot_object, slot_rights, slot_flags, slot_unused}
 use Rattle.layout.specs.Values.{tag_vacant, tag_occupied}
 use Rattle.layout.specs.Sizes.{page_size, slot_size}
 use Rattle.layout.specs.RegionNames.{region_cell}
@@ -23,7 +23,7 @@ use Rattle.counts.specs.Found.{gather, in_cell, OffObjects, cell_same as in_cell
 use Rattle.counts.specs.Shift.{unit, shift_w, shifted, shifted_off}
 use Rattle.counts.specs.Code.{turn_more}
 use Rattle.survey.specs.declared.Page.{Page}
-use Rattle.survey.specs.Walk.{marked_b, cell_b, slot_at, frame_b, held_in, passed_all, passed_stop, frame_found, cell_same, test_same}
+use Rattle.survey.specs.Walk.{marked_b, cell_b, slot_at, frame_b, held_in, passed_all, passed_stop, frame_found, cell_same, test_same, page_b, page_same, page_found, page_found_same, table_b, table_same, table_found, table_found_same}
 
 -- ---- a slot
 
@@ -35,6 +35,12 @@ cell_place n sh f j e at q h k z = let p = in_place (region (layout sh) region_c
 -- all its words are lent
 pub cell_lent : (sh : Shape) (f j : ℕ) (e : Extent) → e ≡ region (layout sh) region_cell → f < sh.frames → j < page_size → e.low + (f * page_size + j) * slot_size + slot_size ≤ total sh
 cell_lent sh f j e q h k = rw q (omega arith)
+
+-- so they are read there
+pub cell_is : (ws : List ℕ) (sh : Shape) (f j : ℕ) (e : Extent) → e ≡ region (layout sh) region_cell → f < sh.frames → j < page_size → total sh ≤ length ws
+    → (let at : ℕ = e.low + (f * page_size + j) * slot_size in record { tag = get_or ws at 0; generation = get_or ws (at + slot_generation) 0; object = get_or ws (at + slot_object) 0; rights = get_or ws (at + slot_rights) 0; flags = get_or ws (at + slot_flags) 0; unused = get_or ws (at + slot_unused) 0 })
+    ≡ cell_at (load ws sh) f j
+cell_is ws sh f j e q h k l = cell_read ws sh f j e _ q (cell_place (length ws) sh f j e _ q h k refl) (omega (arith, cell_lent sh f j e q h k))
 
 -- an occupied slot that passes holds a handle of an object below the bound
 pub slot_holds : (m : Mem) (sh : Shape) (b k bound high : ℕ) (c : CellWords) (t : Bool) → t ≡ cell_b m sh b k bound high c → t ≡ true → c.tag ≡ tag_occupied → c.object < bound
@@ -139,14 +145,59 @@ pub onward_by : (ws vs us : List ℕ) (sh : Shape) (q : Page) (j k v : ℕ) → 
 unfolding Onward
 onward_by ws vs us sh q j k v g w = g ws v w
 
+-- the same, shut: the tactics take it as one fact
+unfoldable pub Passed : List ℕ → List ℕ → Shape → Page → ℕ → ℕ → Type 0
+Passed ws vs sh q j v = Walked ws vs sh q j v
+
+pub passed_none : (ws : List ℕ) (sh : Shape) (q : Page) → Passed ws ws sh q 0 0
+unfolding Passed
+passed_none ws sh q = walked_none ws sh q
+
+-- the walk goes on from slot j to slot k, and there
+module _ (ws vs us : List ℕ) (sh : Shape) (q : Page) (j k v : ℕ) (g : Onward vs us sh q j k) (w : Passed ws vs sh q j v) where
+  on : Walked ws us sh q k v
+  unfolding Passed
+  on = onward_by ws vs us sh q j k v g w
+
+  -- all slots are passed
+  pub end_noted : us ≡ shifted ws sh unit (frame_found (load ws sh) sh q.table q.number q.bound q.high q.frame k)
+  end_noted = (walked_end ws us sh q k v 0 on).0
+
+  pub end_answer : (busy : ℕ) → eqb (k - v) busy ≡ frame_b (load ws sh) sh q.table q.number q.bound q.high q.frame k busy
+  end_answer busy = (walked_end ws us sh q k v busy on).1
+
+  module _ (c : CellWords) (t : Bool) (n : ℕ) (ec : c ≡ cell_at (load us sh) q.frame k) (et : t ≡ cell_b (load us sh) sh q.table (q.number * page_size + k) q.bound q.high c) where
+    -- it ends
+    pub stop_noted : k < n → t ≡ false → us ≡ shifted ws sh unit (frame_found (load ws sh) sh q.table q.number q.bound q.high q.frame n)
+    stop_noted h y = (walked_stop ws us sh q k v on c ec n 0 h (sym et ∙ y)).0
+
+    pub stop_answer : (busy : ℕ) → k < n → t ≡ false → false ≡ frame_b (load ws sh) sh q.table q.number q.bound q.high q.frame n busy
+    stop_answer busy h y = (walked_stop ws us sh q k v on c ec n busy h (sym et ∙ y)).1
+
+    -- or the slot is passed
+    pub other_more : (x : ℕ) → k < n → (k < n → Other q (cell_at (load us sh) q.frame k)) → t ≡ true → x ≡ bit (eqb c.tag tag_vacant) → Passed ws us sh q (k + 1) (v + x)
+    unfolding Passed
+    other_more x h o y ex = walked_other ws us sh q k v on c ec x (o h) (sym et ∙ y) ex
+
 -- ---- tables and pages
 
 -- one thing more, of which neither what is counted nor the test depends on the objects
-pub found_more : (sh : Shape) (f : Mem → ℕ → List ℕ) (P : Mem → ℕ → Bool) → ((m n : Mem) → OffObjects m n → (k : ℕ) → f n k ≡ f m k) → ((m n : Mem) → OffObjects m n → (k : ℕ) → P n k ≡ P m k)
-    → (ws vs us : List ℕ) (k : ℕ) (ok t : Bool) → vs ≡ shifted ws sh unit (gather k (f (load ws sh))) → ok ≡ all k (P (load ws sh)) → us ≡ shifted vs sh unit (f (load vs sh) k) → t ≡ P (load vs sh) k
-    → (us ≡ shifted ws sh unit (gather (k + 1) (f (load ws sh)))) × ((ok && t) ≡ all (k + 1) (P (load ws sh)))
-unfolding all
-found_more sh f P same_list same_test ws vs us k ok t e a d b =
-    let o : OffObjects (load ws sh) (load vs sh) = rw e (shifted_off ws sh unit (gather k (f (load ws sh)))) in
-    let p : t ≡ P (load ws sh) k = b ∙ same_test (load ws sh) (load vs sh) o k in
-    (turn_more sh unit f same_list ws vs us k e d, rw add-one (rw (a, p)))
+module _ (ws vs us : List ℕ) (sh : Shape) (b bound e p : ℕ) (q : vs ≡ shifted ws sh unit (gather p (page_found (load ws sh) sh b bound e))) where
+  page_off : OffObjects (load ws sh) (load vs sh)
+  page_off = rw q (shifted_off ws sh unit (gather p (page_found (load ws sh) sh b bound e)))
+
+  pub page_noted : us ≡ shifted vs sh unit (page_found (load vs sh) sh b bound e p) → us ≡ shifted ws sh unit (gather (p + 1) (page_found (load ws sh) sh b bound e))
+  page_noted d = turn_more sh unit (λ (m : Mem) (k : ℕ). page_found m sh b bound e k) (λ m n h k. page_found_same m n h sh b bound e k) ws vs us p q d
+
+  pub page_right : (t : Bool) → t ≡ page_b (load vs sh) sh b bound e p → t ≡ page_b (load ws sh) sh b bound e p
+  page_right t d = d ∙ page_same (load ws sh) (load vs sh) page_off sh b bound e p
+
+module _ (ws vs us : List ℕ) (sh : Shape) (used b : ℕ) (q : vs ≡ shifted ws sh unit (gather b (table_found (load ws sh) sh used))) where
+  table_off : OffObjects (load ws sh) (load vs sh)
+  table_off = rw q (shifted_off ws sh unit (gather b (table_found (load ws sh) sh used)))
+
+  pub table_noted : us ≡ shifted vs sh unit (table_found (load vs sh) sh used b) → us ≡ shifted ws sh unit (gather (b + 1) (table_found (load ws sh) sh used))
+  table_noted d = turn_more sh unit (λ (m : Mem) (k : ℕ). table_found m sh used k) (λ m n h k. table_found_same m n h sh k used) ws vs us b q d
+
+  pub table_right : (t : Bool) → t ≡ table_b (load vs sh) sh used b → t ≡ table_b (load ws sh) sh used b
+  table_right t d = d ∙ table_same (load ws sh) (load vs sh) table_off sh b used

@@ -26,6 +26,7 @@ struct Page {
 
 impl Page {
     // Slot j, in words that hold the whole state: no test of bounds.
+    #[tactic(auto, using(crate::specs::Code::cell_is))]
     fn cell(self, s: &[u64], sh: Shape, j: u64) -> CellWords
         requires frame_lt_frames { self.frame < sh.frames }
         requires j_lt_page_size { j < page_size }
@@ -58,7 +59,7 @@ impl Page {
     }
 
     // Counts the handles of the slots from `from` on that are occupied and right. The first slot that is not, n where all are: given as an `Option`, it makes the check of 64 pages 5 to 8 of 100 longer.
-    #[tactic(auto, unfolding(structure::specs::Checks::slot_c, structure::specs::Checks::handle_c), using(std::proofs::lemmas::Bool::Decides::nat_tests))]
+    #[tactic(auto, unfolding(structure::specs::Checks::slot_c, structure::specs::Checks::handle_c), using(crate::specs::Code::onward_none, crate::specs::Code::onward_more, std::proofs::lemmas::Bool::Decides::nat_tests))]
     fn next_other(self, s: &mut [u64], sh: Shape, from: u64, n: u64) -> u64
         requires bound_le_objects { self.bound ≤ sh.objects }
         requires n_le_page_size { (n ≤ page_size) × (self.frame < sh.frames) × (from ≤ n) }
@@ -78,6 +79,7 @@ impl Page {
     }
 
     // The first n slots: whether each is right and `busy` of them are busy. Most are occupied, and have a loop of their own: one loop over all slots makes the check of 64 pages 8 to 12 of 100 longer. So the outer loop goes from one other slot to the next, which are no range's.
+    #[tactic(auto, using(crate::specs::Code::passed_none, crate::specs::Code::end_noted, crate::specs::Code::end_answer, crate::specs::Code::stop_noted, crate::specs::Code::stop_answer, crate::specs::Code::other_more))]
     fn walk(self, s: &mut [u64], sh: Shape, n: u64, busy: u64) -> bool
         requires bound_le_objects { self.bound ≤ sh.objects }
         requires n_le_page_size { (n ≤ page_size) × (self.frame < sh.frames) }
@@ -132,7 +134,7 @@ fn walk_page(s: &mut [u64], sh: Shape, b: u64, bound: u64, e: u64, p: u32) -> bo
 }
 
 // The pages of table b.
-#[tactic(auto, unfolding(crate::specs::Walk::table_b, crate::specs::Walk::table_found, words::specs::All::all))]
+#[tactic(auto, unfolding(crate::specs::Walk::table_b, crate::specs::Walk::table_found, words::specs::All::all), using(crate::specs::Code::page_noted, crate::specs::Code::page_right))]
 fn walk_table(s: &mut [u64], sh: Shape, used: u64, b: u64) -> bool
     requires used_le_objects { used ≤ sh.objects }
     requires sh_in_bounds { total sh ≤ length s.old }
@@ -153,7 +155,7 @@ fn walk_table(s: &mut [u64], sh: Shape, used: u64, b: u64) -> bool
 }
 
 // Whether the slots of every page are as a well-formed state's must be. Leaves every handle of a slot counted, of a page with a fault those before it.
-#[tactic(auto, unfolding(crate::specs::Walk::survey_b, words::specs::All::all))]
+#[tactic(auto, unfolding(crate::specs::Walk::survey_b, words::specs::All::all), using(crate::specs::Code::table_noted, crate::specs::Code::table_right))]
 pub fn walk_slots(s: &mut [u64], sh: Shape, used: u64) -> bool
     requires used_le_objects { used ≤ sh.objects }
     requires sh_in_bounds { total sh ≤ length s.old }
