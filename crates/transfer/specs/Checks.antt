@@ -24,6 +24,7 @@ use Rattle.lookup.specs.View.{View.Invalid, View.Busy, View.Holds}
 use Rattle.lookup.specs.View.{view_of, table_refusal}
 use Rattle.book.specs.Ops.{row_left, id_refusal}
 use Rattle.transfer.specs.declared.HandleTransferRequest.{HandleTransferRequest}
+use Rattle.transfer.specs.declared.TransferItems.{TransferItems}
 use Rattle.transfer.specs.declared.TransferRules.{TransferRules}
 
 -- ---- what is read
@@ -57,6 +58,13 @@ items_at rq at n = map (item_at rq) (places_from n rq at)
 unfoldable pub earlier_at : List ℕ → ℕ → ℕ → List ℕ
 earlier_at rq at zero = []
 earlier_at rq at (suc n) = (item_at rq (place_of n rq at)).value ∷ earlier_at rq at n
+
+-- the same of the code's own record: the items that are left, and the values of all of them
+abbrev pub items_left : TransferItems → List Item
+items_left p = items_at p.rq.now p.at p.count
+
+abbrev pub earlier_left : TransferItems → List ℕ
+earlier_left p = earlier_at p.rq.now p.at p.count
 
 -- ---- the checks; a number of 0 is no refusal
 

@@ -1,14 +1,12 @@
 -- A plain item: its map has the fields that it must have and no other, so that operation, value and rights stand in the three words behind it.
 -- Assumes nothing.
-use Rattle.std.specs.Prelude.{◌≡◌, refl, Bool, true, List, ℕ, suc, ◌+◌, ◌<◌, length, get_or}
-use Rattle.std.proofs.Common.{sym, ap, ◌∙◌, arith, ltb-true, eqb-true}
+use Rattle.std.specs.Prelude.{◌≡◌, true, List, ℕ, suc, ◌+◌, ◌<◌, length, get_or}
+use Rattle.std.proofs.Common.{arith, ltb-true, eqb-true}
 use Rattle.std.proofs.Math.Option.{none}
 use Rattle.words.specs.Pick.{and_left, and_right}
-use Rattle.model.specs.Request.{Item}
-use Rattle.model.specs.Words.{must, operation_of}
-use Rattle.format.specs.Fields.{value_field}
+use Rattle.model.specs.Words.{operation_of}
 use Rattle.format.specs.Format.{transfer_item_must}
-use Rattle.request.specs.Place.{after, fields_from, fields_at, has_map, end_at, item_of, item_at}
+use Rattle.request.specs.Place.{after, fields_from, has_map, end_at, item_of, item_at}
 use Rattle.request.specs.Plain.{fields_by, ends_by}
 
 module _ (rq : List ℕ) (at : ℕ) (p : has_map rq at transfer_item_must ≡ true) where
@@ -20,7 +18,7 @@ module _ (rq : List ℕ) (at : ℕ) (p : has_map rq at transfer_item_must ≡ tr
   unfolding has_map
   plain_map = eqb-true _ _ (and_right _ _ p)
 
-  -- `read_item`
+  -- `plain_item`
   pub plain_item : item_at rq at
       ≡ record {
         operation = operation_of (get_or rq (at + 1) 0);
@@ -35,12 +33,7 @@ module _ (rq : List ℕ) (at : ℕ) (p : has_map rq at transfer_item_must ≡ tr
       let z : at + 1 ≡ suc at = omega arith in let y : at + 2 ≡ suc (suc at) = omega arith in let x : at + 3 ≡ suc (suc (suc at)) = omega arith in
       rw (z, y, x) (fields_by rq at transfer_item_must plain_map item_of)
 
-  -- `item_value`
-  pub plain_value : must (fields_at rq at) value_field ≡ get_or rq (at + 2) 0
-  unfolding item_at
-  plain_value = ap (λ (i : Item). i.value) plain_item
-
-  -- `item_end`
+  -- the end of its record
   pub plain_end : end_at rq at ≡ at + 4
   unfolding after
   plain_end = let z : at + 4 ≡ suc (suc (suc (suc at))) = omega arith in rw z (ends_by rq at transfer_item_must plain_map plain_there)

@@ -1,7 +1,7 @@
 -- A set of 64 bits that has the bit of each value listed so far, by its remainder: a value whose bit does not stand is not listed.
 -- Assumes nothing.
 use Rattle.std.specs.Prelude.{◌≡◌, refl, Bool, true, false, List, ◌∷◌, ℕ, suc, ◌+◌, ◌*◌, ◌/◌, ◌%◌, ◌^◌, max, eqb}
-use Rattle.std.proofs.Common.{sym, ap, ◌∙◌, mul-div_cancel, arith, pow_pos, shl_exact, eq-eqb, eqb-true}
+use Rattle.std.proofs.Common.{sym, ap, ◌∙◌, mul-div_cancel, arith, pow_pos, eq-eqb, eqb-true}
 use Rattle.std.specs.Int.Bits.{bit_or, or_step}
 use Rattle.std.proofs.lemmas.Nat.{or_shr}
 use Rattle.words.specs.Pick.{bool, clash}
@@ -47,11 +47,11 @@ unfolding Seen earlier_at
 seen_none rq at v e = clash e refl
 
 -- one item more
-pub seen_turn : (rq : List ℕ) (at i place seen new : ℕ) (q : HandleTransferRequest) → Seen rq at i seen → place ≡ place_of i rq at → item_by q ≡ item_at rq place
+pub seen_turn : (rq : List ℕ) (at i seen new : ℕ) (q : HandleTransferRequest) → Seen rq at i seen → item_by q ≡ item_at rq (place_of i rq at)
     → new ≡ bit_or seen (2 ^ (q.value.0 % 64)) → Seen rq at (i + 1) new
 unfolding Seen earlier_at item_by
-seen_turn rq at i place seen new q s p e d v m =
-    let w : q.value.0 ≡ (item_at rq (place_of i rq at)).value = ap (λ x. x.value) e ∙ ap (λ (k : ℕ). (item_at rq k).value) p in
+seen_turn rq at i seen new q s e d v m =
+    let w : q.value.0 ≡ (item_at rq (place_of i rq at)).value = ap (λ x. x.value) e in
     let z : i + 1 ≡ suc i = omega arith in
     let m₁ : member v ((item_at rq (place_of i rq at)).value ∷ earlier_at rq at i) ≡ true = rw z at m in
     ap (λ (x : ℕ). bit_of x v) d ∙ bool (eqb v q.value.0)
@@ -64,7 +64,3 @@ unfolding Seen
 seen_not rq at n seen v t s e f = bool (member v (earlier_at rq at n))
     (λ y. clash (e ∙ eq-eqb (bit_of seen v) 1 (s v y)) f)
     (λ y. sym y)
-
--- `joined`: the shift loses nothing
-pub joined_is : (seen v : ℕ) → bit_or seen (1 * 2 ^ (v % 64) % 2 ^ 64) ≡ bit_or seen (2 ^ (v % 64))
-joined_is seen v = let z : 1 * 2 ^ (v % 64) ≡ 2 ^ (v % 64) = omega arith in ap (bit_or seen) (shl_exact 1 (v % 64) 64 (omega arith) (omega arith) ∙ z)

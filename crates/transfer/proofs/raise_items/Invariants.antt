@@ -1,11 +1,13 @@
-use Rattle.std.proofs.Common.{◌≡◌, ◌-◌, []}
-use Rattle.request.specs.Place.{place_of}
-use Rattle.transfer.specs.Checks.{items_at}
+use Rattle.std.proofs.Common.{◌≡◌, ◌+◌, ◌++◌, [], length}
+use Rattle.transfer.specs.Checks.{items_left}
 use Rattle.transfer.specs.Preparing.{raised_items}
 use Rattle.transfer.proofs.raise_items.Given as goal
 
-abbrev pub invariant-loop-i : goal.invariant-loop-i
-invariant-loop-i l = record {
-  stands : l.place ≡ place_of l.i l.rq l.at;
-  left : raised_items l.fn.s l.sh l.b [] (items_at l.rq l.at l.count) ≡ raised_items l.s l.sh l.b (items_at l.rq l.at l.i) (items_at l.rq l.place (l.count - l.i));
+abbrev pub invariant-loop-q : goal.invariant-loop-q
+invariant-loop-q l = record {
+  list : l.raised.rq ≡ l.items.rq;
+  place : l.raised.at ≡ l.items.at;
+  count : l.raised.count + length (items_left l.q-iterator) ≡ l.items.count;
+  taken : items_left l.items ≡ items_left l.raised ++ items_left l.q-iterator;
+  left : raised_items l.fn.s l.sh l.b [] (items_left l.items) ≡ raised_items l.s l.sh l.b (items_left l.raised) (items_left l.q-iterator);
 }
