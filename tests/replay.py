@@ -30,8 +30,8 @@ def constant(pattern):
     return re.search(pattern, (CRATE / "src" / "main.rt").read_text()).group(1)
 
 
-STATE = int(constant(r"fn state_room\(\) -> \[u64; (\d+)\]"))
-CALL = int(constant(r"fn call_room\(\) -> \[u64; (\d+)\]"))
+STATE = int(constant(r"const STATE_ROOM: usize = (\d+);"))
+CALL = int(constant(r"const CALL_ROOM: usize = (\d+);"))
 PATTERN = int(constant(r"const PATTERN: u64 = 0x([0-9a-f_]+);").replace("_", ""), 16)
 
 

@@ -1,29 +1,17 @@
 // Question four of a paper on retail systems: basket order never alters the total. The example of docs/reading.md.
 #![tactic(auto)]
 
-ghost use Rattle.std.specs.Prelude.{◌≡◌, ◌+◌, min};
+ghost use Rattle.std.specs.Prelude.{◌≡◌, min};
 ghost use Rattle.basket.specs.Basket.{total};
 
-// The sum of two prices; the largest word where that does not fit a word.
-fn plus(a: u64, b: u64) -> u64
-    ensures { result ≡ min (a + b) 0xffff_ffff_ffff_ffff }
-{
-    if b <= 0xffff_ffff_ffff_ffff - a {
-        a + b
-    } else {
-        0xffff_ffff_ffff_ffff
-    }
-}
-
 // What the prices of a basket come to; the largest word where that does not fit a word.
+#[tactic(auto, using(crate::proofs::Turns::one_more))]
 fn total(prices: &[u64]) -> u64
     ensures { result ≡ min (total prices.now) 0xffff_ffff_ffff_ffff }
 {
-    let mut sum = 0;
-    let mut i = 0;
-    while i < prices.len() {
-        sum = plus(sum, prices[i]);
-        i += 1;
+    let mut sum: u64 = 0;
+    for price in prices {
+        sum = sum.saturating_add(*price);
     }
     sum
 }

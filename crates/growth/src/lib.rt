@@ -187,7 +187,7 @@ impl Next {
     }
 }
 
-// More pages than a batch can need: no plan. It stays a number and no `Option`: plan compares the count with the one that a row keeps, which is a number.
+// More pages than a batch can need: no plan. It stays a number: the definitions test it as one, and a row of any lent words may hold it, which plan then finds equal; reserve and plan would turn an `Option` back into it.
 pub const NO_PLAN: u64 = size::BATCH_MAX + 1;
 
 // How many pages table b needs for a batch of k slots; NO_PLAN if a new one would pass the limit.

@@ -9,11 +9,11 @@
 //   state W ..             the state's words
 // R and K are decimal. A word W is hexadecimal, and W*n stands for n times W. A record that has no room is read to its end, and its line says so; a start that
 // has none leaves a state of no words.
+// It reads and writes by `io`. A small program that read and printed words by `std::io` rested on C's lseek and errno too, and this one is to rest on read and write alone.
 #![tactic(auto)]
 
-ghost use Rattle.std.specs.Prelude.{◌≡◌, ◌+◌, ◌*◌, ◌<◌, length, replicate};
-ghost use Rattle.io.specs.Counts.{IsPrefixLen};
-ghost use Rattle.replay.specs.Runs.{word_of, Cut, Run, Past};
+ghost use Rattle.std.specs.Prelude.{◌≡◌, ◌≤◌, length, take, IfSome};
+ghost use Rattle.replay.specs.Runs.{Cut, Run, Past};
 
 // What state words hold before a creation.
 const PATTERN: u64 = 0x5c5c_c5c5_5c5c_c5c5;
@@ -21,154 +21,65 @@ const PATTERN: u64 = 0x5c5c_c5c5_5c5c_c5c5;
 // What answer words hold before a call.
 const FILL: u64 = 0xa5a5_5a5a_a5a5_5a5a;
 
-// A word of the input, or its end.
-#[derive(Clone, Copy)]
-enum Read {
-    Word(u64),
-    End,
-}
+// The rooms are arrays of a fixed size, and a length stands beside the state's: the project has no heap.
+// Words of room for a state: the largest of the recorded lists that are replayed, but for those with 262,144 pages, has 15,508.
+const STATE_ROOM: usize = 16384;
 
-// What a record leaves: a state of so many words, or the input has ended.
-#[derive(Clone, Copy)]
-enum Next {
-    On(usize),
-    Stop,
-}
+// Words of room for a list or for answers.
+const CALL_ROOM: usize = 512;
 
-// Room for a state: the largest of the recorded lists that are replayed, but for those with 262,144 pages, has 15,508 words.
-fn state_room() -> [u64; 16384]
-    ensures { 16384 ≡ length result }
-{
-    [0; 16384]
-}
-
-// Room for a list or for answers.
-fn call_room() -> [u64; 512]
-    ensures { 512 ≡ length result }
-{
-    [0; 512]
-}
-
-fn pair(a: u8, b: u8) -> u16
-    ensures { result ≡ a + 256 * b }
-{
-    a as u16 + b as u16 * 256
-}
-
-fn quad(a: u16, b: u16) -> u32
-    ensures { result ≡ a + 65536 * b }
-{
-    a as u32 + b as u32 * 65536
-}
-
-fn halves(a: u32, b: u32) -> u64
-    ensures { result ≡ a + 4294967296 * b }
-{
-    a as u64 + b as u64 * 4294967296
-}
-
-// A word from its bytes, the lowest first.
-fn word_of(b: &[u8; 8]) -> u64
-    ensures { result ≡ word_of b.now }
-{
-    let low = quad(pair(b[0], b[1]), pair(b[2], b[3]));
-    let high = quad(pair(b[4], b[5]), pair(b[6], b[7]));
-    halves(low, high)
-}
-
-fn read_word() -> Read {
-    let mut b = [0u8; 8];
-    let n = io::read_full(0, &mut b);
-    if n < 8 {
-        return Read::End;
+// The next word, if the input has one.
+fn read_word() -> Option<u64> {
+    let mut bytes = [0; 8];
+    if io::read_full(0, &mut bytes) < bytes.len() {
+        return None;
     }
-    Read::Word(word_of(&b))
+    Some(u64::from_le_bytes(bytes))
 }
 
-// Reads n words into s, those for which it has room, and answers whether the input had them all.
-fn fetch(s: &mut [u64], n: usize) -> bool
-    ensures { Past n s.old s.new }
+// Reads n words into a room, those for which it has room, if the input has them all.
+#[tactic(auto, using(crate::specs::Runs::past_more))]
+fn fetch(room: &mut [u64], n: usize) -> Option<()>
+    ensures { Past n room.old room.new }
 {
-    let mut i = 0;
-    while i < n {
-        let Read::Word(w) = read_word() else {
-            return false;
-        };
-        words::put(s, i, w);
-        i += 1;
+    for i in 0..n {
+        words::put(room, i, read_word()?);
     }
-    true
+    Some(())
 }
 
-// Sets every word to v.
-fn fill(s: &mut [u64], v: u64)
-    ensures { s.new ≡ replicate (length s.old) v }
+// The words without those at their end that hold v.
+fn cut(words: &[u64], v: u64) -> &[u64]
+    ensures cut { Cut words.now (length words.now) v (length result.now) }
+    ensures front { result.now ≡ take (length result.now) words.now }
 {
-    let mut i = 0;
-    while i < s.len() {
-        s[i] = v;
-        i += 1;
-    }
+    let n = words
+        .iter()
+        .rposition(|w| *w != v)
+        .map_or(0, |last| last + 1);
+    &words[..n]
 }
 
-// How many of the first n words are left without those at their end that hold v.
-fn cut(s: &[u64], n: usize, v: u64) -> usize
-    ensures { Cut s.now n v result }
+// Writes the word of a run, and how many times it stands there if that is not once.
+fn say_run(words: &[u64], at: usize, end: usize)
+    requires { Run words.now at (length words.now) end }
 {
-    let mut k = n;
-    while k > 0 {
-        if words::word(s, k - 1) != v {
-            return k;
-        }
-        k -= 1;
-    }
-    k
-}
-
-// Where the run of equal words ends that starts at a place below n.
-fn run_end(s: &[u64], at: usize, n: usize) -> usize
-    requires { at < n }
-    ensures { Run s.now at n result }
-{
-    let v = words::word(s, at);
-    let mut i = at + 1;
-    while i < n {
-        if words::word(s, i) != v {
-            return i;
-        }
-        i += 1;
-    }
-    i
-}
-
-// How many of n words s has.
-fn within(n: usize, s: &[u64]) -> usize
-    ensures { IsPrefixLen result s.now }
-{
-    if n < s.len() {
-        return n;
-    }
-    s.len()
-}
-
-// Writes a word, and how many times it stands there if that is not once.
-fn say_run(w: u64, times: u64) {
     io::write_all(1, b" ");
-    io::print_hex(1, w, 1);
-    if times == 1 {
-        return;
+    io::print_hex(1, words[at], 1);
+    if end - at > 1 {
+        io::write_all(1, b"*");
+        io::print_decimal(1, (end - at) as u64);
     }
-    io::write_all(1, b"*");
-    io::print_decimal(1, times);
 }
 
-// Writes the first n words.
-fn say_words(s: &[u64], n: usize) {
-    let mut i = 0;
-    while i < n {
-        let end = run_end(s, i, n);
-        say_run(words::word(s, i), (end - i) as u64);
-        i = end;
+// Writes the words, one run of equal words after the other.
+fn say_words(words: &[u64]) {
+    let mut at = 0;
+    for i in 0..words.len() {
+        if words.get(i + 1) != Some(&words[at]) {
+            say_run(words, at, i + 1);
+            at = i + 1;
+        }
     }
 }
 
@@ -178,13 +89,12 @@ fn say_start(r: u64) {
     io::write_all(1, b"\n");
 }
 
-fn say_answer(r: u64, answers: &[u64], lent: usize) {
-    let changed = cut(answers, lent, FILL);
-    let used = cut(answers, changed, 0);
+fn say_answer(r: u64, answers: &[u64]) {
+    let changed = cut(answers, FILL);
     io::print_decimal(1, r);
-    say_words(answers, used);
+    say_words(cut(changed, 0));
     io::write_all(1, b" kept ");
-    io::print_decimal(1, (lent - changed) as u64);
+    io::print_decimal(1, (answers.len() - changed.len()) as u64);
     io::write_all(1, b"\n");
 }
 
@@ -194,125 +104,94 @@ fn say_no_room(n: u64) {
     io::write_all(1, b" words\n");
 }
 
-// A call on the first words of each slice.
-fn run(
-    state: &mut [u64],
-    len: usize,
-    list: &[u64],
-    n: usize,
-    answers: &mut [u64],
-    lent: usize,
-) -> u64 {
-    let a = within(len, state);
-    let b = within(n, list);
-    let c = within(lent, answers);
-    runner::gurtxozal_run(&mut state[..a], &list[..b], &mut answers[..c])
-}
-
-fn create_from(state: &mut [u64], list: &[u64], n: usize) -> u64 {
-    let k = within(n, list);
-    create::gurtxozal_create(state, &list[..k])
-}
-
-fn creation(state: &mut [u64], list: &mut [u64]) -> Next {
-    let Read::Word(n) = read_word() else {
-        return Next::Stop;
-    };
-    if !fetch(list, n as usize) {
-        return Next::Stop;
-    }
-    if n as usize > list.len() {
+fn creation(state: &mut [u64], list: &mut [u64]) -> Option<usize>
+    ensures { IfSome result (λ n. n ≤ length state.new) }
+{
+    let n = read_word()?;
+    fetch(list, n as usize)?;
+    let Some(list) = list.get(..n as usize) else {
         say_no_room(n);
-        return Next::On(0);
-    }
-    fill(state, PATTERN);
-    say_start(create_from(state, list, n as usize));
-    Next::On(state.len())
+        return Some(0);
+    };
+    state.fill(PATTERN);
+    say_start(create::gurtxozal_create(state, list));
+    Some(state.len())
 }
 
-fn given(state: &mut [u64], list: &[u64], answers: &mut [u64]) -> Next {
-    let Read::Word(n) = read_word() else {
-        return Next::Stop;
-    };
-    if !fetch(state, n as usize) {
-        return Next::Stop;
-    }
-    if n as usize > state.len() {
+fn given(state: &mut [u64]) -> Option<usize>
+    ensures { IfSome result (λ n. n ≤ length state.new) }
+{
+    let n = read_word()?;
+    fetch(state, n as usize)?;
+    let Some(state) = state.get_mut(..n as usize) else {
         say_no_room(n);
-        return Next::On(0);
-    }
-    say_start(run(state, n as usize, list, 0, answers, 0));
-    Next::On(n as usize)
+        return Some(0);
+    };
+    say_start(runner::gurtxozal_run(state, &[], &mut []));
+    Some(state.len())
 }
 
-fn call(state: &mut [u64], list: &mut [u64], answers: &mut [u64], len: usize) -> Next {
-    let Read::Word(lent) = read_word() else {
-        return Next::Stop;
-    };
-    let Read::Word(n) = read_word() else {
-        return Next::Stop;
-    };
-    if !fetch(list, n as usize) {
-        return Next::Stop;
-    }
-    if n as usize > list.len() {
+fn call(state: &mut [u64], list: &mut [u64], answers: &mut [u64]) -> Option<()> {
+    let lent = read_word()?;
+    let n = read_word()?;
+    fetch(list, n as usize)?;
+    let Some(list) = list.get(..n as usize) else {
         say_no_room(n);
-        return Next::On(len);
-    }
-    if lent as usize > answers.len() {
+        return Some(());
+    };
+    let Some(answers) = answers.get_mut(..lent as usize) else {
         say_no_room(lent);
-        return Next::On(len);
-    }
-    fill(answers, FILL);
-    let r = run(state, len, list, n as usize, answers, lent as usize);
-    say_answer(r, answers, lent as usize);
-    Next::On(len)
-}
-
-fn show(state: &[u64], len: usize) -> Next {
-    io::write_all(1, b"state");
-    say_words(state, len);
-    io::write_all(1, b"\n");
-    Next::On(len)
-}
-
-// One record.
-fn record(state: &mut [u64], list: &mut [u64], answers: &mut [u64], len: usize) -> Next {
-    let Read::Word(kind) = read_word() else {
-        return Next::Stop;
+        return Some(());
     };
-    if kind == 1 {
-        return creation(state, list);
-    }
-    if kind == 2 {
-        return given(state, list, answers);
-    }
-    if kind == 3 {
-        return call(state, list, answers, len);
-    }
-    if kind == 4 {
-        return show(state, len);
-    }
-    io::write_all(1, b"no such record\n");
-    Next::Stop
+    answers.fill(FILL);
+    say_answer(runner::gurtxozal_run(state, list, answers), answers);
+    Some(())
 }
 
-// A proved loop has to end, and nothing says that the input does: the turns count down from a number that no run uses up.
+fn show(state: &[u64]) {
+    io::write_all(1, b"state");
+    say_words(state);
+    io::write_all(1, b"\n");
+}
+
+// One record, on the state in the first `len` words of its room: how many words the state has then, if the input goes on.
+// Its kind is a number of the input that is asked here alone: an enum of the kinds would be made by one match and asked by a second.
+fn record(state: &mut [u64], len: usize, list: &mut [u64], answers: &mut [u64]) -> Option<usize>
+    requires { len ≤ length state.old }
+    ensures { IfSome result (λ n. n ≤ length state.new) }
+{
+    match read_word()? {
+        1 => creation(state, list),
+        2 => given(state),
+        3 => {
+            call(&mut state[..len], list, answers)?;
+            Some(len)
+        }
+        4 => {
+            show(&state[..len]);
+            Some(len)
+        }
+        _ => {
+            io::write_all(1, b"no such record\n");
+            None
+        }
+    }
+}
+
+// A proved loop has to end, and nothing says that the input does: the turns are more than any run uses up.
 fn replay(state: &mut [u64], list: &mut [u64], answers: &mut [u64]) {
     let mut len = 0;
-    let mut turns = u64::MAX;
-    while turns > 0 {
-        let Next::On(n) = record(state, list, answers, len) else {
+    for _ in 0..u64::MAX {
+        let Some(n) = record(state, len, list, answers) else {
             return;
         };
         len = n;
-        turns -= 1;
     }
 }
 
 fn main() {
-    let mut state = state_room();
-    let mut list = call_room();
-    let mut answers = call_room();
+    let mut state = [0; STATE_ROOM];
+    let mut list = [0; CALL_ROOM];
+    let mut answers = [0; CALL_ROOM];
     replay(&mut state, &mut list, &mut answers);
 }

@@ -31,6 +31,7 @@ fn run_one(s: &mut [u64], sh: Shape, rq: &[u64], at: usize, out: &mut [u64], bas
 }
 
 // "Then every request runs; a refused one does not stop the next": n requests, for whose answers there are words enough.
+#[tactic(auto, using(crate::proofs::Steps::list_step, crate::proofs::Steps::list_done))]
 fn run_all(s: &mut [u64], sh: Shape, rq: &[u64], n: u64, out: &mut [u64])
     requires { answer_words * n ≤ length out.old }
     ensures { both s.new out.new ≡ list_r one_r n s.old out.old sh rq.now 0 0 }
@@ -85,6 +86,7 @@ fn run_within(s: &mut [u64], sh: Shape, rq: &[u64], out: &mut [u64]) -> Result<(
 }
 
 // The whole call, by the shape that the header gives.
+#[tactic(auto, unfolding(contract::specs::Call::run_w), using(crate::proofs::Steps::shape_room))]
 fn run(s: &mut [u64], rq: &[u64], out: &mut [u64]) -> Result<(), Refusal>
     ensures { called (number_of result) s.new out.new ≡ run_w one_r well_b s.old rq.now out.old }
 {
@@ -95,6 +97,7 @@ fn run(s: &mut [u64], rq: &[u64], out: &mut [u64]) -> Result<(), Refusal>
 }
 
 // A list of requests on a state. The result is 18, 19 or 20 and no lent word has changed, or 0 and every request has run.
+#[tactic(auto, using(crate::specs::Both::run_both))]
 pub fn gurtxozal_run(state: &mut [u64], list: &[u64], answers: &mut [u64]) -> u64
     ensures words { called result state.new answers.new ≡ run_w one_r well_b state.old list.now answers.old }
     ensures meets { Meets state.old list.now answers.old (called result state.new answers.new) }
