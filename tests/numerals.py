@@ -96,7 +96,7 @@ EXCUSED = [
     ("lookup/src/lib.rt", ["tag: 0,"], NO_FRAME),
     ("lookup/src/lib.rt", ["const NO_ENTRY: SnapshotEntry = SnapshotEntry { value: HandleValue(0), info: HandleInfo { koid: Koid(0), kind: 0, rights: 0, flags: 0, }, };"], "the entry of no handle, whose words are all 0"),
     ("structure/src/lib.rt", ["(16 * size)", "{ size < 4096 }", "for i in 0..16 {", "(g as u32) * 16", "groups_ok(s, sh, 0, 16)", "sums_ok(s, sh, 0, 16)", "sums_ok(s, sh, 1, 256)"], GROUPS),
-    ("transfer/src/lib.rt", ["words::word(rq, at + 2)", "words::word(rq, at + 3)", "self.at = at + 4;"], RECORD),
+    ("transfer/src/lib.rt", ["words::word(words, at + 2)", "words::word(words, at + 3)", "item.at + 4"], RECORD),
     ("transfer/src/lib.rt", ["exportable: 0, stage: 0, count: 0"], "a record of which three other words are looked at"),
     ("transfer/src/lib.rt", ["(v % 64)"], BITS),
     ("transfer/src/lib.rt", ["(self.0 >> (v % WORD_BITS)) % 2"], HALF),

@@ -1,4 +1,6 @@
 // The answer of one request, in the words that begin at a base: a refusal's number, or 0 and the words of what was done.
+// The answers' words and the base are two parameters. One struct of both was tried, with `refuse` and two stores as its methods: it proves, but where it is given by value the contract must
+// call its words `self.exit.0.now`, since a moved struct has no field names there; and where it is lent, two clauses more say that the base and the lent words stay.
 #![tactic(auto)]
 
 ghost use Rattle.std.specs.Prelude.{◌≡◌, [], ◌∷◌};

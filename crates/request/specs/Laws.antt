@@ -9,7 +9,7 @@ use Rattle.format.specs.Ops.{op_publish, op_prepare_transfer, op_last}
 use Rattle.format.specs.Fields.{an_op, an_operation, zero_word}
 use Rattle.model.specs.Base.{pick}
 use Rattle.model.specs.Request.{Request}
-use Rattle.model.specs.Words.{and_then, Fields, must, read_list}
+use Rattle.model.specs.Words.{and_then, must, read_list}
 use Rattle.request.specs.Place.{listed, up_to, end_at, record_end, many_end, places_from, place_of, items_end, op_at, count_at, request_end, next_at, request_of, request_at}
 use Rattle.request.specs.Fields.{Whole, record_whole, first_fits}
 use Rattle.request.specs.Lists.{known_op_law, place_later, request_ends, list_turn, list_end}

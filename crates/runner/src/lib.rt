@@ -20,27 +20,26 @@ use format::refusal::{self, Refusal};
 use layout::Shape;
 use request::Record;
 
-// The request at a place, whose answer's 72 words begin at a base.
-fn run_one(s: &mut [u64], sh: Shape, rq: &[u64], at: usize, out: &mut [u64], base: usize)
-    ensures { both s.new out.new ≡ one_r s.old (cleared out.old base answer_words) sh rq.now at base }
+// The request that is a record of the list, whose answer's 72 words begin at a base.
+fn run_one(s: &mut [u64], sh: Shape, rq: &Record, out: &mut [u64], base: usize)
+    ensures { both s.new out.new ≡ one_r s.old (cleared out.old base answer_words) sh rq.now.words.now rq.now.at base }
 {
     request::clear_answer(out, base);
-    let rq = Record { words: rq, at };
     let op = rq.field(field::FIELD_OP);
-    serve::serve(s, sh, &rq, op, out, base);
+    serve::serve(s, sh, rq, op, out, base);
 }
 
 // "Then every request runs; a refused one does not stop the next": n requests, for whose answers there are words enough.
 #[tactic(auto, using(crate::proofs::Steps::list_step, crate::proofs::Steps::list_done))]
-fn run_all(s: &mut [u64], sh: Shape, rq: &[u64], n: u64, out: &mut [u64])
+fn run_all(s: &mut [u64], sh: Shape, list: &[u64], n: u64, out: &mut [u64])
     requires { answer_words * n ≤ length out.old }
-    ensures { both s.new out.new ≡ list_r one_r n s.old out.old sh rq.now 0 0 }
+    ensures { both s.new out.new ≡ list_r one_r n s.old out.old sh list.now 0 0 }
 {
-    let mut at: usize = 0;
+    let mut rq = Record { words: list, at: 0 };
     let mut base: usize = 0;
     for i in 0..n {
-        run_one(s, sh, rq, at, out, base);
-        at = request::next_request(rq, at);
+        run_one(s, sh, &rq, out, base);
+        rq.at = rq.next_request();
         base += format::size::ANSWER_PLACES;
     }
 }

@@ -27,12 +27,8 @@ pub fn serve(s: &mut [u64], sh: Shape, rq: &Record, op: u64, out: &mut [u64], ba
         op::OP_REPLACE => close::serve_replace(s, sh, rq, out, base),
         op::OP_CLOSE => close::serve_close(s, sh, rq, out, base),
         op::OP_SCAN_HANDLES => lookup::serve_scan_handles(s, sh, rq, out, base),
-        op::OP_PREPARE_TRANSFER => transfer::serve_prepare_transfer(
-            s, sh, rq.words, rq.at, out, base,
-        ),
-        op::OP_PREPARE_CONSUMPTION => transfer::serve_prepare_consumption(
-            s, sh, rq.words, rq.at, out, base,
-        ),
+        op::OP_PREPARE_TRANSFER => transfer::serve_prepare_transfer(s, sh, rq, out, base),
+        op::OP_PREPARE_CONSUMPTION => transfer::serve_prepare_consumption(s, sh, rq, out, base),
         op::OP_ROLLBACK => claim::serve_rollback(s, sh, rq, out, base),
         op::OP_COMMIT => claim::serve_commit(s, sh, rq, out, base),
         op::OP_DIRECT_COMMIT => claim::serve_direct_commit(s, sh, rq, out, base),

@@ -61,10 +61,10 @@ earlier_at rq at (suc n) = (item_at rq (place_of n rq at)).value ∷ earlier_at 
 
 -- the same of the code's own record: the items that are left, and the values of all of them
 abbrev pub items_left : TransferItems → List Item
-items_left p = items_at p.rq.now p.at p.count
+items_left p = items_at p.item.words.now p.item.at p.count
 
 abbrev pub earlier_left : TransferItems → List ℕ
-earlier_left p = earlier_at p.rq.now p.at p.count
+earlier_left p = earlier_at p.item.words.now p.item.at p.count
 
 -- ---- the checks; a number of 0 is no refusal
 

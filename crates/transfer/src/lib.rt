@@ -16,7 +16,7 @@ ghost use Rattle.format.specs.Format.{transfer_item_must};
 ghost use Rattle.format.specs.Refusals.{number, number_of};
 ghost use Rattle.layout.specs.Layout.{item, place, load as loadAt};
 ghost use Rattle.layout.specs.Fields.{item_operation};
-ghost use Rattle.request.specs.Place.{end_at, item_at, has_map, field_of};
+ghost use Rattle.request.specs.Place.{end_at, item_at, has_map, word_of};
 ghost use Rattle.book.specs.Ops.{spare};
 ghost use Rattle.answer.specs.Does.{both, reply, Gives};
 ghost use Rattle.transfer.specs.Ops.{id_words, moved_w, mark_item_w, marked_w, claim_w, consume_refusal, consumed_r, consumption_r};
@@ -36,6 +36,7 @@ use format::refusal::Refusal;
 use layout::{Shape, field, place, size, value};
 use lookup::PreparedHandle;
 use object::ObjectRecord;
+use request::Record;
 
 // Where item j of the row in place x stands; where there is none, the length.
 #[tactic(auto, using(crate::specs::Stored::item_stands, crate::specs::Stored::item_none))]
@@ -191,70 +192,70 @@ impl HandleTransferRequest {
     }
 }
 
-// What the transfer whose record stands at a place bars.
-fn read_rules(rq: &[u64], at: usize) -> TransferRules
-    ensures { RulesAt rq.now at result }
+// What the transfer of a record bars.
+fn read_rules(rq: &Record) -> TransferRules
+    ensures { RulesAt rq.now.words.now rq.now.at result }
 {
     TransferRules {
-        route: request::field(rq, at, FIELD_ROUTE),
-        forbidden_object: request::find(rq, at, FIELD_FORBIDDEN_OBJECT),
-        forbidden_kind: request::find(rq, at, FIELD_FORBIDDEN_KIND),
+        route: rq.field(FIELD_ROUTE),
+        forbidden_object: rq.find(FIELD_FORBIDDEN_OBJECT),
+        forbidden_kind: rq.find(FIELD_FORBIDDEN_KIND),
     }
 }
 
-// Whether the item whose record stands at a place has no optional field: its words are read where they stand, which `request::field` would
-// count anew from the map for each field. 64 items that are read so take 53,800 instructions with their rollback, and 72,400 by `any_item`.
-#[tactic(auto, unfolding(request::specs::Place::has_map))]
-fn is_plain(rq: &[u64], at: usize) -> bool
-    ensures { result ≡ has_map rq.now at transfer_item_must }
-{
-    at < rq.len() && rq[at] == format::maps::TRANSFER_ITEM_MUST
-}
-
-// The item whose record stands at a place, whatever its map.
+// The item of a record, whatever its map.
 #[tactic(auto, unfolding(crate::specs::Checks::item_by, request::specs::Place::item_at), using(crate::specs::Code::as_found))]
-fn any_item(rq: &[u64], at: usize) -> HandleTransferRequest
-    ensures { item_by result ≡ item_at rq.now at }
+fn any_item(item: &Record) -> HandleTransferRequest
+    ensures { item_by result ≡ item_at item.now.words.now item.now.at }
 {
     HandleTransferRequest {
-        operation: request::field(rq, at, FIELD_OP),
-        value: HandleValue(request::field(rq, at, FIELD_VALUE)),
-        rights: Rights(request::field(rq, at, FIELD_RIGHTS)),
-        offered_rights: request::find(rq, at, FIELD_OFFERED_RIGHTS),
-        offered_kind: request::find(rq, at, FIELD_OFFERED_KIND),
-        expected_kind: request::find(rq, at, FIELD_EXPECTED_KIND),
+        operation: item.field(FIELD_OP),
+        value: HandleValue(item.field(FIELD_VALUE)),
+        rights: Rights(item.field(FIELD_RIGHTS)),
+        offered_rights: item.find(FIELD_OFFERED_RIGHTS),
+        offered_kind: item.find(FIELD_OFFERED_KIND),
+        expected_kind: item.find(FIELD_EXPECTED_KIND),
     }
 }
 
-// The item of a record that `is_plain` finds.
+// The item of a record with no optional field: its words are read where they stand, which `Record::field` would count anew from the map for
+// each field. 64 items that are read so take 53,800 instructions with their rollback, and 72,400 by `any_item`.
 #[tactic(auto, unfolding(crate::specs::Checks::item_by), using(crate::specs::Plain::plain_there, crate::specs::Plain::plain_item))]
-fn plain_item(rq: &[u64], at: usize) -> HandleTransferRequest
-    requires { has_map rq.now at transfer_item_must ≡ true }
-    ensures { item_by result ≡ item_at rq.now at }
+fn plain_item(item: &Record) -> HandleTransferRequest
+    requires { has_map item.now.words.now item.now.at transfer_item_must ≡ true }
+    ensures { item_by result ≡ item_at item.now.words.now item.now.at }
 {
+    let Record { words, at } = *item;
     HandleTransferRequest {
-        operation: words::word(rq, at + 1),
-        value: HandleValue(words::word(rq, at + 2)),
-        rights: Rights(words::word(rq, at + 3)),
+        operation: words::word(words, at + 1),
+        value: HandleValue(words::word(words, at + 2)),
+        rights: Rights(words::word(words, at + 3)),
         offered_rights: None,
         offered_kind: None,
         expected_kind: None,
     }
 }
 
-// The items of a transfer: `count` records from `at` on in the request list.
+// The place after such a record.
+#[tactic(auto, using(crate::specs::Plain::plain_there, crate::specs::Plain::plain_end))]
+fn plain_end(item: &Record) -> usize
+    requires { has_map item.now.words.now item.now.at transfer_item_must ≡ true }
+    ensures { result ≡ end_at item.now.words.now item.now.at }
+{
+    item.at + 4
+}
+
+// The items of a transfer: `count` records of the list, of which the first is given.
 #[derive(Clone, Copy)]
 struct TransferItems<'a> {
-    rq: &'a [u64],
-    at: usize,
+    item: Record<'a>,
     count: u64,
 }
 
 impl<'a> TransferItems<'a> {
     // The first n of them.
     fn first(self, n: u64) -> TransferItems<'a>
-        ensures rq { result.rq ≡ self.entry.rq }
-        ensures at { result.at ≡ self.entry.at }
+        ensures item { result.item ≡ self.entry.item }
         ensures count { result.count ≡ n }
     {
         TransferItems { count: n, ..self }
@@ -269,19 +270,19 @@ impl<'a> Iterator for TransferItems<'a> {
     ghost remaining = { λ s. at_most s.count };
 
     #[inline(always)]
-    #[tactic(auto, unfolding(crate::specs::Checks::items_at, request::specs::Place::places_from), using(crate::specs::Plain::plain_there, crate::specs::Plain::plain_end))]
+    #[tactic(auto, unfolding(crate::specs::Checks::items_at, request::specs::Place::places_from))]
     fn next(&mut self) -> Option<HandleTransferRequest> {
         if self.count == 0 {
             return None;
         }
-        let at = self.at;
+        let item = self.item;
         self.count -= 1;
-        if is_plain(self.rq, at) {
-            self.at = at + 4;
-            return Some(plain_item(self.rq, at));
+        if item.has_map(format::maps::TRANSFER_ITEM_MUST) {
+            self.item.at = plain_end(&item);
+            return Some(plain_item(&item));
         }
-        self.at = request::record_end(self.rq, at);
-        Some(any_item(self.rq, at))
+        self.item.at = item.end();
+        Some(any_item(&item))
     }
 }
 
@@ -425,7 +426,7 @@ impl SeenValues {
 // Whether one of the items, which a set has, has a value: no item is read where the set does not have it.
 #[tactic(auto, using(crate::specs::Seen::seen_not))]
 fn twice(items: TransferItems, seen: SeenValues, v: u64) -> bool
-    requires { Seen items.rq.now items.at items.count seen.0 }
+    requires { Seen items.item.words.now items.item.at items.count seen.0 }
     ensures { result ≡ member v (earlier_left items.entry) }
 {
     seen.may_have(v) && listed(items, v)
@@ -442,7 +443,7 @@ fn check_item(
     q: HandleTransferRequest,
     t: TransferRules,
 ) -> Result<(), Refusal>
-    requires { Seen before.rq.now before.at before.count seen.0 }
+    requires { Seen before.item.words.now before.item.at before.count seen.0 }
     ensures { number_of result ≡ item_refusal (loadAt s.now sh) b t.route (as_option t.forbidden_object) (as_option t.forbidden_kind) (earlier_left before.entry) (item_by q) }
 {
     if twice(before, seen, q.value.0) {
@@ -622,40 +623,30 @@ fn prepare_items(
 }
 
 // "Transfer: 16, 17, 13, 1, 12; then item by item 2 (twice), 2 or 3 (lookup), 5 (rights), 8 (kind), 5 (object), 8 (route), 4; then copies
-// 9, 11". The request's record stands at `at` in the request list, and its items after it.
+// 9, 11". Its items stand after its record in the list.
 #[tactic(auto, unfolding(crate::specs::Preparing::transfer_at, crate::specs::Preparing::transfer_r), using(crate::specs::Code::items_length, crate::specs::Code::number_some))]
-pub fn prepare_transfer(
-    s: &mut [u64],
-    sh: Shape,
-    rq: &[u64],
-    at: usize,
-) -> Result<ReservationId, Refusal>
-    ensures { Gives s.new (reply id_words result) (λ os base. transfer_at s.old os sh base rq.now at) }
+pub fn prepare_transfer(s: &mut [u64], sh: Shape, rq: &Record) -> Result<ReservationId, Refusal>
+    ensures { Gives s.new (reply id_words result) (λ os base. transfer_at s.old os sh base rq.now.words.now rq.now.at) }
 {
-    let b = request::field(rq, at, FIELD_TABLE);
-    let count = request::field(rq, at, FIELD_COUNT);
+    let b = rq.field(FIELD_TABLE);
+    let count = rq.field(FIELD_COUNT);
     check_transfer(s, sh, b, count)?;
-    let t = read_rules(rq, at);
+    let t = read_rules(rq);
     let items = TransferItems {
-        rq,
-        at: request::record_end(rq, at),
+        item: Record {
+            at: rq.end(),
+            ..*rq
+        },
         count,
     };
     prepare_items(s, sh, items, b, t)
 }
 
 // The request of a list at a place.
-pub fn serve_prepare_transfer(
-    s: &mut [u64],
-    sh: Shape,
-    rq: &[u64],
-    at: usize,
-    out: &mut [u64],
-    base: usize,
-)
-    ensures { both s.new out.new ≡ transfer_at s.old out.old sh base rq.now at }
+pub fn serve_prepare_transfer(s: &mut [u64], sh: Shape, rq: &Record, out: &mut [u64], base: usize)
+    ensures { both s.new out.new ≡ transfer_at s.old out.old sh base rq.now.words.now rq.now.at }
 {
-    match prepare_transfer(s, sh, rq, at) {
+    match prepare_transfer(s, sh, rq) {
         Ok(id) => answer::say(out, base, &[id.0]),
         Err(refusal) => answer::refuse(out, base, refusal),
     }
@@ -665,16 +656,13 @@ pub fn serve_prepare_transfer(
 pub fn serve_prepare_consumption(
     s: &mut [u64],
     sh: Shape,
-    rq: &[u64],
-    at: usize,
+    rq: &Record,
     out: &mut [u64],
     base: usize,
 )
-    ensures { both s.new out.new ≡ consumption_r s.old out.old sh base (field_of rq.now at table_field) (field_of rq.now at value_field) (field_of rq.now at rights_field) (field_of rq.now at kind_field) (field_of rq.now at koid_field) }
+    ensures { both s.new out.new ≡ consumption_r s.old out.old sh base (word_of rq.now table_field) (word_of rq.now value_field) (word_of rq.now rights_field) (word_of rq.now kind_field) (word_of rq.now koid_field) }
 {
-    let [table, value, rights, kind, koid] = request::read_fields(
-        rq,
-        at,
+    let [table, value, rights, kind, koid] = rq.fields(
         op::OP_PREPARE_CONSUMPTION,
         [
             FIELD_TABLE,

@@ -6,10 +6,9 @@ use Rattle.transfer.proofs.check_items.Given as goal
 
 abbrev pub invariant-loop-q : goal.invariant-loop-q
 invariant-loop-q l = record {
-  list : l.before.rq ≡ l.items.rq;
-  place : l.before.at ≡ l.items.at;
+  item : l.before.item ≡ l.items.item;
   count : l.before.count + length (items_left l.q-iterator) ≡ l.items.count;
   taken : items_left l.items ≡ items_left l.before ++ items_left l.q-iterator;
   left : items_refusal (load l.s l.sh) l.b l.t.route (as_option l.t.forbidden_object) (as_option l.t.forbidden_kind) [] (items_left l.items) ≡ items_refusal (load l.s l.sh) l.b l.t.route (as_option l.t.forbidden_object) (as_option l.t.forbidden_kind) (earlier_left l.before) (items_left l.q-iterator);
-  seen : Seen l.before.rq.now l.before.at l.before.count l.seen.0;
+  seen : Seen l.before.item.words.now l.before.item.at l.before.count l.seen.0;
 }

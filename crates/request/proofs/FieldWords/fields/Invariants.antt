@@ -1,4 +1,4 @@
-use Rattle.std.proofs.Common.{◌≡◌, length, drop, take, ◌++◌, ◌≤◌}
+use Rattle.std.proofs.Common.{◌≡◌, drop, take, ◌++◌}
 use Rattle.format.specs.Format.{field_count}
 use Rattle.request.specs.Place.{words_by, fields_from}
 use Rattle.request.proofs.FieldWords.fields.Given as goal
