@@ -38,9 +38,6 @@ pub const FIELD_FORBIDDEN_KIND: u64 = 17;
 // How many fields there are.
 pub const FIELDS: u64 = 18;
 
-// A bit past the last, which names no field: what is read by it is 0.
-pub const NO_FIELD: u64 = FIELDS;
-
 // The kind of a field: which words one takes is `fits`. An op's record has `Op` at bit 0, a transfer item's `Operation`, a parcel item's `Zero`.
 #[derive(Clone, Copy, PartialEq, Eq)]
 pub enum FieldKind {
