@@ -31,7 +31,7 @@ fn likely_row(s: &[u64], sh: Shape, id: u64, n: u64) -> u64
     0
 }
 
-// The link of the row with an id among the first count ranks; 0 if there is none. Ids rise with rank, so that each look leaves half of the ranks.
+// The link of the row with an id among the first count ranks; 0 if there is none. Ids rise with rank, so that each look leaves half of the ranks: by a `while`, since the ids stand in lent words behind the index of ranks, and a library's search wants a slice of them.
 #[tactic(auto, using(crate::specs::Code::link_yes, crate::specs::Code::link_above, crate::specs::Code::link_below, crate::specs::Code::link_end, std::proofs::lemmas::Bool::Decides::nat_tests))]
 fn search_row(s: &[u64], sh: Shape, id: u64, count: u64) -> u64
     ensures { result ≡ link_from (loadAt s.now sh) id count 0 count }

@@ -42,6 +42,7 @@ fn abort_row(s: &mut [u64], sh: Shape, x: u64)
 }
 
 // "Closing, aborting, trimming and committing put slots at the head of the free order, one by one in list order".
+// `abort`, `rollback` and `commit`, as parcel's `release_parcel` and plan's `drop_plan`, find their row and do one step: a function for all would take the step as a closure, and each would be as long.
 #[tactic(auto, unfolding(answer::specs::Does::on_row_r))]
 pub fn abort(s: &mut [u64], sh: Shape, id: ReservationId) -> Result<(), Refusal>
     ensures { Gives s.new (reply no_words result) (λ os base. abort_r s.old os sh base id.0) }
@@ -107,7 +108,7 @@ fn undo_entry(s: &mut [u64], sh: Shape, b: u64, x: u64, j: u64)
     }
 }
 
-// Its first n entries are. This loop and the three below differ in the step: one function that took it would state what each call leaves, and be longer than they are.
+// Its first n entries are. This loop and the three below differ in the call: a loop of one call stays a loop, since a function for all would take the call as a closure, and state no more.
 #[tactic(auto, unfolding(crate::specs::Ops::each), using(crate::proofs::Each::each_last))]
 fn undo_entries(s: &mut [u64], sh: Shape, b: u64, x: u64, n: u64)
     ensures words { s.new ≡ undone_w s.old sh b x n }

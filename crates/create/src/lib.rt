@@ -233,7 +233,7 @@ fn create(s: &mut [u64], p: &[u64]) -> Result<(), Refusal>
     Ok(())
 }
 
-// Creation. Its result is 0, or 18 and no word has changed.
+// Creation. Its result is 0, or 18 and no word has changed: a number, since C calls it.
 #[tactic(auto, using(crate::specs::Meets::create_meets))]
 pub fn gurtxozal_create(state: &mut [u64], parameters: &[u64]) -> u64
     ensures words { after result state.new ≡ create_w state.old parameters.now }

@@ -33,6 +33,7 @@ pub const DONE: u64 = 0;
 impl Refusal {
     ghost use Rattle.format.specs.Refusals.{number};
 
+    // Document 01's word for it; `u64::from` would say less.
     pub fn number(self) -> u64
         ensures { result ≡ number self }
     {

@@ -269,7 +269,7 @@ fn ended(
     }
 }
 
-// A page of at most 8 occupied slots, from at most 256 slots of table b.
+// A page of at most 8 occupied slots, from at most 256 slots of table b. `len` counts the slots that are taken, not the turns.
 pub fn scan(s: &[u64], sh: Shape, b: u64, cursor: u64) -> SnapshotPage
     ensures page { result ≡ scan_of (loadAt s.now sh) b cursor }
     ensures bounded { result.examined ≤ 256 }

@@ -20,7 +20,8 @@ pub struct Record<'a> {
     pub at: usize,
 }
 
-// The fields of a record: the list's words, the place of the first field in them, and the record's bit map.
+// The fields of a record: the list's words, the place of the first field in them, and the record's bit map. `Record` has `field` and `fields` too, each of one line or loop over its own `find`: a trait for
+// both would be longer.
 #[derive(Clone, Copy)]
 struct FieldWords<'a> {
     words: &'a [u64],

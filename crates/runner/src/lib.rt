@@ -29,7 +29,7 @@ fn run_one(s: &mut [u64], sh: Shape, rq: &Record, out: &mut [u64], base: usize)
     serve::serve(s, sh, rq, op, out, base);
 }
 
-// "Then every request runs; a refused one does not stop the next": n requests, for whose answers there are words enough.
+// "Then every request runs; a refused one does not stop the next": n requests, for whose answers there are words enough. The answer's place goes on with the record's.
 #[tactic(auto, using(crate::proofs::Steps::list_step, crate::proofs::Steps::list_done))]
 fn run_all(s: &mut [u64], sh: Shape, list: &[u64], n: u64, out: &mut [u64])
     requires { answer_words * n ≤ length out.old }
@@ -95,7 +95,7 @@ fn run(s: &mut [u64], rq: &[u64], out: &mut [u64]) -> Result<(), Refusal>
     }
 }
 
-// A list of requests on a state. The result is 18, 19 or 20 and no lent word has changed, or 0 and every request has run.
+// A list of requests on a state. The result is 18, 19 or 20 and no lent word has changed, or 0 and every request has run: a number, since C calls it.
 #[tactic(auto, using(crate::specs::Both::run_both))]
 pub fn gurtxozal_run(state: &mut [u64], list: &[u64], answers: &mut [u64]) -> u64
     ensures words { called result state.new answers.new ≡ run_w one_r well_b state.old list.now answers.old }

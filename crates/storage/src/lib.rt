@@ -39,7 +39,8 @@ fn put_page_link(s: &mut [u64], sh: Shape, e: u64, l: u64, f: u64, v: u64)
     }
 }
 
-// The frame of the page that slot k of the table of a head stands on, plus 1; 0 for none.
+// The frame of the page that slot k of the table of a head stands on, plus 1; 0 for none. A link, not an `Option`: it is a word of the state, and what it is handed to reads and stores through it,
+// through 0 nothing, as the definitions do.
 #[tactic(auto, unfolding(crate::specs::Late::frame_from), using(model::proofs::Bounds::slots_max_law))]
 fn frame_of(s: &[u64], sh: Shape, h: TableHead, k: u64) -> u64
     ensures { result ≡ frame_from (loadAt s.now sh) h k }

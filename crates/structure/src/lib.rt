@@ -61,12 +61,12 @@ fn handle_ok(c: CellWords, bound: u64) -> bool
     c.object < bound && c.flags <= value::KNOWN_FLAGS
 }
 
-// A slot, on a page with that high mark. Most slots are occupied. The generation's two tests stand as they are: `contains` of a range says the same, and no plainer.
-#[tactic(auto, unfolding(crate::specs::Checks::slot_c))]
+// A slot, on a page with that high mark. Most slots are occupied.
+#[tactic(auto, unfolding(crate::specs::Checks::slot_c), using(std::proofs::lemmas::Bool::Decides::nat_tests))]
 pub fn slot_ok(c: CellWords, bound: u64, high: u64) -> bool
     ensures { result ≡ slot_c bound high c }
 {
-    if c.generation == 0 || c.generation > high {
+    if !(1..=high).contains(&c.generation) {
         return false;
     }
     if c.tag == value::TAG_OCCUPIED {

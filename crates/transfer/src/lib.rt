@@ -77,7 +77,7 @@ fn mark_item(s: &mut [u64], sh: Shape, b: u64, x: u64, j: u64)
     }
 }
 
-// So for its first n items.
+// So for its first n items. A loop of one call stays a loop: a function for such loops would take the call as a closure, and state no more.
 #[tactic(auto, unfolding(crate::specs::Ops::marked_w), using(crate::specs::Code::one_left))]
 fn mark_items(s: &mut [u64], sh: Shape, b: u64, x: u64, n: u64)
     ensures words { s.new ≡ marked_w s.old sh b x 0 n }

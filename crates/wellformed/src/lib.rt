@@ -32,7 +32,7 @@ fn check_parts(s: &[u64], sh: Shape) -> Option<u64>
 }
 
 // The slots and the objects' counts, where these parts have passed and the first `used` objects may have handles: the handles are counted in the upper halves of
-// the counts, which are cleared again.
+// the counts, which are cleared again. Its two clauses have answers: each takes facts of all three calls.
 #[tactic(auto, using(counts::specs::Used::used_few, counts::specs::Used::top_most))]
 fn check_handles(s: &mut [u64], sh: Shape, used: u64) -> bool
     requires sh_in_bounds { total sh ≤ length s.old }
