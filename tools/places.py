@@ -39,6 +39,44 @@ def found(pattern, text_of=code, test=lambda m: True):
 
 
 heads = {n: t for n, t in code.items()}
+
+
+def by_crate():
+    """What the functions of each crate say, by their heads: (crate, name, parameters, clauses)."""
+    for n, t in code.items():
+        for m in re.finditer(r"(?m)^ *(?:pub )?fn (\w+)(?:<[^>]*>)?\(([^)]*)\)([^{]*(?:\{[^}]*\}\s*(?=requires|ensures|\{)[^{]*)*)", t):
+            yield n.split("/")[1], m.group(1), [p.strip() for p in re.split(r",\s*(?![^\[]*\])", m.group(2).replace("\n", " ")) if p.strip()], m.group(3)
+
+
+KNOWN = {"s: &[u64]", "s: &mut [u64]", "sh: Shape", "own: Shape", "out: &mut [u64]", "base: usize", "rq: &[u64]", "at: usize", "rq: &Record", "self", "&self", "&mut self"}
+
+
+def together():
+    """Pairs of parameters, each standing wherever the other does."""
+    crates = {}
+    for crate, name, parameters, _ in by_crate():
+        crates.setdefault(crate, []).append((name, [p for p in parameters if p not in KNOWN]))
+    out = []
+    for crate, functions in sorted(crates.items()):
+        uses = {}
+        for name, parameters in functions:
+            for p in parameters:
+                uses.setdefault(p, []).append(name)
+        for p, names in sorted(uses.items()):
+            for q, others in sorted(uses.items()):
+                if p < q and len(names) >= 3 and names == others:
+                    out.append(f"{crate}: ({p}, {q}) in {len(names)}")
+    return out
+
+
+def asked():
+    """Facts that clauses `requires` of three or more functions of a crate state, by their text."""
+    facts = {}
+    for crate, name, _, clauses in by_crate():
+        for m in re.finditer(r"requires(?: \w+)? \{ ([^}]*?) \}", clauses):
+            facts.setdefault((crate, m.group(1)), []).append(name)
+    return [f"{crate}: {fact} in {len(names)}" for (crate, fact), names in sorted(facts.items()) if len(names) >= 3]
+
 counts = [
     (1, "enums of the crates' own", found(r"(?m)^(?:pub )?enum \w+")),
     (1, "functions that give a refusal's number as a u64 (those named .._refusal, and those whose body gives one of format::refusal's numbers)",
@@ -62,6 +100,9 @@ counts = [
     (5, "functions that take a state's words and its shape", found(HEAD, code, lambda m: re.search(r"\bs: &(?:mut )?\[u64\],\s*(?:sh|own): Shape", m.group(0)))),
     (5, "functions that take an answer's words and their base", found(HEAD, code, lambda m: re.search(r"out: &mut \[u64\],\s*base: usize", m.group(0)))),
     (5, "functions that take a list's words and a place", found(HEAD, code, lambda m: re.search(r"rq: &\[u64\],\s*at: usize", m.group(0)))),
+    (5, "groups of two or more parameters that stand together in three or more functions of a crate, wherever the first stands (but for words and shape, answer and base, list and place)",
+     together()),
+    (5, "facts that the clauses of three or more functions of a crate ask", asked()),
     (6, "arrays in structs or lent beside a length", found(r"\[\w+; [\w:]+\]")),
     (7, "matches over ops or steps", found(r"\bmatch (?:op|step|kind|k)\b")),
     (8, "files of answers", [n for n in files(r"crates/\w+/proofs/.*Answers\.antt")]),
