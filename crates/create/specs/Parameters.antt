@@ -80,11 +80,6 @@ pub from_length {ℓ} : {A : Type ℓ} (f : ℕ → A) (k n : ℕ) → length (f
 from_length f k zero = refl
 from_length f k (suc n) = ap suc (from_length f (suc k) n)
 
--- a test of each of n things, by their numbers
-pub list_all_from {ℓ} : {A : Type ℓ} (p : A → Bool) (f : ℕ → A) (k n : ℕ) → list_all (λ i. p (f i)) (range_with_len k n) ≡ every p (from f k n)
-list_all_from p f k zero = refl
-list_all_from p f k (suc n) = rw (add-one k) (ap (λ (t : Bool). p (f k) && t) (list_all_from p f (suc k) n))
-
 -- ---- tests
 
 at_most_yes : (a b : ℕ) → a ≤ b → at_most a b ≡ true
