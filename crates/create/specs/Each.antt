@@ -1,5 +1,5 @@
 -- What `all` answers of a test of each of n things, by their numbers. Assumes nothing.
-use Rattle.std.specs.Prelude.{◌≡◌, refl, Bool, ◌&&◌, Option, List, ℕ, zero, suc, ◌+◌}
+use Rattle.std.specs.Prelude.{◌≡◌, refl, Bool, ◌&&◌, Option, List, ℕ, zero, suc}
 use Rattle.std.proofs.Common.{ap, ◌∙◌, add-one}
 use Rattle.std.proofs.Math.Nat.{sub-zero}
 use Rattle.std.proofs.Math.Bool.{true, false}

@@ -1,8 +1,7 @@
 -- Creation's parameters in words: docs/formats.md, "Creation's parameters". Assumes nothing.
 use Rattle.std.specs.Prelude.{Option, Some, None}
 use Rattle.std.specs.Prelude.{◌≡◌, refl, Bool, true, false, ◌&&◌, List, [], ◌∷◌, ℕ, zero, suc, ◌+◌, ◌-◌, ◌*◌, ◌^◌, ◌≤◌, ◌<◌, min, length, get_or, ltb, leb}
-use Rattle.std.proofs.Common.{sym, ap, arith, add-one, le-ltb, ltb-true, le-leb, leb-true}
-use Rattle.std.specs.List.{list_all, range_with_len}
+use Rattle.std.proofs.Common.{sym, ap, arith, le-ltb, ltb-true, le-leb, leb-true}
 use Rattle.words.specs.Pick.{pick, bool, both, both_is, clash, all_six}
 use Rattle.layout.specs.declared.Shape.{Shape}
 use Rattle.layout.specs.Sizes.{pages_max, tables_max, frames_max, objects_max, rows_max}
