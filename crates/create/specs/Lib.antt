@@ -1,3 +1,4 @@
+pub mod Each
 pub mod Parameters
 pub mod Creation
 pub mod Memory

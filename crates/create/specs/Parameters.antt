@@ -1,8 +1,7 @@
 -- Creation's parameters in words: docs/formats.md, "Creation's parameters". Assumes nothing.
 use Rattle.std.specs.Prelude.{Option, Some, None}
 use Rattle.std.specs.Prelude.{◌≡◌, refl, Bool, true, false, ◌&&◌, List, [], ◌∷◌, ℕ, zero, suc, ◌+◌, ◌-◌, ◌*◌, ◌^◌, ◌≤◌, ◌<◌, min, length, get_or, ltb, leb}
-use Rattle.std.proofs.Common.{sym, ap, arith, add-one, le-ltb, ltb-true, le-leb, leb-true}
-use Rattle.std.specs.List.{list_all, range_with_len}
+use Rattle.std.proofs.Common.{sym, ap, arith, le-ltb, ltb-true, le-leb, leb-true}
 use Rattle.words.specs.Pick.{pick, bool, both, both_is, clash, all_six}
 use Rattle.layout.specs.declared.Shape.{Shape}
 use Rattle.layout.specs.Sizes.{pages_max, tables_max, frames_max, objects_max, rows_max}
@@ -79,11 +78,6 @@ plan_of ps = pick (leb (need ps) (length ps) && permitted till (parameters_of ps
 pub from_length {ℓ} : {A : Type ℓ} (f : ℕ → A) (k n : ℕ) → length (from f k n) ≡ n
 from_length f k zero = refl
 from_length f k (suc n) = ap suc (from_length f (suc k) n)
-
--- a test of each of n things, by their numbers
-pub list_all_from {ℓ} : {A : Type ℓ} (p : A → Bool) (f : ℕ → A) (k n : ℕ) → list_all (λ i. p (f i)) (range_with_len k n) ≡ every p (from f k n)
-list_all_from p f k zero = refl
-list_all_from p f k (suc n) = rw (add-one k) (ap (λ (t : Bool). p (f k) && t) (list_all_from p f (suc k) n))
 
 -- ---- tests
 

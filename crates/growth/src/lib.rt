@@ -273,7 +273,7 @@ pub fn advance_epoch(s: &mut [u64], sh: Shape, b: u64)
 }
 
 // Table b grows by n pages, each attached by a step that takes its number; its epoch advances once, and not for none.
-#[tactic(auto, unfolding(crate::specs::Words::aged_w))]
+#[tactic(auto, unfolding(crate::specs::Words::aged_w, crate::specs::Words::each_w), using(std::proofs::lemmas::Bool::Decides::nat_tests))]
 fn grow_by<F: Fn(&mut [u64], u64)>(s: &mut [u64], sh: Shape, b: u64, n: u64, attach: F)
     requires { F.IsAlwaysCallable attach }
     ensures { (g : ℕ → List ℕ → List ℕ) → ((p : _) (j : ℕ) (q : _) → F.post attach p j tt q → q.now ≡ g j p.now) → s.new ≡ aged_w (each_w g 0 n s.old) sh b n }

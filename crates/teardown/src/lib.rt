@@ -30,6 +30,7 @@ pub struct Removed {
 }
 
 // The first occupied slot of table b from slot k on and below slot `end`, all on one page. A page without frame is passed over as a whole.
+#[tactic(auto, using(crate::specs::Walk::page_none))]
 fn occupied_on(s: &[u64], sh: Shape, b: u64, k: u64, end: u64) -> Option<u64>
     requires page { end ≤ (k / page_size + 1) * page_size }
     requires few { end ≤ slots_max }

@@ -8,12 +8,8 @@ use Rattle.layout.specs.Layout.{load, cell}
 use Rattle.layout.specs.Fields.{slot_tag}
 use Rattle.layout.specs.Sizes.{page_size}
 use Rattle.layout.specs.Values.{tag_occupied}
-use Rattle.teardown.specs.Walk.{page_none, page_by}
+use Rattle.teardown.specs.Walk.{page_by}
 use Rattle.teardown.proofs.occupied_on.Goals as goal
-
-pub returns-in_err-fr : goal.returns-in_err-fr
-returns-in_err-fr c = c.from_residual.ensures
-    ∙ page_none (load c.args.s.now c.args.sh) c.args.b c.args.k c.args.end c.requires.page c.requires.few (sym c.frame_link.ensures ∙ omega (arith, c.in_err-fr.ensures))
 
 pub returns : goal.returns
 returns c =
