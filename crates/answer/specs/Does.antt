@@ -14,6 +14,7 @@ use Rattle.model.specs.Book.{spend_id}
 use Rattle.model.specs.Step.{decide, step}
 use Rattle.model.specs.Words.{used_words}
 use Rattle.layout.specs.declared.Shape.{Shape}
+use Rattle.codec.specs.declared.ReservationId.{ReservationId}
 use Rattle.layout.specs.Fields.{root_next_id}
 use Rattle.representation.specs.Represents.{Reps}
 use Rattle.format.specs.declared.refusal.Refusal.{Refusal}
@@ -40,6 +41,10 @@ reply words_of (Err e) = number e ∷ []
 -- the words of what was done, where nothing is to be said of it
 abbrev pub no_words : Unit {0} → List ℕ
 no_words u = []
+
+-- the word of an id
+abbrev pub id_words : ReservationId → List ℕ
+id_words i = i.0 ∷ []
 
 -- what a request does whose answer has the words vs and after which the state has the words ws: the same wherever that answer is put
 abbrev pub Gives : List ℕ → List ℕ → (List ℕ → ℕ → Both) → Type 0

@@ -9,8 +9,16 @@ ghost use Rattle.std.specs.Prelude.{◌≡◌, ◌&&◌};
 ghost use Rattle.std.specs.Int.Bits.{bit_and, bit_or};
 ghost use Rattle.authority.specs.Rights.{contains, rejoin, decomposed, duplicate_right, transfer_right};
 
+// Whether every bit asked for is held: of rights, of flags, or of the map of a record's fields.
+#[tactic(auto, unfolding(crate::specs::Rights::contains))]
+pub fn contains(held: u64, asked: u64) -> bool
+    ensures { result ≡ contains held asked }
+{
+    held & asked == asked
+}
+
 // The rights that an object supports, or that a handle grants: 64 bits.
-#[derive(Clone, Copy)]
+#[derive(Clone, Copy, PartialEq, Eq)]
 pub struct Rights(pub u64);
 
 // Rights to invoke operations on the object.
@@ -55,12 +63,11 @@ impl Rights {
         Rights(self.0 & other.0)
     }
 
-    // Three types have this test. A trait with one default method for them was tried: it proves, but it is longer than the three, and each crate that calls one must name it.
-    #[tactic(auto, unfolding(crate::specs::Rights::contains))]
+    // Three types have this method. A trait with one default method for them was tried: it proves, but it is longer than the three, and each crate that calls one must name it.
     pub fn contains(self, required: Rights) -> bool
         ensures { result ≡ contains self.0 required.0 }
     {
-        self.intersection(required).0 == required.0
+        contains(self.0, required.0)
     }
 
     #[tactic(auto, unfolding(crate::specs::Rights::operations, crate::specs::Rights::propagation), using(crate::proofs::Laws::operations_is, crate::proofs::Laws::propagation_is))]
@@ -97,11 +104,10 @@ impl HandleRights {
 }
 
 impl OperationRights {
-    #[tactic(auto, unfolding(crate::specs::Rights::contains))]
     pub fn contains(self, required: OperationRights) -> bool
         ensures { result ≡ contains self.0 required.0 }
     {
-        self.0 & required.0 == required.0
+        contains(self.0, required.0)
     }
 }
 
@@ -110,11 +116,10 @@ impl PropagationRights {
 
     pub const TRANSFER: PropagationRights = PropagationRights(2);
 
-    #[tactic(auto, unfolding(crate::specs::Rights::contains))]
     pub fn contains(self, required: PropagationRights) -> bool
         ensures { result ≡ contains self.0 required.0 }
     {
-        self.0 & required.0 == required.0
+        contains(self.0, required.0)
     }
 
     // Whether the handle may be duplicated; a copy in a transfer needs this right too.

@@ -38,7 +38,7 @@ pub struct PreparedHandle {
 }
 
 // What is told of a handle.
-#[derive(Clone, Copy)]
+#[derive(Clone, Copy, Default)]
 pub struct HandleInfo {
     pub koid: Koid,
     pub kind: u64,
@@ -64,7 +64,7 @@ pub struct Resolved {
 }
 
 // An occupied slot, as a scan shows it.
-#[derive(Clone, Copy)]
+#[derive(Clone, Copy, Default)]
 pub struct SnapshotEntry {
     pub value: HandleValue,
     pub info: HandleInfo,
@@ -228,17 +228,6 @@ pub fn snapshot_at(s: &[u64], sh: Shape, b: u64, k: u64) -> SnapshotEntry
     snapshot_by(s, sh, mask, k, w)
 }
 
-// No entry: what a page holds past its length.
-const NO_ENTRY: SnapshotEntry = SnapshotEntry {
-    value: HandleValue(0),
-    info: HandleInfo {
-        koid: Koid(0),
-        kind: 0,
-        rights: 0,
-        flags: 0,
-    },
-};
-
 // The frame of the page that slot k stands on, plus 1; fr is that of the slot before it, and is read anew where a page begins.
 fn frame_on(s: &[u64], sh: Shape, b: u64, k: u64, fr: u64) -> u64
     requires { FrameFor (loadAt s.now sh) b k fr }
@@ -278,7 +267,8 @@ pub fn scan(s: &[u64], sh: Shape, b: u64, cursor: u64) -> SnapshotPage
     let start = cursor.min(length);
     let stop = length.min(start + format::size::SCAN_SLOTS);
     let mask = layout::head_word(s, sh, b, field::HEAD_MASK);
-    let mut entries = [NO_ENTRY; format::size::SCAN_ENTRIES];
+    // Past its length a page holds entries of zeros.
+    let mut entries = [SnapshotEntry::default(); format::size::SCAN_ENTRIES];
     let mut len: usize = 0;
     let mut fr = storage::frame_link(s, sh, b, start);
     for at in start..stop {

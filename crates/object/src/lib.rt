@@ -4,7 +4,7 @@
 ghost use Rattle.std.specs.Prelude.{◌≡◌};
 ghost use Rattle.layout.specs.Layout.{load as loadAt, writes};
 ghost use Rattle.format.specs.Refusals.{number_of};
-ghost use Rattle.object.specs.Record.{no_record, activated_by, raised_by, lowered_by, retired_by, count_in, list_by, answer_by, Stepped};
+ghost use Rattle.object.specs.Record.{activated_by, raised_by, lowered_by, retired_by, count_in, list_by, answer_by, Stepped};
 ghost use Rattle.object.specs.Words.{record_at, standing_at, record_p, activate_w, raise_w, lower_w, retire_w, raise_refusal, WordsStepped};
 
 use codec::Koid;
@@ -12,7 +12,7 @@ use format::refusal::Refusal;
 use layout::{Shape, field, value};
 
 // "Objects: koid, kind, class, supported rights, exportable or not, state, active count, limit".
-#[derive(Clone, Copy)]
+#[derive(Clone, Copy, Default)]
 pub struct ObjectRecord {
     pub koid: Koid,
     pub kind: u64,
@@ -22,22 +22,6 @@ pub struct ObjectRecord {
     pub stage: u64,
     pub count: u64,
     pub limit: u64,
-}
-
-// The record of no object.
-fn no_record() -> ObjectRecord
-    ensures { result ≡ no_record }
-{
-    ObjectRecord {
-        koid: Koid(0),
-        kind: 0,
-        class: value::CLASS_LEAF,
-        supported: 0,
-        exportable: 0,
-        stage: value::STAGE_NEW,
-        count: 0,
-        limit: 0,
-    }
 }
 
 // The steps by value.
@@ -170,7 +154,7 @@ fn standing_of(s: &[u64], sh: Shape, o: u64) -> ObjectRecord
     ObjectRecord {
         stage: layout::object_word(s, sh, o, field::OBJECT_STAGE),
         count: layout::object_word(s, sh, o, field::OBJECT_ACTIVE),
-        ..no_record()
+        ..ObjectRecord::default()
     }
 }
 

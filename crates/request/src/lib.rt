@@ -3,7 +3,6 @@
 
 ghost use Rattle.std.specs.Prelude.{◌≡◌, ◌+◌, ◌*◌, ◌%◌, ◌^◌, ◌<◌, ◌≤◌, ◌&&◌, length, get_or, drop, set, ltb};
 ghost use Rattle.std.specs.Int.Count.{ones};
-ghost use Rattle.authority.specs.Rights.{contains};
 ghost use Rattle.format.specs.Format.{answer_words, field_count};
 ghost use Rattle.format.specs.Kinds.{kind_number};
 ghost use Rattle.model.specs.Base.{is_some};
@@ -35,14 +34,6 @@ fn lowest(map: u64) -> bool
     ensures { result ≡ odd map }
 {
     map % 2 == 1
-}
-
-// Whether every bit of the one map stands in the other.
-#[tactic(auto, unfolding(authority::specs::Rights::contains))]
-fn covers(held: u64, asked: u64) -> bool
-    ensures { result ≡ contains held asked }
-{
-    held & asked == asked
 }
 
 // How many fields of a map stand below a bit.
@@ -151,7 +142,7 @@ impl<'a> FieldWords<'a> {
 fn map_ok(map: u64, must: u64, allowed: u64) -> bool
     ensures { result ≡ good_map map must allowed }
 {
-    lowest(map) && covers(map, must) && covers(allowed, map)
+    lowest(map) && authority::contains(map, must) && authority::contains(allowed, map)
 }
 
 impl<'a> Record<'a> {

@@ -1,4 +1,4 @@
-use Rattle.std.proofs.Common.{refl, ap, ◌∙◌, ◌≡◌, ◌+◌, ◌-◌, ℕ, eq-eqb, ne_eqb, arith}
+use Rattle.std.proofs.Common.{refl, rules, tests, ap, ◌∙◌, ◌≡◌, ◌+◌, ◌-◌, ℕ, eq-eqb, ne_eqb, arith}
 use Rattle.model.specs.State.{max_slots}
 use Rattle.layout.specs.Layout.{load}
 use Rattle.lookup.specs.Scan.{ended_of}
@@ -11,7 +11,7 @@ unfolding max_slots
 overflow_add-start c = omega (arith, c.table_length-length.ensures, c.min-start.ensures)
 
 pub loop-at-init : goal.loop-at-init
-loop-at-init c = (omega arith, λ h n. c.frame_link-fr.ensures, scan_first _ _ _ _ _ refl)
+loop-at-init c = (omega arith, λ h n. c.frame_link-fr.ensures, scan_first _ _ _ _ _ (search (rules, tests)))
 
 pub returns-then-len-ge-SCAN_ENTRIES-clause-page : goal.returns-then-len-ge-SCAN_ENTRIES-clause-page
 returns-then-len-ge-SCAN_ENTRIES-clause-page c = scan_end _ _ _ _ _ _ _ _ c.loop-at.invariant.2 c.args.cursor _ _ c.table_length-length.ensures c.min-start.ensures (omega (arith, c.min-start.ensures, c.min-stop.ensures)) c.ended.ensures (λ h. c.if-len-ge-SCAN_ENTRIES.true)
