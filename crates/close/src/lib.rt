@@ -120,11 +120,7 @@ pub fn serve_close(s: &mut [u64], sh: Shape, rq: &Record, out: &mut [u64], base:
 {
     let [table, value] = rq.fields(op::OP_CLOSE, [FIELD_TABLE, FIELD_VALUE]);
     match close(s, sh, table, HandleValue(value)) {
-        Ok(info) => answer::say(
-            out,
-            base,
-            &[info.koid.0, info.kind, info.rights, info.flags],
-        ),
+        Ok(info) => answer::say(out, base, &info.words()),
         Err(refusal) => answer::refuse(out, base, refusal),
     }
 }

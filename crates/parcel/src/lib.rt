@@ -7,15 +7,13 @@
 
 ghost use Rattle.std.specs.Prelude.{◌≡◌, [], ◌∷◌};
 ghost use Rattle.std.specs.Iterator.{YieldsFirstBy, at_most};
-ghost use Rattle.authority.specs.Rights.{contains};
-ghost use Rattle.model.specs.State.{known_flags};
 ghost use Rattle.model.specs.Base.{member};
 ghost use Rattle.model.specs.Decision.{distinct};
 ghost use Rattle.format.specs.Fields.{id_field, table_field, object_field, value_field, rights_field, flags_field};
 ghost use Rattle.format.specs.Refusals.{number_of};
 ghost use Rattle.request.specs.Place.{parcel_at, end_at, count_at, word_of};
 ghost use Rattle.layout.specs.Layout.{load as loadAt};
-ghost use Rattle.answer.specs.Does.{both, reply, no_words, Gives};
+ghost use Rattle.answer.specs.Does.{both, reply, no_words, id_words, Gives};
 ghost use Rattle.parcel.specs.Ops.{retire_r, parcel_w, activation_refusal, new_refusal, new_object_r};
 ghost use Rattle.parcel.specs.Ops.{copy_refusal, copied_r, duplicate_r, lowered_w, released_w, release_r};
 ghost use Rattle.parcel.specs.Publishing.{ids_at, ids_left, fits, filled_w, published_w, dropped_w, spent_w, publish_r};
@@ -44,14 +42,6 @@ pub fn retire_object(s: &mut [u64], sh: Shape, o: u64) -> Result<(), Refusal>
     Ok(())
 }
 
-// Whether the flags are known ones.
-#[tactic(auto, unfolding(authority::specs::Rights::contains, model::specs::State::known_flags))]
-fn known_flags(flags: u64) -> bool
-    ensures { result ≡ contains known_flags flags }
-{
-    value::KNOWN_FLAGS & flags == flags
-}
-
 // "Activation refuses 6 not exportable, 9 retired, 10 active, 11 limit reached, in that order".
 #[tactic(auto, unfolding(crate::specs::Ops::activation_refusal))]
 pub fn may_activate(x: ObjectRecord) -> Result<(), Refusal>
@@ -73,7 +63,7 @@ pub fn may_activate(x: ObjectRecord) -> Result<(), Refusal>
 }
 
 // "New object: 1, 6, 7, activation, 12".
-#[tactic(auto, unfolding(crate::specs::Ops::new_refusal, crate::specs::Ops::row_refusal))]
+#[tactic(auto, unfolding(crate::specs::Ops::new_refusal, crate::specs::Ops::row_refusal, model::specs::State::known_flags))]
 fn check_new(s: &[u64], sh: Shape, o: u64, rights: Rights, flags: u64) -> Result<(), Refusal>
     ensures { number_of result ≡ new_refusal (loadAt s.now sh) sh o rights.0 flags }
 {
@@ -87,7 +77,7 @@ fn check_new(s: &[u64], sh: Shape, o: u64, rights: Rights, flags: u64) -> Result
     if !Rights(x.supported).contains(rights) {
         return Err(Refusal::UnsupportedRights);
     }
-    if !known_flags(flags) {
+    if !authority::contains(value::KNOWN_FLAGS, flags) {
         return Err(Refusal::UnsupportedFlags);
     }
     may_activate(x)?;
@@ -113,7 +103,7 @@ pub fn new_object(
     rights: Rights,
     flags: u64,
 ) -> Result<ReservationId, Refusal>
-    ensures { Gives s.new (reply (λ id. id.0 ∷ []) result) (λ os base. new_object_r s.old os sh base o rights.0 flags) }
+    ensures { Gives s.new (reply id_words result) (λ os base. new_object_r s.old os sh base o rights.0 flags) }
 {
     check_new(s, sh, o, rights, flags)?;
     let id = layout::root_word(s, sh, field::ROOT_NEXT_ID);
@@ -143,7 +133,7 @@ fn duplicate_handle(
     h: PreparedHandle,
     rights: Rights,
 ) -> Result<ReservationId, Refusal>
-    ensures { Gives s.new (reply (λ id. id.0 ∷ []) result) (λ os base. copied_r s.old os sh base rights.0 h) }
+    ensures { Gives s.new (reply id_words result) (λ os base. copied_r s.old os sh base rights.0 h) }
 {
     check_copy(s, sh, h, rights)?;
     let id = layout::root_word(s, sh, field::ROOT_NEXT_ID);
@@ -161,7 +151,7 @@ pub fn duplicate(
     v: HandleValue,
     rights: Rights,
 ) -> Result<ReservationId, Refusal>
-    ensures { Gives s.new (reply (λ id. id.0 ∷ []) result) (λ os base. duplicate_r s.old os sh base b v.0 rights.0) }
+    ensures { Gives s.new (reply id_words result) (λ os base. duplicate_r s.old os sh base b v.0 rights.0) }
 {
     lookup::active_table(s, sh, b)?;
     if !book::row_left(s, sh) {
@@ -277,7 +267,7 @@ fn parcels_fit(s: &[u64], sh: Shape, parcels: ParcelIds, n: u64) -> bool
 fn named(mut parcels: ParcelIds, id: ReservationId) -> bool
     ensures { result ≡ member id.0 (ids_left parcels.entry) }
 {
-    parcels.any(|other| id.0 == other.0)
+    parcels.any(|other| id == other)
 }
 
 // Whether no parcel is named twice. A batch has at most 64 slots and a parcel at least one handle, so that no more than 64 items come here.

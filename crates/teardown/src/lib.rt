@@ -224,19 +224,10 @@ pub fn serve_remove_stopping_owner(
                 entry: Some(x),
                 cursor,
             },
-        ) => answer::say(
-            out,
-            base,
-            &[
-                1,
-                cursor,
-                x.value.0,
-                x.info.koid.0,
-                x.info.kind,
-                x.info.rights,
-                x.info.flags,
-            ],
-        ),
+        ) => {
+            let [koid, kind, rights, flags] = x.info.words();
+            answer::say(out, base, &[1, cursor, x.value.0, koid, kind, rights, flags]);
+        }
         Ok(
             Removed {
                 entry: None,
@@ -259,11 +250,10 @@ pub fn serve_teardown_step(s: &mut [u64], sh: Shape, rq: &Record, out: &mut [u64
 {
     let table = rq.field(FIELD_TABLE);
     match remove_next(s, sh, table) {
-        Ok(Some(info)) => answer::say(
-            out,
-            base,
-            &[1, info.koid.0, info.kind, info.rights, info.flags],
-        ),
+        Ok(Some(info)) => {
+            let [koid, kind, rights, flags] = info.words();
+            answer::say(out, base, &[1, koid, kind, rights, flags]);
+        }
         Ok(None) => answer::say(out, base, &[0]),
         Err(refusal) => answer::refuse(out, base, refusal),
     }
