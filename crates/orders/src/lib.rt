@@ -10,46 +10,73 @@ ghost use Rattle.orders.specs.Check.{free_link, empty_link, detached_link, free_
 
 use layout::{Shape, field, size, value};
 
-// The vacant slots of page p, of the table whose first entry is e: what the busy ones leave; none of a detached page.
-#[tactic(auto, unfolding(crate::specs::Check::vacants_on))]
-fn vacants_on(s: &[u64], sh: Shape, e: u64, p: u32) -> u64
-    ensures { result ≡ vacants_on (loadAt s.now sh) e p }
-{
-    if storage::page_word(s, sh, e, p as u64, field::ENTRY_FRAME) == 0 {
-        return 0;
+// The pages of a table: how many, and the number of the first one's entry.
+#[derive(Clone, Copy)]
+struct Pages {
+    count: u32,
+    first: u64,
+}
+
+impl Pages {
+    // The vacant slots of page p: what the busy ones leave; none of a detached page.
+    #[tactic(auto, unfolding(crate::specs::Check::vacants_on))]
+    fn vacants_on(self, s: &[u64], sh: Shape, p: u32) -> u64
+        ensures { result ≡ vacants_on (loadAt s.now sh) self.first p }
+    {
+        if storage::page_word(s, sh, self.first, p as u64, field::ENTRY_FRAME) == 0 {
+            return 0;
+        }
+        let slots = head::slots_of(p as u64) as u64;
+        slots.saturating_sub(storage::page_word(s, sh, self.first, p as u64, field::ENTRY_BUSY))
     }
-    let slots = head::slots_of(p as u64) as u64;
-    slots.saturating_sub(storage::page_word(s, sh, e, p as u64, field::ENTRY_BUSY))
-}
 
-// The vacant slots of n pages.
-#[tactic(auto, using(crate::specs::Code::vacants_few), unfolding(crate::specs::Check::vacants))]
-fn count_vacants(s: &[u64], sh: Shape, n: u32, e: u64) -> u64
-    ensures { result ≡ vacants (loadAt s.now sh) n e }
-{
-    let mut c: u64 = 0;
-    for p in 0..n {
-        c += vacants_on(s, sh, e, p);
+    // The vacant slots of all pages.
+    #[tactic(auto, using(crate::specs::Code::vacants_few), unfolding(crate::specs::Check::vacants))]
+    fn vacants(self, s: &[u64], sh: Shape) -> u64
+        ensures { result ≡ vacants (loadAt s.now sh) self.count self.first }
+    {
+        let mut c: u64 = 0;
+        for p in 0..self.count {
+            c += self.vacants_on(s, sh, p);
+        }
+        c
     }
-    c
-}
 
-// Whether page p is one of the n and attached, with no busy slot.
-#[tactic(auto, unfolding(crate::specs::Check::empty_at))]
-fn page_empty(s: &[u64], sh: Shape, n: u32, e: u64, p: u64) -> bool
-    ensures { result ≡ empty_at (loadAt s.now sh) n e p }
-{
-    p < n as u64
-        && storage::page_word(s, sh, e, p, field::ENTRY_FRAME) != 0
-        && storage::page_word(s, sh, e, p, field::ENTRY_BUSY) == 0
-}
+    // Whether page p is one of them and attached, with no busy slot.
+    #[tactic(auto, unfolding(crate::specs::Check::empty_at))]
+    fn empty_at(self, s: &[u64], sh: Shape, p: u64) -> bool
+        ensures { result ≡ empty_at (loadAt s.now sh) self.count self.first p }
+    {
+        p < self.count as u64
+            && storage::page_word(s, sh, self.first, p, field::ENTRY_FRAME) != 0
+            && storage::page_word(s, sh, self.first, p, field::ENTRY_BUSY) == 0
+    }
 
-// Whether page p is one of the n and detached.
-#[tactic(auto, unfolding(crate::specs::Check::detached_at))]
-fn page_detached(s: &[u64], sh: Shape, n: u32, e: u64, p: u64) -> bool
-    ensures { result ≡ detached_at (loadAt s.now sh) n e p }
-{
-    p < n as u64 && storage::page_word(s, sh, e, p, field::ENTRY_FRAME) == 0
+    // Whether page p is one of them and detached.
+    #[tactic(auto, unfolding(crate::specs::Check::detached_at))]
+    fn detached_at(self, s: &[u64], sh: Shape, p: u64) -> bool
+        ensures { result ≡ detached_at (loadAt s.now sh) self.count self.first p }
+    {
+        p < self.count as u64 && storage::page_word(s, sh, self.first, p, field::ENTRY_FRAME) == 0
+    }
+
+    // Whether the link at is one to an empty page, which links back to before.
+    #[tactic(auto, unfolding(crate::specs::Check::empty_link))]
+    fn empty_link(self, s: &[u64], sh: Shape, at: u64, before: u64) -> bool
+        ensures { result ≡ empty_link (loadAt s.now sh) self.count self.first at before }
+    {
+        at > 0
+            && self.empty_at(s, sh, at - 1)
+            && storage::page_word(s, sh, self.first, at - 1, field::ENTRY_PREVIOUS) == before
+    }
+
+    // Whether the link at is one to a detached page; these have no links back.
+    #[tactic(auto, unfolding(crate::specs::Check::detached_link))]
+    fn detached_link(self, s: &[u64], sh: Shape, at: u64) -> bool
+        ensures { result ≡ detached_link (loadAt s.now sh) self.count self.first at }
+    {
+        at > 0 && self.detached_at(s, sh, at - 1)
+    }
 }
 
 // Whether the link at is one to a vacant slot of table b, which links back to before.
@@ -66,24 +93,6 @@ fn free_link(s: &[u64], sh: Shape, b: u64, at: u64, before: u64) -> bool
     let j = k % size::PAGE_SIZE;
     layout::cell_word(s, sh, f, j, field::SLOT_TAG) == value::TAG_VACANT
         && layout::cell_word(s, sh, f, j, field::SLOT_PREVIOUS_FREE) == before
-}
-
-// Whether the link at is one to an empty page, which links back to before.
-#[tactic(auto, unfolding(crate::specs::Check::empty_link))]
-fn empty_link(s: &[u64], sh: Shape, n: u32, e: u64, at: u64, before: u64) -> bool
-    ensures { result ≡ empty_link (loadAt s.now sh) n e at before }
-{
-    at > 0
-        && page_empty(s, sh, n, e, at - 1)
-        && storage::page_word(s, sh, e, at - 1, field::ENTRY_PREVIOUS) == before
-}
-
-// Whether the link at is one to a detached page; these have no links back.
-#[tactic(auto, unfolding(crate::specs::Check::detached_link))]
-fn detached_link(s: &[u64], sh: Shape, n: u32, e: u64, at: u64) -> bool
-    ensures { result ≡ detached_link (loadAt s.now sh) n e at }
-{
-    at > 0 && page_detached(s, sh, n, e, at - 1)
 }
 
 // Whether an order, from its first link on, has so many links, each of which passes with the one before it; 0 stands before the first, and after the last.
@@ -110,14 +119,14 @@ fn walk<N: Fn(u64) -> u64, L: Fn(u64, u64) -> bool>(
     at == 0
 }
 
-// Whether table b's free order holds every vacant slot of its n pages once and nothing else, and as many as its head says.
+// Whether table b's free order holds every vacant slot of its pages once and nothing else, and as many as its head says.
 #[tactic(auto, unfolding(crate::specs::Check::free_by))]
-fn check_free(s: &[u64], sh: Shape, b: u64, n: u32, e: u64) -> bool
-    ensures { result ≡ free_by (loadAt s.now sh) b n e }
+fn check_free(s: &[u64], sh: Shape, b: u64, pages: Pages) -> bool
+    ensures { result ≡ free_by (loadAt s.now sh) b pages.count pages.first }
 {
     let count = layout::head_word(s, sh, b, field::HEAD_FREE_SLOTS);
     let first = layout::head_word(s, sh, b, field::HEAD_FIRST_FREE);
-    count_vacants(s, sh, n, e) == count
+    pages.vacants(s, sh) == count
         && walk(
             first,
             count,
@@ -128,33 +137,33 @@ fn check_free(s: &[u64], sh: Shape, b: u64, n: u32, e: u64) -> bool
 
 // Whether the empty pages' order holds every empty page once and nothing else.
 #[tactic(auto, unfolding(crate::specs::Check::empty_by))]
-fn check_empty(s: &[u64], sh: Shape, b: u64, n: u32, e: u64) -> bool
-    ensures { result ≡ empty_by (loadAt s.now sh) b n e }
+fn check_empty(s: &[u64], sh: Shape, b: u64, pages: Pages) -> bool
+    ensures { result ≡ empty_by (loadAt s.now sh) b pages.count pages.first }
 {
-    let count = (0..n)
-        .filter(|p| page_empty(s, sh, n, e, *p as u64))
+    let count = (0..pages.count)
+        .filter(|p| pages.empty_at(s, sh, *p as u64))
         .count();
     walk(
         layout::head_word(s, sh, b, field::HEAD_FIRST_EMPTY),
         count as u64,
-        |p| storage::page_word(s, sh, e, p, field::ENTRY_NEXT),
-        |at, before| empty_link(s, sh, n, e, at, before),
+        |p| storage::page_word(s, sh, pages.first, p, field::ENTRY_NEXT),
+        |at, before| pages.empty_link(s, sh, at, before),
     )
 }
 
 // Whether the detached pages' order holds every detached page once and nothing else.
 #[tactic(auto, unfolding(crate::specs::Check::detached_by))]
-fn check_detached(s: &[u64], sh: Shape, b: u64, n: u32, e: u64) -> bool
-    ensures { result ≡ detached_by (loadAt s.now sh) b n e }
+fn check_detached(s: &[u64], sh: Shape, b: u64, pages: Pages) -> bool
+    ensures { result ≡ detached_by (loadAt s.now sh) b pages.count pages.first }
 {
-    let count = (0..n)
-        .filter(|p| page_detached(s, sh, n, e, *p as u64))
+    let count = (0..pages.count)
+        .filter(|p| pages.detached_at(s, sh, *p as u64))
         .count();
     walk(
         layout::head_word(s, sh, b, field::HEAD_FIRST_DETACHED),
         count as u64,
-        |p| storage::page_word(s, sh, e, p, field::ENTRY_NEXT),
-        |at, _| detached_link(s, sh, n, e, at),
+        |p| storage::page_word(s, sh, pages.first, p, field::ENTRY_NEXT),
+        |at, _| pages.detached_link(s, sh, at),
     )
 }
 
@@ -166,9 +175,11 @@ fn check_table(s: &[u64], sh: Shape, b: u64) -> bool
     if size > size::PAGES_MAX {
         return false;
     }
-    let e = layout::head_word(s, sh, b, field::HEAD_FIRST_ENTRY);
-    let n = size as u32;
-    check_free(s, sh, b, n, e) && check_empty(s, sh, b, n, e) && check_detached(s, sh, b, n, e)
+    let pages = Pages {
+        count: size as u32,
+        first: layout::head_word(s, sh, b, field::HEAD_FIRST_ENTRY),
+    };
+    check_free(s, sh, b, pages) && check_empty(s, sh, b, pages) && check_detached(s, sh, b, pages)
 }
 
 // Whether every table's orders hold what they are to hold.

@@ -9,5 +9,5 @@ pub returns : goal.returns
 unfolding detached_by tally
 returns c =
     let m : Mem = load c.args.s.now c.args.sh in
-    let e = range_count (detached_at m c.args.n c.args.e) c.args.n _ _ c.count-count.ensures.ran c.filter.ensures.source c.filter.ensures.closure (λ x b q k. search (rules, tests)) in
-    c.walk.ensures (page_next m c.args.e) (λ h p. detached_link m c.args.n c.args.e h) (λ k r h p. search rules) (λ h p r l j q. search rules) ∙ rw (e, c.head_word.ensures)
+    let e = range_count (detached_at m c.args.pages.count c.args.pages.first) c.args.pages.count _ _ c.count-count.ensures.ran c.filter.ensures.source c.filter.ensures.closure (λ x b q k. search (rules, tests)) in
+    c.walk.ensures (page_next m c.args.pages.first) (λ h p. detached_link m c.args.pages.count c.args.pages.first h) (λ k r h p. search rules) (λ h p r l j q. search rules) ∙ rw (e, c.head_word.ensures)
