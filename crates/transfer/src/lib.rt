@@ -97,26 +97,32 @@ fn open_claim(s: &mut [u64], sh: Shape, b: u64, n: u64)
     mark_items(s, sh, b, x, n);
 }
 
+// What a consumption asks of a handle: rights, and the kind and the koid of its object.
+#[derive(Clone, Copy)]
+pub struct ConsumptionRules {
+    pub required: Rights,
+    pub expected_kind: u64,
+    pub expected_koid: Koid,
+}
+
 // "Consumption: 16, 1, 2 or 3, 5, 4, 2, 12": from 5 on.
 #[tactic(auto, unfolding(crate::specs::Ops::consume_refusal))]
 fn check_consumption(
     s: &[u64],
     sh: Shape,
     h: PreparedHandle,
-    required: Rights,
-    kind: u64,
-    koid: Koid,
+    t: ConsumptionRules,
 ) -> Result<(), Refusal>
-    ensures { number_of result ≡ consume_refusal (loadAt s.now sh) h required.0 kind koid.0 }
+    ensures { number_of result ≡ consume_refusal (loadAt s.now sh) h t.required.0 t.expected_kind t.expected_koid.0 }
 {
-    if !Rights(h.rights).contains(required) {
+    if !Rights(h.rights).contains(t.required) {
         return Err(Refusal::AccessDenied);
     }
     let info = lookup::info_of(s, sh, h);
-    if info.kind != kind {
+    if info.kind != t.expected_kind {
         return Err(Refusal::WrongObjectType);
     }
-    if info.koid.0 != koid.0 {
+    if info.koid.0 != t.expected_koid.0 {
         return Err(Refusal::InvalidHandle);
     }
     book::id_left(s, sh)
@@ -129,13 +135,11 @@ fn consume_handle(
     sh: Shape,
     b: u64,
     h: PreparedHandle,
-    required: Rights,
-    kind: u64,
-    koid: Koid,
+    t: ConsumptionRules,
 ) -> Result<ReservationId, Refusal>
-    ensures { Gives s.new (reply id_words result) (λ os base. consumed_r s.old os sh base b required.0 kind koid.0 h) }
+    ensures { Gives s.new (reply id_words result) (λ os base. consumed_r s.old os sh base b t.required.0 t.expected_kind t.expected_koid.0 h) }
 {
-    check_consumption(s, sh, h, required, kind, koid)?;
+    check_consumption(s, sh, h, t)?;
     let id = layout::root_word(s, sh, field::ROOT_NEXT_ID);
     let x = book::spare_place(s, sh);
     put_moved(s, sh, x, 0, h, h.rights);
@@ -150,18 +154,16 @@ pub fn prepare_consumption(
     sh: Shape,
     b: u64,
     v: HandleValue,
-    required: Rights,
-    kind: u64,
-    koid: Koid,
+    t: ConsumptionRules,
 ) -> Result<ReservationId, Refusal>
-    ensures { Gives s.new (reply id_words result) (λ os base. consumption_r s.old os sh base b v.0 required.0 kind koid.0) }
+    ensures { Gives s.new (reply id_words result) (λ os base. consumption_r s.old os sh base b v.0 t.required.0 t.expected_kind t.expected_koid.0) }
 {
     lookup::active_table(s, sh, b)?;
     if !book::row_left(s, sh) {
         return Err(Refusal::Allocation);
     }
     let h = lookup::find_handle(s, sh, b, v)?;
-    consume_handle(s, sh, b, h, required, kind, koid)
+    consume_handle(s, sh, b, h, t)
 }
 
 // What a transfer bars: classes by its route, an object by its koid, and a kind.
@@ -246,6 +248,7 @@ fn plain_end(item: &Record) -> usize
 }
 
 // The items of a transfer: `count` records of the list, of which the first is given.
+// Their table is no field: `listed` and `twice` need none, and the functions of one item take the table without the others.
 #[derive(Clone, Copy)]
 struct TransferItems<'a> {
     item: Record<'a>,
@@ -666,15 +669,12 @@ pub fn serve_prepare_consumption(
             FIELD_KOID,
         ],
     );
-    match prepare_consumption(
-        s,
-        sh,
-        table,
-        HandleValue(value),
-        Rights(rights),
-        kind,
-        Koid(koid),
-    ) {
+    let t = ConsumptionRules {
+        required: Rights(rights),
+        expected_kind: kind,
+        expected_koid: Koid(koid),
+    };
+    match prepare_consumption(s, sh, table, HandleValue(value), t) {
         Ok(id) => answer::say(out, base, &[id.0]),
         Err(refusal) => answer::refuse(out, base, refusal),
     }
