@@ -18,8 +18,8 @@ ghost use Rattle.layout.specs.Layout.{item, place, load as loadAt};
 ghost use Rattle.layout.specs.Fields.{item_operation};
 ghost use Rattle.request.specs.Place.{end_at, item_at, has_map, word_of};
 ghost use Rattle.book.specs.Ops.{spare};
-ghost use Rattle.answer.specs.Does.{both, reply, Gives};
-ghost use Rattle.transfer.specs.Ops.{id_words, moved_w, mark_item_w, marked_w, claim_w, consume_refusal, consumed_r, consumption_r};
+ghost use Rattle.answer.specs.Does.{both, reply, id_words, Gives};
+ghost use Rattle.transfer.specs.Ops.{moved_w, mark_item_w, marked_w, claim_w, consume_refusal, consumed_r, consumption_r};
 ghost use Rattle.transfer.specs.Checks.{as_option, item_by, looked_at, RulesAt, items_left, earlier_left, transfer_refusal, route_bars, rights_refusal, object_refusal, handle_refusal, item_refusal, items_refusal};
 ghost use Rattle.transfer.specs.Seen.{bit_of, Seen};
 ghost use Rattle.transfer.specs.Preparing.{copy_link, link_of, tried, raised_item, raised_items, lowered_item, lowered_items, copied_w, handle_entry_w, entry_w, entries_w, refuse_spent_r, items_r, transfer_at};
@@ -116,7 +116,7 @@ fn check_consumption(
     if info.kind != kind {
         return Err(Refusal::WrongObjectType);
     }
-    if info.koid.0 != koid.0 {
+    if info.koid != koid {
         return Err(Refusal::InvalidHandle);
     }
     book::id_left(s, sh)
@@ -370,11 +370,7 @@ fn look_at(s: &[u64], sh: Shape, o: u64) -> ObjectRecord
         koid: Koid(layout::object_word(s, sh, o, field::OBJECT_KOID)),
         kind: layout::object_word(s, sh, o, field::OBJECT_KIND),
         class: layout::object_word(s, sh, o, field::OBJECT_CLASS),
-        supported: 0,
-        exportable: 0,
-        stage: 0,
-        count: 0,
-        limit: 0,
+        ..ObjectRecord::default()
     }
 }
 
