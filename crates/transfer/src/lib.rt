@@ -390,10 +390,10 @@ fn check_handle(
 }
 
 // Whether one of the items has a value: "A value listed twice in one transfer gives InvalidHandle, even if one is Copy".
-fn listed(mut items: TransferItems, v: u64) -> bool
-    ensures { result ≡ member v (earlier_left items.entry) }
+fn listed(mut items: TransferItems, v: HandleValue) -> bool
+    ensures { result ≡ member v.0 (earlier_left items.entry) }
 {
-    items.any(|q| v == q.value.0)
+    items.any(|q| v == q.value)
 }
 
 // Bits of a word.
@@ -406,25 +406,25 @@ struct SeenValues(u64);
 impl SeenValues {
     // Whether the bit of a value stands.
     #[tactic(auto, unfolding(crate::specs::Seen::bit_of))]
-    fn may_have(self, v: u64) -> bool
-        ensures { result ≡ eqb (bit_of self.0 v) 1 }
+    fn may_have(self, v: HandleValue) -> bool
+        ensures { result ≡ eqb (bit_of self.0 v.0) 1 }
     {
-        (self.0 >> (v % WORD_BITS)) % 2 == 1
+        (self.0 >> (v.0 % WORD_BITS)) % 2 == 1
     }
 
     // The set with a value.
-    fn with(self, v: u64) -> SeenValues
-        ensures { result.0 ≡ bit_or self.0 (2 ^ (v % 64)) }
+    fn with(self, v: HandleValue) -> SeenValues
+        ensures { result.0 ≡ bit_or self.0 (2 ^ (v.0 % 64)) }
     {
-        SeenValues(self.0 | 1 << (v % WORD_BITS))
+        SeenValues(self.0 | 1 << (v.0 % WORD_BITS))
     }
 }
 
 // Whether one of the items, which a set has, has a value: no item is read where the set does not have it.
 #[tactic(auto, using(crate::specs::Seen::seen_not))]
-fn twice(items: TransferItems, seen: SeenValues, v: u64) -> bool
+fn twice(items: TransferItems, seen: SeenValues, v: HandleValue) -> bool
     requires { Seen items.item.words.now items.item.at items.count seen.0 }
-    ensures { result ≡ member v (earlier_left items.entry) }
+    ensures { result ≡ member v.0 (earlier_left items.entry) }
 {
     seen.may_have(v) && listed(items, v)
 }
@@ -443,7 +443,7 @@ fn check_item(
     requires { Seen before.item.words.now before.item.at before.count seen.0 }
     ensures { number_of result ≡ item_refusal (loadAt s.now sh) b t.route (as_option t.forbidden_object) (as_option t.forbidden_kind) (earlier_left before.entry) (item_by q) }
 {
-    if twice(before, seen, q.value.0) {
+    if twice(before, seen, q.value) {
         return Err(Refusal::InvalidHandle);
     }
     let h = lookup::find_handle(s, sh, b, q.value)?;
@@ -464,7 +464,7 @@ fn check_items(
     let mut seen = SeenValues(0);
     for (i, q) in items.enumerate() {
         check_item(s, sh, items.first(i as u64), seen, b, q, t)?;
-        seen = seen.with(q.value.0);
+        seen = seen.with(q.value);
     }
     Ok(())
 }
