@@ -94,9 +94,8 @@ EXCUSED = [
     ("runner/src/lib.rt", ["called 20"], DOCUMENT_01),
     ("structure/src/lib.rt", ["(16 * size)", "{ size < 4096 }", "for i in 0..16 {", "(g as u32) * 16", "groups_ok(s, sh, 0, 16)", "sums_ok(s, sh, 0, 16)", "sums_ok(s, sh, 1, 256)"], GROUPS),
     ("transfer/src/lib.rt", ["words::word(words, at + 2)", "words::word(words, at + 3)", "item.at + 4"], RECORD),
-    ("transfer/src/lib.rt", ["exportable: 0, stage: 0, count: 0"], "a record of which three other words are looked at"),
-    ("transfer/src/lib.rt", ["(v % 64)"], BITS),
-    ("transfer/src/lib.rt", ["(self.0 >> (v % WORD_BITS)) % 2"], HALF),
+    ("transfer/src/lib.rt", ["(v.0 % 64)"], BITS),
+    ("transfer/src/lib.rt", ["(self.0 >> (v.0 % WORD_BITS)) % 2"], HALF),
     ("wellformed/src/lib.rt", ["let _ = words::word(s, 0);"], "any word: what it holds is not used"),
 ]
 EXCEPTIONS = [(f"crates/{file}", text, reason) for file, texts, reason in EXCUSED for text in texts]

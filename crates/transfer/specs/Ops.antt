@@ -2,7 +2,6 @@
 use Rattle.std.specs.Prelude.{List, [], ◌∷◌, ℕ, zero, suc, eqb}
 use Rattle.words.specs.Pick.{pick}
 use Rattle.authority.specs.Rights.{contains}
-use Rattle.codec.specs.declared.ReservationId.{ReservationId}
 use Rattle.layout.specs.declared.Shape.{Shape}
 use Rattle.layout.specs.Layout.{Mem, root, object, item, load, Write, Write.at, writes}
 use Rattle.layout.specs.Fields.{root_next_id, object_koid, object_kind, item_operation, item_moved, item_object, item_rights, item_flags, item_granted}
@@ -13,10 +12,6 @@ use Rattle.answer.specs.Does.{Both, both, answered, refuse_r}
 use Rattle.lookup.specs.declared.PreparedHandle.{PreparedHandle}
 use Rattle.lookup.specs.View.{table_refusal, open_of}
 use Rattle.lookup.specs.Read.{on_opened}
-
--- the words of a claim that opens: its id
-abbrev pub id_words : ReservationId → List ℕ
-id_words i = i.0 ∷ []
 
 -- ---- a claim
 

@@ -18,8 +18,8 @@ ghost use Rattle.layout.specs.Layout.{item, place, load as loadAt};
 ghost use Rattle.layout.specs.Fields.{item_operation};
 ghost use Rattle.request.specs.Place.{end_at, item_at, has_map, word_of};
 ghost use Rattle.book.specs.Ops.{spare};
-ghost use Rattle.answer.specs.Does.{both, reply, Gives};
-ghost use Rattle.transfer.specs.Ops.{id_words, moved_w, mark_item_w, marked_w, claim_w, consume_refusal, consumed_r, consumption_r};
+ghost use Rattle.answer.specs.Does.{both, reply, id_words, Gives};
+ghost use Rattle.transfer.specs.Ops.{moved_w, mark_item_w, marked_w, claim_w, consume_refusal, consumed_r, consumption_r};
 ghost use Rattle.transfer.specs.Checks.{as_option, item_by, looked_at, RulesAt, items_left, earlier_left, transfer_refusal, route_bars, rights_refusal, object_refusal, handle_refusal, item_refusal, items_refusal};
 ghost use Rattle.transfer.specs.Seen.{bit_of, Seen};
 ghost use Rattle.transfer.specs.Preparing.{copy_link, link_of, tried, raised_item, raised_items, lowered_item, lowered_items, copied_w, handle_entry_w, entry_w, entries_w, refuse_spent_r, items_r, transfer_at};
@@ -122,7 +122,7 @@ fn check_consumption(
     if info.kind != t.expected_kind {
         return Err(Refusal::WrongObjectType);
     }
-    if info.koid.0 != t.expected_koid.0 {
+    if info.koid != t.expected_koid {
         return Err(Refusal::InvalidHandle);
     }
     book::id_left(s, sh)
@@ -373,11 +373,7 @@ fn look_at(s: &[u64], sh: Shape, o: u64) -> ObjectRecord
         koid: Koid(layout::object_word(s, sh, o, field::OBJECT_KOID)),
         kind: layout::object_word(s, sh, o, field::OBJECT_KIND),
         class: layout::object_word(s, sh, o, field::OBJECT_CLASS),
-        supported: 0,
-        exportable: 0,
-        stage: 0,
-        count: 0,
-        limit: 0,
+        ..ObjectRecord::default()
     }
 }
 
@@ -397,10 +393,10 @@ fn check_handle(
 }
 
 // Whether one of the items has a value: "A value listed twice in one transfer gives InvalidHandle, even if one is Copy".
-fn listed(mut items: TransferItems, v: u64) -> bool
-    ensures { result ≡ member v (earlier_left items.entry) }
+fn listed(mut items: TransferItems, v: HandleValue) -> bool
+    ensures { result ≡ member v.0 (earlier_left items.entry) }
 {
-    items.any(|q| v == q.value.0)
+    items.any(|q| v == q.value)
 }
 
 // Bits of a word.
@@ -413,25 +409,25 @@ struct SeenValues(u64);
 impl SeenValues {
     // Whether the bit of a value stands.
     #[tactic(auto, unfolding(crate::specs::Seen::bit_of))]
-    fn may_have(self, v: u64) -> bool
-        ensures { result ≡ eqb (bit_of self.0 v) 1 }
+    fn may_have(self, v: HandleValue) -> bool
+        ensures { result ≡ eqb (bit_of self.0 v.0) 1 }
     {
-        (self.0 >> (v % WORD_BITS)) % 2 == 1
+        (self.0 >> (v.0 % WORD_BITS)) % 2 == 1
     }
 
     // The set with a value.
-    fn with(self, v: u64) -> SeenValues
-        ensures { result.0 ≡ bit_or self.0 (2 ^ (v % 64)) }
+    fn with(self, v: HandleValue) -> SeenValues
+        ensures { result.0 ≡ bit_or self.0 (2 ^ (v.0 % 64)) }
     {
-        SeenValues(self.0 | 1 << (v % WORD_BITS))
+        SeenValues(self.0 | 1 << (v.0 % WORD_BITS))
     }
 }
 
 // Whether one of the items, which a set has, has a value: no item is read where the set does not have it.
 #[tactic(auto, using(crate::specs::Seen::seen_not))]
-fn twice(items: TransferItems, seen: SeenValues, v: u64) -> bool
+fn twice(items: TransferItems, seen: SeenValues, v: HandleValue) -> bool
     requires { Seen items.item.words.now items.item.at items.count seen.0 }
-    ensures { result ≡ member v (earlier_left items.entry) }
+    ensures { result ≡ member v.0 (earlier_left items.entry) }
 {
     seen.may_have(v) && listed(items, v)
 }
@@ -450,7 +446,7 @@ fn check_item(
     requires { Seen before.item.words.now before.item.at before.count seen.0 }
     ensures { number_of result ≡ item_refusal (loadAt s.now sh) b t.route (as_option t.forbidden_object) (as_option t.forbidden_kind) (earlier_left before.entry) (item_by q) }
 {
-    if twice(before, seen, q.value.0) {
+    if twice(before, seen, q.value) {
         return Err(Refusal::InvalidHandle);
     }
     let h = lookup::find_handle(s, sh, b, q.value)?;
@@ -471,7 +467,7 @@ fn check_items(
     let mut seen = SeenValues(0);
     for (i, q) in items.enumerate() {
         check_item(s, sh, items.first(i as u64), seen, b, q, t)?;
-        seen = seen.with(q.value.0);
+        seen = seen.with(q.value);
     }
     Ok(())
 }

@@ -9,5 +9,5 @@ use Rattle.transfer.proofs.listed.Goals as goal
 pub returns : goal.returns
 unfolding item_by
 returns c =
-    any_from_yields_List (λ (q : Item). eqb c.args.v q.value) c.any.new.self _ _ c.any.ensures.ran (YieldsList-from_first item_by items_left {s = c.args.items} _ refl) (λ x b q k. search (rules, tests))
-    ∙ any_earlier c.args.v _ _ _
+    any_from_yields_List (λ (q : Item). eqb c.args.v.0 q.value) c.any.new.self _ _ c.any.ensures.ran (YieldsList-from_first item_by items_left {s = c.args.items} _ refl) (λ x b q k. search (rules, tests))
+    ∙ any_earlier c.args.v.0 _ _ _
