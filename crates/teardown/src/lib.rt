@@ -226,7 +226,11 @@ pub fn serve_remove_stopping_owner(
             },
         ) => {
             let [koid, kind, rights, flags] = x.info.words();
-            answer::say(out, base, &[1, cursor, x.value.0, koid, kind, rights, flags]);
+            answer::say(
+                out,
+                base,
+                &[1, cursor, x.value.0, koid, kind, rights, flags],
+            );
         }
         Ok(
             Removed {
