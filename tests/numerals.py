@@ -93,7 +93,7 @@ EXCUSED = [
     ("reserve/src/lib.rt", ["answer_put(out, base, (j + 3) as usize, value.0)", "base 3 (values_at"], ANSWER),
     ("runner/src/lib.rt", ["called 20"], DOCUMENT_01),
     ("lookup/src/lib.rt", ["const NO_ENTRY: SnapshotEntry = SnapshotEntry { value: HandleValue(0), info: HandleInfo { koid: Koid(0), kind: 0, rights: 0, flags: 0, }, };"], "the entry of no handle, whose words are all 0"),
-    ("structure/src/lib.rt", ["(16 * size)", "{ size < 4096 }", "for i in 0..16 {", "(g as u32) * 16", "groups_ok(s, sh, 0, 16)", "sums_ok(s, sh, 0, 16)", "sums_ok(s, sh, 1, 256)"], GROUPS),
+    ("structure/src/lib.rt", ["Sixteens = 16,", "Hundreds = 256,", "sh.frames 0 16 (div_ceil sh.frames 16)", "(0..sh.frames.div_ceil(16)).all", "(g as u32) * 16, 16)", "(16 * level_size", "for i in 0..16 {", "(16 * below.size())", "(g as u32) * 16)"], GROUPS),
     ("transfer/src/lib.rt", ["words::word(words, at + 2)", "words::word(words, at + 3)", "item.at + 4"], RECORD),
     ("transfer/src/lib.rt", ["exportable: 0, stage: 0, count: 0"], "a record of which three other words are looked at"),
     ("transfer/src/lib.rt", ["(v % 64)"], BITS),
