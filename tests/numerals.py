@@ -77,7 +77,7 @@ EXCUSED = [
     ("counts/src/lib.rt", ["s[at] == 0 && object_ok"], "an object's active count, which is a number"),
     ("create/src/lib.rt", ["4 + (b as usize) * 2", "4 + (k as usize) * 2", "4 + (t as u32) * 2", "base + (k as u32) * 6", "4 + t * 2 + o * 6", "4 + (sh.tables as usize) * 2 + (o as usize) * 6"], PARAMETERS),
     ("create/src/lib.rt", ["words::word(p, 2)", "words::word(p, 3)", "words::word(p, i + 2)", "words::word(p, i + 4)", "words::word(p, i + 5)", "words::word(p, at + 2)", "words::word(p, at + 3)", "words::word(p, at + 4)", "words::word(p, at + 5)"], PARAMETERS),
-    ("create/src/lib.rt", ["region::REGION_GROUP_16, 16", "region::REGION_GROUP_256, 256", "region::REGION_GROUP_4096, 4096"], GROUPS),
+    ("create/src/lib.rt", ["Sixteens = 16,", "Hundreds = 256,", "Thousands = 4096,"], GROUPS),
     ("frames/src/lib.rt", ["from ≤ 1000000"], "more than a scan of groups comes to: so sums stay words"),
     ("frames/src/lib.rt", ["k) from 16", "from + 16", "c * 16", "b * 16", "a * 16", "layout::region::REGION_GROUP_16, f / 16", "layout::region::REGION_GROUP_256, f / 256", "layout::region::REGION_GROUP_4096, f / 4096"], GROUPS),
     ("growth/src/lib.rt", ["+ (j as u64) + 2"], "the slot after, as a link: each plus 1"),
