@@ -8,6 +8,8 @@ use Rattle.codec.specs.Codec.{mask_of}
 use Rattle.layout.specs.Turns.{turns}
 use Rattle.layout.specs.Fields.{root_version, root_tables, root_frames, root_objects, root_rows, root_next_id, root_free_frames, root_pages, head_page_limit, head_mask, head_first_entry, object_koid, object_kind, object_class, object_supported, object_exportable, object_limit}
 use Rattle.layout.specs.RegionNames.{region_group16, region_group256, region_group4096}
+use Rattle.create.specs.declared.Level.{Level}
+use Rattle.create.specs.declared.Level.TheVariants.{Sixteens, Hundreds, Thousands}
 use Rattle.create.specs.Parameters.{table_from, object_of, page_sum, plan_of}
 
 -- words 0 to n - 1 are 0
@@ -39,6 +41,17 @@ object_p ps t o =
 
 abbrev pub objects_w : List ℕ → Shape → List ℕ → ℕ → List ℕ
 objects_w ws sh ps n = turns ws sh (object_p ps sh.tables) n
+
+-- a level's groups: how many frames each has, and the region of their counts
+abbrev pub level_size : Level → ℕ
+level_size Sixteens = 16
+level_size Hundreds = 256
+level_size Thousands = 4096
+
+abbrev pub level_region : Level → ℕ
+level_region Sixteens = region_group16
+level_region Hundreds = region_group256
+level_region Thousands = region_group4096
 
 -- the frames of a group: its size, or what is left
 abbrev pub group_p : Shape → ℕ → ℕ → ℕ → List Write

@@ -1,7 +1,7 @@
 // Creation: a new state in lent words. A call beside the request list.
 #![tactic(auto)]
 
-ghost use Rattle.std.specs.Prelude.{◌≡◌, ◌^◌, ◌<◌, ◌≤◌, length};
+ghost use Rattle.std.specs.Prelude.{◌≡◌, ◌≤◌, length};
 ghost use Rattle.std.specs.Int.{div_ceil};
 ghost use Rattle.model.specs.Base.{every};
 ghost use Rattle.model.specs.State.{till};
@@ -10,7 +10,7 @@ ghost use Rattle.format.specs.Refusals.{number_of};
 ghost use Rattle.layout.specs.Layout.{total, writes};
 ghost use Rattle.create.specs.Parameters.{table_from, object_from, tables_in, objects_in, page_sum, counts_fit, plan_of};
 ghost use Rattle.create.specs.Meets.{Meets};
-ghost use Rattle.create.specs.Creation.{cleared_w, header_w, head_p, heads_w, object_p, objects_w, groups_w, levels_w, places_w, built_w, after, create_w};
+ghost use Rattle.create.specs.Creation.{cleared_w, header_w, head_p, heads_w, object_p, objects_w, level_size, level_region, groups_w, levels_w, places_w, built_w, after, create_w};
 
 use format::refusal::{self, Refusal};
 use layout::{Shape, field, region, size, value};
@@ -173,14 +173,41 @@ fn make_objects(s: &mut [u64], sh: Shape, p: &[u64])
     }
 }
 
+// A level of groups of frames, by how many frames a group has.
+#[derive(Clone, Copy)]
+enum Level {
+    Sixteens = 16,
+    Hundreds = 256,
+    Thousands = 4096,
+}
+
+impl Level {
+    fn size(self) -> u64
+        ensures { result ≡ level_size self }
+    {
+        self as u64
+    }
+
+    // The region of its counts.
+    fn region(self) -> u64
+        ensures { result ≡ level_region self }
+    {
+        match self {
+            Self::Sixteens => region::REGION_GROUP_16,
+            Self::Hundreds => region::REGION_GROUP_256,
+            Self::Thousands => region::REGION_GROUP_4096,
+        }
+    }
+}
+
 // The free frames of each group of a level.
 #[tactic(auto, unfolding(layout::specs::Turns::turns))]
-fn make_groups(s: &mut [u64], sh: Shape, region: u64, size: u64)
-    requires some { 0 < size }
-    requires few { size < 2 ^ 16 }
-    ensures { s.new ≡ groups_w s.old sh region size (div_ceil sh.frames size) }
+fn make_groups(s: &mut [u64], sh: Shape, level: Level)
+    ensures { s.new ≡ groups_w s.old sh (level_region level) (level_size level) (div_ceil sh.frames (level_size level)) }
 {
     let frames = sh.frames as u64;
+    let size = level.size();
+    let region = level.region();
     for k in 0..frames.div_ceil(size) {
         let rest = frames.saturating_sub(k * size);
         layout::save(s, sh, region, k, 0, 0, size.min(rest));
@@ -191,9 +218,9 @@ fn make_groups(s: &mut [u64], sh: Shape, region: u64, size: u64)
 fn make_levels(s: &mut [u64], sh: Shape)
     ensures { s.new ≡ levels_w s.old sh }
 {
-    make_groups(s, sh, region::REGION_GROUP_16, 16);
-    make_groups(s, sh, region::REGION_GROUP_256, 256);
-    make_groups(s, sh, region::REGION_GROUP_4096, 4096);
+    make_groups(s, sh, Level::Sixteens);
+    make_groups(s, sh, Level::Hundreds);
+    make_groups(s, sh, Level::Thousands);
 }
 
 // The row index: place and rank are the same number.

@@ -15,6 +15,8 @@ use Rattle.layout.specs.declared.Shape.{Shape}
 use Rattle.layout.specs.Layout.{Mem, head, entry, group, in_no, load, load_out}
 use Rattle.layout.specs.Fields.{head_page_limit, head_pages, head_first_entry, entry_frame}
 use Rattle.layout.specs.Sizes.{pages_max}
+use Rattle.structure.specs.declared.Level.{Level}
+use Rattle.structure.specs.declared.Level.TheVariants.{Sixteens, Hundreds}
 use Rattle.structure.specs.Facts.{HeadIs, limits_to, is_free, free_from, attached_in}
 use Rattle.structure.specs.Checks.{head_b, entry_b, entries_b, span_b, spans_b, groups_b, head_is}
 
@@ -124,23 +126,34 @@ module _ (m : Mem) (F level size n : ℕ) where
 
 -- ---- a level by the one below
 
+-- a level's number, and how many frames its groups have
+abbrev pub level_number : Level → ℕ
+level_number Sixteens = 0
+level_number Hundreds = 1
+
+abbrev pub level_size : Level → ℕ
+level_size Sixteens = 16
+level_size Hundreds = 256
+
 -- every count of a level is right; past the level's end both are 0
-unfoldable pub LevelIs : Mem → ℕ → ℕ → ℕ → Type 0
-LevelIs m F level size = (i : ℕ) → m (group level i) ≡ free_from m F (i * size) size
+unfoldable pub LevelIs : Mem → ℕ → Level → Type 0
+LevelIs m F level = (i : ℕ) → m (group (level_number level) i) ≡ free_from m F (i * level_size level) (level_size level)
 
 -- where the first n are, and the others are 0 and past the last frame
-level_is : (m : Mem) (F level size n : ℕ) → groups_b m F level size n ≡ true → ((i : ℕ) → n ≤ i → (m (group level i) ≡ 0) × (F ≤ i * size)) → LevelIs m F level size
+level_is : (m : Mem) (F : ℕ) (level : Level) (n : ℕ) → groups_b m F (level_number level) (level_size level) n ≡ true → ((i : ℕ) → n ≤ i → (m (group (level_number level) i) ≡ 0) × (F ≤ i * level_size level)) → LevelIs m F level
 unfolding groups_b LevelIs
-level_is m F level size n e past i = bool (ltb i n)
-    (λ q. eqb-true (m (group level i)) (free_from m F (i * size) size) (all_at n (group_test m F level size n) e i (ltb-true i n q)))
-    (λ q. let k = past i (ltb-false i n q) in k.0 ∙ free_end m F (i * size) size 0 0 (omega arith) (λ l. omega (arith, k.1)) refl)
+level_is m F level n e past i =
+    let a : ℕ = i * level_size level in
+    bool (ltb i n)
+    (λ q. eqb-true (m (group (level_number level) i)) (free_from m F a (level_size level)) (all_at n (group_test m F (level_number level) (level_size level) n) e i (ltb-true i n q)))
+    (λ q. let k = past i (ltb-false i n q) in k.0 ∙ free_end m F a (level_size level) 0 0 (omega arith) (λ l. omega (arith, k.1)) refl)
 
 module _ (ws : List ℕ) (sh : Shape) where
-  pub sixteens_are : (r : Bool) → r ≡ groups_b (load ws sh) sh.frames 0 16 (div_ceil sh.frames 16) → r ≡ true → LevelIs (load ws sh) sh.frames 0 16
-  sixteens_are r q y = level_is (load ws sh) sh.frames 0 16 (div_ceil sh.frames 16) (sym q ∙ y) (λ i h. (load_out ws sh (group 0 i) (in_no sh (group 0 i) (λ k. omega (arith, k.xs))), omega arith))
+  pub sixteens_are : (r : Bool) → r ≡ groups_b (load ws sh) sh.frames 0 16 (div_ceil sh.frames 16) → r ≡ true → LevelIs (load ws sh) sh.frames Sixteens
+  sixteens_are r q y = level_is (load ws sh) sh.frames Sixteens (div_ceil sh.frames 16) (sym q ∙ y) (λ i h. (load_out ws sh (group 0 i) (in_no sh (group 0 i) (λ k. omega (arith, k.xs))), omega arith))
 
-  pub hundreds_are : (r : Bool) → r ≡ groups_b (load ws sh) sh.frames 1 256 (div_ceil sh.frames 256) → r ≡ true → LevelIs (load ws sh) sh.frames 1 256
-  hundreds_are r q y = level_is (load ws sh) sh.frames 1 256 (div_ceil sh.frames 256) (sym q ∙ y) (λ i h. (load_out ws sh (group 1 i) (in_no sh (group 1 i) (λ k. omega (arith, k.xs))), omega arith))
+  pub hundreds_are : (r : Bool) → r ≡ groups_b (load ws sh) sh.frames 1 256 (div_ceil sh.frames 256) → r ≡ true → LevelIs (load ws sh) sh.frames Hundreds
+  hundreds_are r q y = level_is (load ws sh) sh.frames Hundreds (div_ceil sh.frames 256) (sym q ∙ y) (λ i h. (load_out ws sh (group 1 i) (in_no sh (group 1 i) (λ k. omega (arith, k.xs))), omega arith))
 
 -- one more group
 pub free_more : (m : Mem) (F size first i : ℕ) → free_from m F (first * size) ((i + 1) * size) ≡ free_from m F (first * size) (i * size) + free_from m F ((first + i) * size) size

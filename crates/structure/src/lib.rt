@@ -1,13 +1,14 @@
 // The first part of the state check: table heads, page entries and frames; and the test of a slot, for the walk over the slots.
 #![tactic(auto)]
 
-ghost use Rattle.std.specs.Prelude.{◌≡◌, ◌+◌, ◌*◌, ◌<◌};
+ghost use Rattle.std.specs.Prelude.{◌≡◌, ◌+◌, ◌*◌};
 ghost use Rattle.std.specs.Int.{div_ceil};
 ghost use Rattle.layout.specs.Layout.{load as loadAt, head};
 ghost use Rattle.layout.specs.Fields.{head_pages};
+ghost use Rattle.layout.specs.RegionNames.{region_group16};
 ghost use Rattle.structure.specs.Facts.{free_from, attached_in, attached_to};
 ghost use Rattle.structure.specs.Checks.{life_b, head_b, bound_of, handle_c, slot_c, link_b, entry_b, entries_b, span_b, spans_b, groups_b, levels_b, outline_b};
-ghost use Rattle.structure.specs.Code.{counted, plus_one, LevelIs};
+ghost use Rattle.structure.specs.Code.{counted, plus_one, level_number, level_size, LevelIs};
 
 use codec::HandleCodec;
 use layout::{CellWords, Shape, field, region, size, value};
@@ -152,25 +153,49 @@ fn free_in(s: &[u64], sh: Shape, a: u32, n: u16) -> u64
     count
 }
 
-// The free frames of each group of a level.
-fn groups_ok(s: &[u64], sh: Shape, level: u8, size: u16) -> bool
-    requires { 0 < size }
-    ensures { result ≡ groups_b (loadAt s.now sh) sh.frames level size (div_ceil sh.frames size) }
+// A level of groups of frames, by how many frames a group has, that has a level above it: 16 of its groups are one there.
+// `create` has a type of all three levels: with that, `sums_ok` would have to ask that it is not given the last.
+#[derive(Clone, Copy)]
+enum Level {
+    Sixteens = 16,
+    Hundreds = 256,
+}
+
+impl Level {
+    fn size(self) -> u16
+        ensures { result ≡ level_size self }
+    {
+        self as u16
+    }
+
+    // The region of its counts; the one after it has those of the level above.
+    fn region(self) -> u64
+        ensures { result ≡ region_group16 + level_number self }
+    {
+        match self {
+            Self::Sixteens => region::REGION_GROUP_16,
+            Self::Hundreds => region::REGION_GROUP_256,
+        }
+    }
+}
+
+// The free frames of each group of 16, by the frames' owners.
+fn sixteens_ok(s: &[u64], sh: Shape) -> bool
+    ensures { result ≡ groups_b (loadAt s.now sh) sh.frames 0 16 (div_ceil sh.frames 16) }
 {
-    let region = region::REGION_GROUP_16 + (level as u64);
-    (0..sh.frames.div_ceil(size)).all(|g| {
-        layout::load(s, sh, region, g as u64, 0, 0)
-            == free_in(s, sh, (g as u32) * (size as u32), size)
+    (0..sh.frames.div_ceil(16)).all(|g| {
+        layout::load(s, sh, region::REGION_GROUP_16, g as u64, 0, 0)
+            == free_in(s, sh, (g as u32) * 16, 16)
     })
 }
 
 // The free frames of 16 groups of a level, by their counts, from group `first` on.
 #[tactic(auto, using(crate::specs::Code::free_more, crate::specs::Code::free_small), unfolding(crate::specs::Code::LevelIs))]
-fn free_under(s: &[u64], sh: Shape, level: u8, size: u16, first: u32) -> u64
-    requires { LevelIs (loadAt s.now sh) sh.frames level size }
-    ensures { result ≡ free_from (loadAt s.now sh) sh.frames (first * size) (16 * size) }
+fn free_under(s: &[u64], sh: Shape, level: Level, first: u32) -> u64
+    requires { LevelIs (loadAt s.now sh) sh.frames level }
+    ensures { result ≡ free_from (loadAt s.now sh) sh.frames (first * level_size level) (16 * level_size level) }
 {
-    let region = region::REGION_GROUP_16 + (level as u64);
+    let region = level.region();
     let mut count: u64 = 0;
     for i in 0..16 {
         count += layout::load(s, sh, region, (first as u64) + i, 0, 0);
@@ -178,17 +203,14 @@ fn free_under(s: &[u64], sh: Shape, level: u8, size: u16, first: u32) -> u64
     count
 }
 
-// The free frames of each group of the level above one that holds: the sum of 16 of those.
-fn sums_ok(s: &[u64], sh: Shape, level: u8, size: u16) -> bool
-    requires some { 0 < size }
-    requires few { size < 4096 }
-    requires below { LevelIs (loadAt s.now sh) sh.frames level size }
-    ensures { result ≡ groups_b (loadAt s.now sh) sh.frames (level + 1) (16 * size) (div_ceil sh.frames (16 * size)) }
+// The free frames of each group of the level above: the sum of 16 of the level below, which holds.
+fn sums_ok(s: &[u64], sh: Shape, below: Level) -> bool
+    requires { LevelIs (loadAt s.now sh) sh.frames below }
+    ensures { result ≡ groups_b (loadAt s.now sh) sh.frames (level_number below + 1) (16 * level_size below) (div_ceil sh.frames (16 * level_size below)) }
 {
-    let region = region::REGION_GROUP_256 + (level as u64);
-    (0..sh.frames.div_ceil(16 * size)).all(|g| {
-        layout::load(s, sh, region, g as u64, 0, 0)
-            == free_under(s, sh, level, size, (g as u32) * 16)
+    let region = below.region() + 1;
+    (0..sh.frames.div_ceil(16 * below.size())).all(|g| {
+        layout::load(s, sh, region, g as u64, 0, 0) == free_under(s, sh, below, (g as u32) * 16)
     })
 }
 
@@ -197,7 +219,7 @@ fn sums_ok(s: &[u64], sh: Shape, level: u8, size: u16) -> bool
 fn levels_ok(s: &[u64], sh: Shape) -> bool
     ensures { result ≡ levels_b (loadAt s.now sh) sh.frames }
 {
-    groups_ok(s, sh, 0, 16) && sums_ok(s, sh, 0, 16) && sums_ok(s, sh, 1, 256)
+    sixteens_ok(s, sh) && sums_ok(s, sh, Level::Sixteens) && sums_ok(s, sh, Level::Hundreds)
 }
 
 // The first part of the state check: heads, page entries and frames, of which plans hold `held`.

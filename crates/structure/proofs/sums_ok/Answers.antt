@@ -6,4 +6,4 @@ use Rattle.structure.proofs.sums_ok.Goals as goal
 
 pub returns : goal.returns
 unfolding groups_b
-returns c = rw (← c.div_ceil.ensures) (range_all _ _ _ _ _ c.all.ensures.ran (λ x b q k. search (rules, tests)))
+returns c = rw (← (rw c.size.ensures at c.div_ceil.ensures)) (range_all _ _ _ _ _ c.all.ensures.ran (λ x b q k. search (rules, tests)))

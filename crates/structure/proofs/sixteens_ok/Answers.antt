@@ -2,7 +2,7 @@ use Rattle.std.proofs.Common.{rules}
 use borrow.Author.Tests.{tests}
 use Rattle.structure.specs.Checks.{groups_b}
 use Rattle.words.specs.Each.{range_all}
-use Rattle.structure.proofs.groups_ok.Goals as goal
+use Rattle.structure.proofs.sixteens_ok.Goals as goal
 
 pub returns : goal.returns
 unfolding groups_b
