@@ -700,7 +700,7 @@ WRONG = [
     ("crates/storage/src/lib.rt", "// Into the page of a link; through 0 nothing.", "const ZERO: u64 = 0;", "f", "0"),
     ("crates/teardown/src/lib.rt", "sh b life_retired 0", "sh b 2 0", "g", "2"),
     ("crates/transfer/src/lib.rt", "route == value::ROUTE_BUFFERED", "route == 0", "b", "0"),
-    ("crates/ledger/src/lib.rt", "value::KIND_CLAIM => claim_ok", "2 => claim_ok", "c", "2"),
+    ("crates/ledger/src/lib.rt", "value::KIND_CLAIM => self.claim_ok", "2 => self.claim_ok", "c", "2"),
     ("crates/ledger/src/lib.rt", "value::KIND_RESERVATION..=value::KIND_PARCEL => list_ok", "1..=value::KIND_PARCEL => list_ok", "c", "1"),
     ("crates/transfer/src/lib.rt", "value::CLASS_LEAF => false,", "0 => false,", "c", "0"),
     ("crates/format/src/lib.rt", "maps::MAY.get(op as usize)", "maps::MAY.get(6)", "e", "6"),

@@ -3,13 +3,111 @@
 
 ghost use Rattle.std.specs.Prelude.{◌≡◌, ◌≤◌, ◌<◌};
 ghost use Rattle.words.specs.All.{all};
-ghost use Rattle.layout.specs.Layout.{load as loadAt};
+ghost use Rattle.layout.specs.Layout.{load as loadAt, item as item_at};
 ghost use Rattle.structure.specs.Code.{counted, plus_one};
 ghost use Rattle.ledger.specs.Items.{place_b, names_b, handle_b, claim_b, item_b};
 ghost use Rattle.ledger.specs.Plans.{held_b, pages_b, plan_b, held_in, held_to, held_frames};
 ghost use Rattle.ledger.specs.Ledger.{open_b, list_b, row_b, rank_b, hit_b, mark_b, book_b};
 
 use layout::{Shape, field, size, value};
+
+// An item of a row: the place of the row, and the item's number there.
+#[derive(Clone, Copy)]
+struct Item {
+    row: u64,
+    number: u64,
+}
+
+impl Item {
+    // Its word f.
+    fn word(self, s: &[u64], sh: Shape, f: u64) -> u64
+        ensures { result ≡ loadAt s.now sh (item_at self.row self.number f) }
+    {
+        layout::item_word(s, sh, self.row, self.number, f)
+    }
+
+    // Whether slot k of table b has the tag t and names the item.
+    #[tactic(auto, unfolding(crate::specs::Items::names_b))]
+    fn is_named(self, s: &[u64], sh: Shape, b: u64, k: u64, t: u64) -> bool
+        ensures { result ≡ names_b (loadAt s.now sh) b k t self.row self.number }
+    {
+        let Some(f) = storage::frame_link(s, sh, b, k).checked_sub(1) else {
+            return false;
+        };
+        let q = k % size::PAGE_SIZE;
+        layout::cell_word(s, sh, f, q, field::SLOT_TAG) == t
+            && layout::cell_word(s, sh, f, q, field::SLOT_PLACE) == self.row
+            && layout::cell_word(s, sh, f, q, field::SLOT_POSITION) == self.number
+    }
+
+    // Whether its handle is in range.
+    #[tactic(auto, unfolding(crate::specs::Items::handle_b))]
+    fn handle_ok(self, s: &[u64], sh: Shape) -> bool
+        ensures { result ≡ handle_b (loadAt s.now sh) sh self.row self.number }
+    {
+        self.word(s, sh, field::ITEM_OBJECT) < sh.objects as u64
+            && self.word(s, sh, field::ITEM_FLAGS) <= value::KNOWN_FLAGS
+    }
+
+    // Of a claim of table b.
+    #[tactic(auto, unfolding(crate::specs::Items::claim_b))]
+    fn claim_ok(self, s: &[u64], sh: Shape, b: u64) -> bool
+        ensures { result ≡ claim_b (loadAt s.now sh) sh b self.row self.number }
+    {
+        if !self.handle_ok(s, sh) {
+            return false;
+        }
+        match self.word(s, sh, field::ITEM_OPERATION) {
+            value::OPERATION_MOVE => {
+                let k = self.word(s, sh, field::ITEM_MOVED);
+                self.is_named(s, sh, b, k, value::TAG_TRANSFER_RESERVED)
+            }
+            op => op == value::OPERATION_COPY,
+        }
+    }
+
+    // Of a row that is a w and no plan: 1 a reservation, 2 a claim, else a parcel.
+    #[tactic(auto, unfolding(crate::specs::Items::item_b))]
+    fn item_ok(self, s: &[u64], sh: Shape, w: u64, b: u64) -> bool
+        ensures { result ≡ item_b (loadAt s.now sh) sh w b self.row self.number }
+    {
+        match w {
+            value::KIND_RESERVATION => {
+                let k = self.word(s, sh, field::ITEM_SLOT);
+                self.is_named(s, sh, b, k, value::TAG_RESERVED)
+            }
+            value::KIND_CLAIM => self.claim_ok(s, sh, b),
+            _ => self.handle_ok(s, sh),
+        }
+    }
+
+    // Of a plan: slots are still wanted, a table may have its page, and its frame is not below `low` and names this row as its owner.
+    #[tactic(auto, unfolding(crate::specs::Plans::held_b))]
+    fn held_ok(self, s: &[u64], sh: Shape, want: u64, low: u64) -> bool
+        ensures { result ≡ held_b (loadAt s.now sh) sh self.row self.number want low }
+    {
+        let p = self.word(s, sh, field::ITEM_PAGE);
+        let f = self.word(s, sh, field::ITEM_FRAME);
+        want > 0
+            && p < size::PAGES_MAX
+            && (low..sh.frames as u64).contains(&f)
+            && layout::owner_word(s, sh, f).checked_sub(size::PLAN_OWNER) == Some(self.row)
+    }
+
+    // Whether it names slot k, by the slot's tag t: a reservation's item in word 0, a claim's as a move.
+    #[tactic(auto, unfolding(crate::specs::Ledger::hit_b))]
+    fn hits(self, s: &[u64], sh: Shape, t: u64, k: u64) -> bool
+        ensures { result ≡ hit_b (loadAt s.now sh) t self.row self.number k }
+    {
+        // The same word as ITEM_SLOT, of a reservation.
+        let a = self.word(s, sh, field::ITEM_OPERATION);
+        if t == value::TAG_RESERVED {
+            k == a
+        } else {
+            a == value::OPERATION_MOVE && k == self.word(s, sh, field::ITEM_MOVED)
+        }
+    }
+}
 
 // Whether rank i of the index names a place, and the place knows its rank.
 #[tactic(auto, unfolding(crate::specs::Items::place_b))]
@@ -24,61 +122,6 @@ fn places_ok(s: &[u64], sh: Shape) -> bool
     ensures { result ≡ all sh.rows (place_b (loadAt s.now sh) sh) }
 {
     (0..sh.rows as u64).all(|i| place_ok(s, sh, i))
-}
-
-// Whether slot k of table b has the tag t and names item j of the row in place x.
-#[tactic(auto, unfolding(crate::specs::Items::names_b))]
-fn names(s: &[u64], sh: Shape, b: u64, k: u64, t: u64, x: u64, j: u64) -> bool
-    ensures { result ≡ names_b (loadAt s.now sh) b k t x j }
-{
-    let Some(f) = storage::frame_link(s, sh, b, k).checked_sub(1) else {
-        return false;
-    };
-    let q = k % size::PAGE_SIZE;
-    layout::cell_word(s, sh, f, q, field::SLOT_TAG) == t
-        && layout::cell_word(s, sh, f, q, field::SLOT_PLACE) == x
-        && layout::cell_word(s, sh, f, q, field::SLOT_POSITION) == j
-}
-
-// Whether the handle of item j of the row in place x is in range.
-#[tactic(auto, unfolding(crate::specs::Items::handle_b))]
-fn handle_ok(s: &[u64], sh: Shape, x: u64, j: u64) -> bool
-    ensures { result ≡ handle_b (loadAt s.now sh) sh x j }
-{
-    layout::item_word(s, sh, x, j, field::ITEM_OBJECT) < sh.objects as u64
-        && layout::item_word(s, sh, x, j, field::ITEM_FLAGS) <= value::KNOWN_FLAGS
-}
-
-// Item j of a claim of table b.
-#[tactic(auto, unfolding(crate::specs::Items::claim_b))]
-fn claim_ok(s: &[u64], sh: Shape, b: u64, x: u64, j: u64) -> bool
-    ensures { result ≡ claim_b (loadAt s.now sh) sh b x j }
-{
-    if !handle_ok(s, sh, x, j) {
-        return false;
-    }
-    match layout::item_word(s, sh, x, j, field::ITEM_OPERATION) {
-        value::OPERATION_MOVE => {
-            let k = layout::item_word(s, sh, x, j, field::ITEM_MOVED);
-            names(s, sh, b, k, value::TAG_TRANSFER_RESERVED, x, j)
-        }
-        op => op == value::OPERATION_COPY,
-    }
-}
-
-// Item j of a row that is a w and no plan: 1 a reservation, 2 a claim, else a parcel.
-#[tactic(auto, unfolding(crate::specs::Items::item_b))]
-fn item_ok(s: &[u64], sh: Shape, w: u64, b: u64, x: u64, j: u64) -> bool
-    ensures { result ≡ item_b (loadAt s.now sh) sh w b x j }
-{
-    match w {
-        value::KIND_RESERVATION => {
-            let k = layout::item_word(s, sh, x, j, field::ITEM_SLOT);
-            names(s, sh, b, k, value::TAG_RESERVED, x, j)
-        }
-        value::KIND_CLAIM => claim_ok(s, sh, b, x, j),
-        _ => handle_ok(s, sh, x, j),
-    }
 }
 
 // Whether a row that is a w and no plan may name table b: it is there, and active. A parcel names none.
@@ -97,20 +140,7 @@ fn list_ok(s: &[u64], sh: Shape, x: u64, w: u64, n: u64) -> bool
     ensures { result ≡ list_b (loadAt s.now sh) sh x w n }
 {
     let b = layout::row_word(s, sh, x, field::ROW_TABLE);
-    n > 0 && open_ok(s, sh, w, b) && (0..n).all(|j| item_ok(s, sh, w, b, x, j))
-}
-
-// Item j of the plan in place x: slots are still wanted, a table may have its page, and its frame is not below `low` and names this row as its owner.
-#[tactic(auto, unfolding(crate::specs::Plans::held_b))]
-fn held_ok(s: &[u64], sh: Shape, x: u64, j: u64, want: u64, low: u64) -> bool
-    ensures { result ≡ held_b (loadAt s.now sh) sh x j want low }
-{
-    let p = layout::item_word(s, sh, x, j, field::ITEM_PAGE);
-    let f = layout::item_word(s, sh, x, j, field::ITEM_FRAME);
-    want > 0
-        && p < size::PAGES_MAX
-        && (low..sh.frames as u64).contains(&f)
-        && layout::owner_word(s, sh, f).checked_sub(size::PLAN_OWNER) == Some(x)
+    n > 0 && open_ok(s, sh, w, b) && (0..n).all(|j| Item { row: x, number: j }.item_ok(s, sh, w, b))
 }
 
 // The n pages and frames of the plan in place x: the pages are just enough for the slots that are wanted beside the free ones, and the frames rise.
@@ -123,11 +153,12 @@ fn pages_ok(s: &[u64], sh: Shape, x: u64, n: u64) -> bool
     let mut want = count.saturating_sub(free);
     let mut low: u64 = 0;
     for j in 0..n {
-        if !held_ok(s, sh, x, j, want, low) {
+        let item = Item { row: x, number: j };
+        if !item.held_ok(s, sh, want, low) {
             return false;
         }
-        let p = layout::item_word(s, sh, x, j, field::ITEM_PAGE);
-        let f = layout::item_word(s, sh, x, j, field::ITEM_FRAME);
+        let p = item.word(s, sh, field::ITEM_PAGE);
+        let f = item.word(s, sh, field::ITEM_FRAME);
         want = want.saturating_sub(head::slots_of(p) as u64);
         low = f + 1;
     }
@@ -195,20 +226,6 @@ fn rows_ok(s: &[u64], sh: Shape, n: u16) -> Option<u64>
     Some(held)
 }
 
-// Whether item j of the row in place x names slot k, by the slot's tag t: a reservation's item in word 0, a claim's as a move.
-#[tactic(auto, unfolding(crate::specs::Ledger::hit_b))]
-fn hit(s: &[u64], sh: Shape, t: u64, x: u64, j: u64, k: u64) -> bool
-    ensures { result ≡ hit_b (loadAt s.now sh) t x j k }
-{
-    // The same word as ITEM_SLOT, of a reservation.
-    let a = layout::item_word(s, sh, x, j, field::ITEM_OPERATION);
-    if t == value::TAG_RESERVED {
-        k == a
-    } else {
-        a == value::OPERATION_MOVE && k == layout::item_word(s, sh, x, j, field::ITEM_MOVED)
-    }
-}
-
 // Whether slot k of table b, which has the tag t, is item j of the row in place x.
 #[tactic(auto, unfolding(crate::specs::Ledger::mark_b))]
 pub fn mark_ok(s: &[u64], sh: Shape, b: u64, k: u64, t: u64, x: u64, j: u64) -> bool
@@ -219,7 +236,7 @@ pub fn mark_ok(s: &[u64], sh: Shape, b: u64, k: u64, t: u64, x: u64, j: u64) -> 
         && j < layout::row_word(s, sh, x, field::ROW_LENGTH)
         && layout::row_word(s, sh, x, field::ROW_KIND) == t
         && layout::row_word(s, sh, x, field::ROW_TABLE) == b
-        && hit(s, sh, t, x, j, k)
+        && Item { row: x, number: j }.hits(s, sh, t, k)
 }
 
 // How many frames plans hold; none if the book of a state, its marks aside, is not as a well-formed state's must be.
