@@ -15,6 +15,7 @@ ghost use Rattle.survey.specs.Walk.{cell_b, frame_b, frame_found, page_b, page_f
 use layout::{CellWords, Shape, field, place, size, value};
 
 // A page that has a frame: its table, its number there, what its handles' objects are below, its high mark and its frame.
+// The shape is no field of it, with `bound ≤ sh.objects` and `frame < sh.frames` as its ghost fields: so it was tried, and the check of 64 pages took 5 to 11 of 100 longer.
 #[derive(Clone, Copy)]
 struct Page {
     table: u64,
