@@ -20,56 +20,68 @@ use layout::{Shape, field, place, size, value};
 // One more in the upper half of a word.
 const UNIT: u64 = size::NUMBER_32_MAX + 1;
 
-// Whether the fields of object o, whose record starts o records after the first one's, are in range; its supported rights may be any word. "a new object has
-// count 0, an active one more"; a retired one may have either. Few tests, each of which but that of the count goes the same way for every object in range.
-#[tactic(auto, using(crate::specs::Objects::object_is, std::proofs::lemmas::Bool::Decides::nat_tests))]
-fn object_ok(s: &[u64], sh: Shape, first: u64, o: u64) -> bool
-    requires first_value { (first ≡ objects_at sh) × (o < sh.objects) }
-    requires sh_in_bounds { total sh ≤ length s.now }
-    ensures { result ≡ object_b (loadAt s.now sh) o }
-{
-    let at = (first + o * size::OBJECT_SIZE) as usize;
-    let koid = s[at];
-    let kind = s[at + place::OBJECT_KIND];
-    let class = s[at + place::OBJECT_CLASS];
-    let exportable = s[at + place::OBJECT_EXPORTABLE];
-    let stage = s[at + place::OBJECT_STAGE];
-    let count = s[at + place::OBJECT_ACTIVE];
-    let limit = s[at + place::OBJECT_LIMIT];
-    if kind / UNIT + limit / UNIT + exportable / 2 != 0 || koid == 0 || class > value::CLASS_NEVER {
-        return false;
-    }
-    if count == 0 {
-        matches!(stage, value::STAGE_NEW | value::STAGE_RETIRED)
-    } else {
-        count <= limit && matches!(stage, value::STAGE_ACTIVE | value::STAGE_RETIRED)
-    }
+// The objects of words that hold the whole state: the words, the state's shape, and where the first object's record stands.
+#[derive(Clone, Copy)]
+struct Objects<'a> {
+    words: &'a [u64],
+    sh: Shape,
+    first: u64,
+    ghost lent: { total sh ≤ length words.now },
+    ghost placed: { first ≡ objects_at sh },
 }
 
-// Whether object o has no count and its fields are in range.
-#[tactic(auto, using(crate::specs::Shift::object_load), unfolding(crate::specs::Used::idle_b))]
-fn idle_ok(s: &[u64], sh: Shape, first: u64, o: u64) -> bool
-    requires first_value { (first ≡ objects_at sh) × (o < sh.objects) }
-    requires sh_in_bounds { total sh ≤ length s.now }
-    ensures { result ≡ idle_b (loadAt s.now sh) o }
-{
-    let at = (first + o * size::OBJECT_SIZE + field::OBJECT_ACTIVE) as usize;
-    s[at] == 0 && object_ok(s, sh, first, o)
-}
-
-// How many objects are left without those at the end that have no count and whose fields are in range.
-#[tactic(auto, unfolding(crate::specs::Used::used_to))]
-fn used_objects(s: &[u64], sh: Shape, first: u64) -> u64
-    requires first_value { first ≡ objects_at sh }
-    requires sh_in_bounds { total sh ≤ length s.now }
-    ensures { result ≡ used_to (loadAt s.now sh) sh.objects }
-{
-    for o in (0..sh.objects as u64).rev() {
-        if !idle_ok(s, sh, first, o) {
-            return o + 1;
+impl<'a> Objects<'a> {
+    // Whether the fields of object o are in range; its supported rights may be any word. "a new object has count 0, an active one more"; a retired one may
+    // have either. Few tests, each of which but that of the count goes the same way for every object in range.
+    #[tactic(auto, using(crate::specs::Objects::object_is, std::proofs::lemmas::Bool::Decides::nat_tests))]
+    fn object_ok(self, o: u64) -> bool
+        requires { o < self.sh.objects }
+        ensures { result ≡ object_b (loadAt self.entry.words.now self.entry.sh) o }
+    {
+        let s = self.words;
+        let at = (self.first + o * size::OBJECT_SIZE) as usize;
+        let koid = s[at];
+        let kind = s[at + place::OBJECT_KIND];
+        let class = s[at + place::OBJECT_CLASS];
+        let exportable = s[at + place::OBJECT_EXPORTABLE];
+        let stage = s[at + place::OBJECT_STAGE];
+        let count = s[at + place::OBJECT_ACTIVE];
+        let limit = s[at + place::OBJECT_LIMIT];
+        if kind / UNIT + limit / UNIT + exportable / 2 != 0
+            || koid == 0
+            || class > value::CLASS_NEVER
+        {
+            return false;
+        }
+        if count == 0 {
+            matches!(stage, value::STAGE_NEW | value::STAGE_RETIRED)
+        } else {
+            count <= limit && matches!(stage, value::STAGE_ACTIVE | value::STAGE_RETIRED)
         }
     }
-    0
+
+    // Whether object o has no count and its fields are in range.
+    #[tactic(auto, using(crate::specs::Shift::object_load), unfolding(crate::specs::Used::idle_b))]
+    fn idle_ok(self, o: u64) -> bool
+        requires { o < self.sh.objects }
+        ensures { result ≡ idle_b (loadAt self.entry.words.now self.entry.sh) o }
+    {
+        let at = (self.first + o * size::OBJECT_SIZE + field::OBJECT_ACTIVE) as usize;
+        self.words[at] == 0 && self.object_ok(o)
+    }
+
+    // How many are left without those at the end that have no count and whose fields are in range.
+    #[tactic(auto, unfolding(crate::specs::Used::used_to))]
+    fn used(self) -> u64
+        ensures { result ≡ used_to (loadAt self.entry.words.now self.entry.sh) self.entry.sh.objects }
+    {
+        for o in (0..self.sh.objects as u64).rev() {
+            if !self.idle_ok(o) {
+                return o + 1;
+            }
+        }
+        0
+    }
 }
 
 // Whether the fields of every object are in range, and how many objects may have handles.
@@ -78,8 +90,13 @@ pub fn check_objects(s: &[u64], sh: Shape) -> Option<u64>
     ensures { result ≡ objects_read (loadAt s.now sh) sh }
 {
     let first = layout::region_of(sh, layout::region::REGION_OBJECT).low;
-    let n = used_objects(s, sh, first);
-    (0..n).all(|o| object_ok(s, sh, first, o)).then_some(n)
+    let objects = Objects {
+        words: s,
+        sh,
+        first,
+    };
+    let n = objects.used();
+    (0..n).all(|o| objects.object_ok(o)).then_some(n)
 }
 
 // Counts a handle of object o in the upper half of the object's count.
@@ -92,6 +109,7 @@ fn note_count(s: &mut [u64], sh: Shape, o: u64)
 }
 
 // The same where o is one of the state's objects and all words are lent: no further test.
+// The functions that write are lent words and shape apart: a struct of both needs two clauses more in each, that the lent words and the shape stay the same ones.
 #[tactic(auto, using(crate::specs::Shift::active_load, crate::specs::Shift::active_save), unfolding(crate::specs::Shift::shift_w))]
 pub fn note_handle(s: &mut [u64], sh: Shape, o: u64)
     requires o_lt_objects { o < sh.objects }

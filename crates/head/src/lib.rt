@@ -232,6 +232,7 @@ pub fn load(s: &[u64], sh: Shape, b: u64) -> TableHead
     }
 }
 
+// (b, h) stay two in these: a head is lent by itself to the steps that change it, and with b in it each of them would have to say that b stays.
 // Stores what a step changes: the free order's words.
 pub fn store_free(s: &mut [u64], sh: Shape, b: u64, h: TableHead)
     ensures { s.new ≡ writes s.old sh (free_p b h) }

@@ -88,6 +88,7 @@ pub fn total_of(sh: Shape) -> u64
     e.low + e.x * e.y * e.w
 }
 
+// (k, x, y, f), an address of specs/Layout.antt, stay four: `load` and `save` only hand them on, and each one-line function below names them once.
 // The place of field f of number (x, y) of region k in n words; n itself where there is none.
 #[tactic(auto, unfolding(crate::specs::Regions::place_in))]
 fn place_in(n: usize, sh: Shape, k: u64, x: u64, y: u64, f: u64) -> usize

@@ -137,6 +137,7 @@ impl<'a> FieldWords<'a> {
     }
 }
 
+// (must, allowed) stay two: each call gives two maps of format's, and a struct of them would be made for that one call.
 // "Bit 0 .. always stands"; "field missing, extra".
 #[tactic(auto, unfolding(crate::specs::Place::good_map))]
 fn map_ok(map: u64, must: u64, allowed: u64) -> bool

@@ -15,6 +15,7 @@ ghost use Rattle.storage.specs.Late.{frame_from, link_from, vacant_w, held_w, ma
 use head::TableHead;
 use layout::{CellWords, Shape, field, size, value};
 
+// (e, p), a table's first entry and a page, stay two: e is the table's and stays, p changes from call to call, and a table's head has e already.
 // Word f of page p, of the table whose first entry is e. A sum that is no word is past the last entry, and so is the largest word.
 #[tactic(auto, using(crate::specs::Code::entry_load))]
 pub fn page_word(s: &[u64], sh: Shape, e: u64, p: u64, f: u64) -> u64

@@ -1,7 +1,0 @@
-use Rattle.std.proofs.Common.{◌≡◌}
-use Rattle.layout.specs.Layout.{load}
-use Rattle.counts.specs.Used.{used_to}
-use Rattle.counts.proofs.used_objects.Given as goal
-
-abbrev pub invariant-loop-o : goal.invariant-loop-o
-invariant-loop-o l = used_to (load l.s l.sh) l.o ≡ used_to (load l.s l.sh) l.sh.objects
