@@ -74,7 +74,6 @@ EXCUSED = [
     ("book/src/lib.rt", ["let half = n / 2;"], HALF),
     ("codec/src/lib.rt", ["const SLOT_LIMIT: u64 = 16_777_214;", "const GENERATION_LIMIT: u64 = 4_294_967_295;", "const PREFIX: u64 = 0x4800_0000_0000_0000;", "const PREFIX_MASK: u64 = 0xff00_0000_0000_0000;", "const PAYLOAD_MASK: u64 = 0x00ff_ffff_ffff_ffff;", "const GENERATION_UNIT: u64 = 0x100_0000;"], DOCUMENT_01),
     ("counts/src/lib.rt", ["exportable / 2 != 0"], HALF),
-    ("counts/src/lib.rt", ["self.words[at] == 0 && self.object_ok"], "an object's active count, which is a number"),
     ("create/src/lib.rt", ["4 + (b as usize) * 2", "4 + (k as usize) * 2", "4 + (t as u32) * 2", "base + (k as u32) * 6", "4 + t * 2 + o * 6", "4 + (sh.tables as usize) * 2 + (o as usize) * 6"], PARAMETERS),
     ("create/src/lib.rt", ["words::word(p, 2)", "words::word(p, 3)", "words::word(p, i + 2)", "words::word(p, i + 4)", "words::word(p, i + 5)", "words::word(p, at + 2)", "words::word(p, at + 3)", "words::word(p, at + 4)", "words::word(p, at + 5)"], PARAMETERS),
     ("create/src/lib.rt", ["Sixteens = 16,", "Hundreds = 256,", "Thousands = 4096,"], GROUPS),
