@@ -94,7 +94,8 @@ fn check_new(s: &[u64], sh: Shape, o: u64, rights: Rights, flags: u64) -> Result
     book::id_left(s, sh)
 }
 
-// A parcel of one handle opens under the next id.
+// A parcel of one handle opens under the next id. `new_object` and `duplicate` take its three words from different places, and `book::put_handle`
+// stores each: a struct of them would be made for the call and taken apart in it.
 #[tactic(auto, unfolding(crate::specs::Ops::parcel_w))]
 fn open_parcel(s: &mut [u64], sh: Shape, object: u64, rights: u64, flags: u64)
     ensures words { s.new ≡ parcel_w s.old sh object rights flags }
@@ -293,7 +294,8 @@ fn distinct_ids(mut parcels: ParcelIds) -> bool
     true
 }
 
-// The n handles of the parcel in place y fill slots of the reservation in place x, of table b, from position p on.
+// The n handles of the parcel in place y fill slots of the reservation in place x, of table b, from position p on. The reads of a
+// handle stand in claim too, where one function of them was slower (`undo_entry`); a function of both crates would lie in a third.
 #[tactic(auto, unfolding(crate::specs::Publishing::filled_w), using(crate::proofs::Steps::one_left))]
 fn fill_from(s: &mut [u64], sh: Shape, b: u64, x: u64, p: u64, y: u64, n: u64)
     ensures words { s.new ≡ filled_w s.old sh b x p y 0 n }
