@@ -93,6 +93,8 @@ fn moves(s: &[u64], sh: Shape, x: u64, j: u64) -> bool
 
 // Entry j of the claim in place x, of table b, is undone: a slot holds its handle again, which stands in the entry of its own; a copy is
 // released.
+// The reads of a handle's object and flags stand in `fill_slots` too. By one function of both, without an inline hint, 8 moves
+// and their rollback took 8,091 instructions for 7,722, and a direct commit of 32 with its reservation and claim 49,368 for 48,134.
 #[tactic(auto, unfolding(crate::specs::Ops::undo_w))]
 fn undo_entry(s: &mut [u64], sh: Shape, b: u64, x: u64, j: u64)
     ensures words { s.new ≡ undo_w s.old sh b x j }

@@ -284,8 +284,8 @@ fn distinct_ids(mut parcels: ParcelIds) -> bool
     true
 }
 
-// The n handles of the parcel in place y fill slots of the reservation in place x, of table b, from position p on. Two of the reads stand in
-// claim's `occupy_from` too: a function of both crates would lie in a third, and spare two lines here.
+// The n handles of the parcel in place y fill slots of the reservation in place x, of table b, from position p on. The reads of a
+// handle stand in claim too, where one function of them was slower (`undo_entry`); a function of both crates would lie in a third.
 #[tactic(auto, unfolding(crate::specs::Publishing::filled_w), using(crate::proofs::Steps::one_left))]
 fn fill_from(s: &mut [u64], sh: Shape, b: u64, x: u64, p: u64, y: u64, n: u64)
     ensures words { s.new ≡ filled_w s.old sh b x p y 0 n }
