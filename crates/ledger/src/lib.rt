@@ -227,6 +227,7 @@ fn rows_ok(s: &[u64], sh: Shape, n: u16) -> Option<u64>
 }
 
 // Whether slot k of table b, which has the tag t, is item j of the row in place x.
+// Its row and item stay two numbers: survey has them as words of a slot, and would make an `Item` for this one call.
 #[tactic(auto, unfolding(crate::specs::Ledger::mark_b))]
 pub fn mark_ok(s: &[u64], sh: Shape, b: u64, k: u64, t: u64, x: u64, j: u64) -> bool
     ensures { result ≡ mark_b (loadAt s.now sh) sh b k t x j }
