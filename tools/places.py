@@ -105,8 +105,8 @@ counts = [
     (5, "facts that the clauses of three or more functions of a crate ask", asked()),
     (6, "arrays in structs or lent beside a length", found(r"\[\w+; [\w:]+\]")),
     (7, "matches over ops or steps", found(r"\bmatch (?:op|step|kind|k)\b")),
-    (8, "files of answers", [n for n in files(r"crates/\w+/proofs/.*Answers\.antt")]),
-    (8, "lines of answers", [n for n, t in files(r"crates/\w+/proofs/.*Answers\.antt").items() for _ in t.splitlines()]),
+    (8, "files of answers", [n for n in files(r"crates/\w+/proofs/.+/Answers\.antt")]),
+    (8, "lines of answers", [n for n, t in files(r"crates/\w+/proofs/.+/Answers\.antt").items() for _ in t.splitlines()]),
 ]
 
 point = 0
