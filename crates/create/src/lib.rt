@@ -142,6 +142,7 @@ fn make_head(s: &mut [u64], sh: Shape, p: &[u64], b: u8)
     layout::put_head(s, sh, t, field::HEAD_FIRST_ENTRY, first);
 }
 
+// The heads of all tables. A loop of one call stays a loop, as claim's.
 #[tactic(auto, unfolding(layout::specs::Turns::turns))]
 fn make_heads(s: &mut [u64], sh: Shape, p: &[u64])
     ensures { s.new ≡ heads_w s.old sh p.now sh.tables }
@@ -164,6 +165,7 @@ fn make_object(s: &mut [u64], sh: Shape, p: &[u64], o: u16)
     layout::put_object(s, sh, n, field::OBJECT_LIMIT, words::word(p, at + 5));
 }
 
+// The records of all objects. A loop of one call stays a loop, as claim's.
 #[tactic(auto, unfolding(layout::specs::Turns::turns))]
 fn make_objects(s: &mut [u64], sh: Shape, p: &[u64])
     ensures { s.new ≡ objects_w s.old sh p.now sh.objects }

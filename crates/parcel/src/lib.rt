@@ -200,7 +200,8 @@ struct ParcelItem {
     end: usize,
 }
 
-// The item that is a record of the list: where that has no field but its id, that stands behind the operation.
+// The item that is a record of the list: where that has no field but its id, that stands behind the operation. The map is tested here: with
+// `Record::has_map` the check does not find that the two places fit.
 #[tactic(auto, unfolding(request::specs::Place::parcel_at), using(crate::specs::Plain::plain_id, crate::specs::Plain::plain_end))]
 fn read_item(item: &Record) -> ParcelItem
     ensures id { result.id.0 ≡ parcel_at item.now.words.now item.now.at }

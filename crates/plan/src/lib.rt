@@ -46,7 +46,7 @@ fn hold_frame(s: &mut [u64], sh: Shape, x: u64, j: u64)
     layout::put_item(s, sh, x, j, field::ITEM_FRAME, f);
 }
 
-// So n frames, for its first n items.
+// So n frames, for its first n items. A loop of one call stays a loop, as claim's.
 #[tactic(auto, unfolding(growth::specs::Words::each_w), using(growth::specs::Code::each_last))]
 fn hold_frames(s: &mut [u64], sh: Shape, x: u64, n: u64)
     ensures { s.new ≡ hold_all_w sh x 0 n s.old }
@@ -148,7 +148,7 @@ fn give_frame(s: &mut [u64], sh: Shape, x: u64, j: u64)
     frames::give_frame(s, sh, f);
 }
 
-// So those of its first n items.
+// So those of its first n items. A loop of one call stays a loop, as claim's.
 #[tactic(auto, unfolding(growth::specs::Words::each_w), using(growth::specs::Code::each_last))]
 fn give_frames(s: &mut [u64], sh: Shape, x: u64, n: u64)
     ensures { s.new ≡ give_all_w sh x 0 n s.old }

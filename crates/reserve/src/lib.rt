@@ -77,7 +77,7 @@ fn list_free(s: &mut [u64], sh: Shape, b: u64, n: u64)
     list_slots(s, sh, b, x, l, n);
 }
 
-// The head of the free order is taken n times, for the positions of the row in place x in turn.
+// The head of the free order is taken n times, for the positions of the row in place x in turn. A loop of one call stays a loop, as claim's.
 #[tactic(auto, using(crate::specs::ReserveCode::taken_step, crate::specs::ReserveCode::taken_end))]
 fn take_slots(s: &mut [u64], sh: Shape, b: u64, x: u64, n: u64)
     ensures words { s.new ≡ taken_w s.old sh b x 0 n }

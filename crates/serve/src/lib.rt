@@ -10,6 +10,7 @@ use layout::Shape;
 use request::Record;
 
 // The request that is a record of a list, by its op. One arm for each number that a list may give. The functions read the fields of their op, call what does the request and put its answer; one function for all would take these three as closures.
+#[tactic(auto, unfolding(crate::specs::Serve::serve_r), using(crate::specs::Serve::at_op))]
 pub fn serve(s: &mut [u64], sh: Shape, rq: &Record, op: u64, out: &mut [u64], base: usize)
     ensures { both s.new out.new ≡ serve_r op s.old out.old sh rq.now.words.now rq.now.at base }
 {

@@ -105,7 +105,8 @@ impl Page {
     }
 }
 
-// Page p of table b, whose first entry is e.
+// Page p of table b, whose first entry is e. That the words hold the whole state stands in the contracts of six functions: the words are lent to be written, and a struct of them and the shape would
+// need two clauses more in each, as `layout::Shape` says.
 #[tactic(auto, unfolding(crate::specs::Walk::page_b, crate::specs::Walk::page_found))]
 fn walk_page(s: &mut [u64], sh: Shape, b: u64, bound: u64, e: u64, p: u32) -> bool
     requires bound_le_objects { bound ≤ sh.objects }

@@ -17,7 +17,7 @@ pub fn are_words(s: &[u64])
     let _ = words::word(s, 0);
 }
 
-// The parts that write nothing: whether they pass, and how many objects may have handles.
+// The parts that write nothing: whether they pass, and how many objects may have handles. Words and shape stay two, as in what calls it, which writes.
 #[tactic(auto, unfolding(crate::specs::Code::quiet_b, counts::specs::Used::objects_read), using(std::proofs::lemmas::Bool::Decides::nat_tests))]
 fn check_parts(s: &[u64], sh: Shape) -> Option<u64>
     requires { total sh ≤ length s.now }
