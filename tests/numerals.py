@@ -4,7 +4,7 @@
 What is a fault, with file, line and numeral:
 
   a  a field argument that is no name of crates/layout's field.rt, and one of a record's field that is no name of crates/format's. A function, or a closure that has a name, has a field
-     argument if it hands a parameter on as one, or each of an array's in turn; the first are layout's place_in and the method find of request's Fields. Of an array each of its words is looked at. An
+     argument if it hands a parameter on as one, or each of an array's in turn; the first are layout's place_in and the method find of request's FieldWords. Of an array each of its words is looked at. An
      accessor of ACCESSORS takes fields of its own record
   b  a numeral compared with, stored in, or passed as a word that stands for a case: a name of CASES, what a field of CASE_FIELDS holds, what is compared with a name of value.rt,
      and parameters that are given such a word; and one stored in a state's word by its place. The ends of a range that is asked for a word, and what a match or `matches!` asks it for, are
