@@ -80,7 +80,7 @@ EXCUSED = [
     ("frames/src/lib.rt", ["from ≤ 1000000"], "more than a scan of groups comes to: so sums stay words"),
     ("frames/src/lib.rt", ["k) from 16", "from + 16", "c * 16", "b * 16", "a * 16", "layout::region::REGION_GROUP_16, f / 16", "layout::region::REGION_GROUP_256, f / 256", "layout::region::REGION_GROUP_4096, f / 4096"], GROUPS),
     ("growth/src/lib.rt", ["+ (j as u64) + 2"], "the slot after, as a link: each plus 1"),
-    ("layout/src/lib.rt", ["f.div_ceil(16)", "f.div_ceil(256)", "f.div_ceil(4096)"], GROUPS),
+    ("layout/src/lib.rt", ["(f + 15) / 16", "(f + 255) / 256", "(f + 4095) / 4096"], GROUPS),
     ("lookup/src/lib.rt", ["answer_put(out, base, i + 2, x.info.kind)", "answer_put(out, base, i + 3, x.info.rights)", "answer_put(out, base, i + 4, x.info.flags)", "put_entry(out, base, 5 + k * 5, *entry)", "base 5 (entry_list", "pub fn words(self) -> [u64; 4]"], ANSWER),
     ("lookup/src/lib.rt", [".examined ≤ 256"], "the most slots that a scan looks at, format's SCAN_SLOTS (document 01)"),
     ("parcel/src/lib.rt", ["words::word(words, at + 2)", "end: at + 3,"], RECORD),

@@ -33,7 +33,7 @@ pub const DONE: u64 = 0;
 impl Refusal {
     ghost use Rattle.format.specs.Refusals.{number};
 
-    // Document 01's word for it; `u64::from` would say less.
+    // By a name of its own in place of `From`: the definitions call document 01's table so too.
     pub fn number(self) -> u64
         ensures { result ≡ number self }
     {

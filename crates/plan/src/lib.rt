@@ -109,22 +109,13 @@ fn is_stale(s: &[u64], sh: Shape, x: u64) -> bool
     ensures { result ≡ stale_at (loadAt s.now sh) x }
 {
     let b = layout::row_word(s, sh, x, field::ROW_TABLE);
-    if layout::head_word(s, sh, b, field::HEAD_EPOCH)
-        != layout::row_word(s, sh, x, field::ROW_EPOCH)
-    {
-        return true;
-    }
-    if layout::head_word(s, sh, b, field::HEAD_FREE_SLOTS)
-        != layout::item_word(s, sh, x, 0, field::ITEM_FREE_SLOTS)
-    {
-        return true;
-    }
     let n = layout::row_word(s, sh, x, field::ROW_COUNT);
     let k = layout::row_word(s, sh, x, field::ROW_LENGTH);
-    if growth::pages_needed(s, sh, b, n) != k {
-        return true;
-    }
-    !growth::pages_same(s, sh, b, x, k)
+    layout::head_word(s, sh, b, field::HEAD_EPOCH) != layout::row_word(s, sh, x, field::ROW_EPOCH)
+        || layout::head_word(s, sh, b, field::HEAD_FREE_SLOTS)
+            != layout::item_word(s, sh, x, 0, field::ITEM_FREE_SLOTS)
+        || growth::pages_needed(s, sh, b, n) != k
+        || !growth::pages_same(s, sh, b, x, k)
 }
 
 // "21 StalePlan, after TableRetired and before the id", of the plan in place x.

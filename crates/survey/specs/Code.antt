@@ -22,7 +22,7 @@ use Rattle.structure.specs.Code.{sum_more}
 use Rattle.counts.specs.Found.{gather, in_cell, OffObjects, cell_same as in_cell_same}
 use Rattle.counts.specs.Shift.{unit, shift_w, shifted, shifted_off}
 use Rattle.counts.specs.Code.{turn_more}
-use Rattle.survey.specs.declared.Page.{Page}
+use Rattle.survey.specs.declared.page.Page.{Page}
 use Rattle.survey.specs.Walk.{marked_b, cell_b, slot_at, frame_b, held_in, passed_all, passed_stop, frame_found, cell_same, test_same, page_b, page_same, page_found, page_found_same, table_b, table_same, table_found, table_found_same}
 
 -- ---- a slot
@@ -59,125 +59,125 @@ held_passes m sh b k bound high c z h = rw (z, lt-ltb 0 c.tag (omega arith), le-
 -- ---- the walk over a page's slots
 
 -- slot j of a page
-abbrev pub slot_in : Mem → Shape → Page → ℕ → Bool
-slot_in m sh q j = slot_at m sh q.table q.number q.bound q.high q.frame j
+abbrev pub slot_in : Mem → Page → ℕ → Bool
+slot_in m q j = slot_at m q.sh q.table q.number q.bound q.high q.frame j
 
 -- a slot that is not both occupied and right
 abbrev pub Other : Page → CellWords → Type 0
 Other q c = c.tag ≡ tag_occupied → slot_c q.bound q.high c ≡ false
 
 -- what it has done up to slot j: the handles counted, the slots tested, the vacant ones counted
-pub record Walked (ws vs : List ℕ) (sh : Shape) (q : Page) (j v : ℕ) : Type 0 where
-  pub noted : vs ≡ shifted ws sh unit (gather j (in_cell (load ws sh) q.frame))
-  pub tested : all j (slot_in (load ws sh) sh q) ≡ true
-  pub vacant : v + busy_cells (load ws sh) q.frame j ≡ j
+pub record Walked (ws vs : List ℕ) (q : Page) (j v : ℕ) : Type 0 where
+  pub noted : vs ≡ shifted ws q.sh unit (gather j (in_cell (load ws q.sh) q.frame))
+  pub tested : all j (slot_in (load ws q.sh) q) ≡ true
+  pub vacant : v + busy_cells (load ws q.sh) q.frame j ≡ j
 
 -- from vs to us it goes on from slot j to slot k, none of which is vacant
-unfoldable pub Onward : List ℕ → List ℕ → Shape → Page → ℕ → ℕ → Type 0
-Onward vs us sh q j k = (ws : List ℕ) (v : ℕ) → Walked ws vs sh q j v → Walked ws us sh q k v
+unfoldable pub Onward : List ℕ → List ℕ → Page → ℕ → ℕ → Type 0
+Onward vs us q j k = (ws : List ℕ) (v : ℕ) → Walked ws vs q j v → Walked ws us q k v
 
-pub walked_none : (ws : List ℕ) (sh : Shape) (q : Page) → Walked ws ws sh q 0 0
-walked_none ws sh q = record { noted = refl; tested = all_none _; vacant = refl }
+pub walked_none : (ws : List ℕ) (q : Page) → Walked ws ws q 0 0
+walked_none ws q = record { noted = refl; tested = all_none _; vacant = refl }
 
 bit_not : (b : Bool) → bit b + bit (not b) ≡ 1
 bit_not true = refl
 bit_not false = refl
 
 -- the next slot, by the words that it has left
-module _ (ws vs : List ℕ) (sh : Shape) (q : Page) (j v : ℕ) (w : Walked ws vs sh q j v) (c : CellWords) (ec : c ≡ cell_at (load vs sh) q.frame j) where
-  off : OffObjects (load ws sh) (load vs sh)
-  off = rw w.noted (shifted_off ws sh unit (gather j (in_cell (load ws sh) q.frame)))
+module _ (ws vs : List ℕ) (q : Page) (j v : ℕ) (w : Walked ws vs q j v) (c : CellWords) (ec : c ≡ cell_at (load vs q.sh) q.frame j) where
+  off : OffObjects (load ws q.sh) (load vs q.sh)
+  off = rw w.noted (shifted_off ws q.sh unit (gather j (in_cell (load ws q.sh) q.frame)))
 
-  cell_left : c ≡ cell_at (load ws sh) q.frame j
-  cell_left = ec ∙ cell_same (load ws sh) (load vs sh) off q.frame j
+  cell_left : c ≡ cell_at (load ws q.sh) q.frame j
+  cell_left = ec ∙ cell_same (load ws q.sh) (load vs q.sh) off q.frame j
 
-  test_left : cell_b (load vs sh) sh q.table (q.number * page_size + j) q.bound q.high c ≡ slot_in (load ws sh) sh q j
-  test_left = test_same (load ws sh) (load vs sh) off sh q.table (q.number * page_size + j) q.bound q.high c ∙ ap (λ (d : CellWords). cell_b (load ws sh) sh q.table (q.number * page_size + j) q.bound q.high d) cell_left
+  test_left : cell_b (load vs q.sh) q.sh q.table (q.number * page_size + j) q.bound q.high c ≡ slot_in (load ws q.sh) q j
+  test_left = test_same (load ws q.sh) (load vs q.sh) off q.sh q.table (q.number * page_size + j) q.bound q.high c ∙ ap (λ (d : CellWords). cell_b (load ws q.sh) q.sh q.table (q.number * page_size + j) q.bound q.high d) cell_left
 
-  busy_more : bit (not (eqb c.tag tag_vacant)) + busy_cells (load ws sh) q.frame j ≡ busy_cells (load ws sh) q.frame (j + 1)
-  busy_more = sum_more (λ i. bit (not (eqb (load ws sh (cell q.frame i slot_tag)) tag_vacant))) j (busy_cells (load ws sh) q.frame j) _ _ refl
+  busy_more : bit (not (eqb c.tag tag_vacant)) + busy_cells (load ws q.sh) q.frame j ≡ busy_cells (load ws q.sh) q.frame (j + 1)
+  busy_more = sum_more (λ i. bit (not (eqb (load ws q.sh (cell q.frame i slot_tag)) tag_vacant))) j (busy_cells (load ws q.sh) q.frame j) _ _ refl
       (ap (λ (d : CellWords). bit (not (eqb d.tag tag_vacant))) cell_left) (omega arith)
 
-  pub walked_more : (us : List ℕ) (x : ℕ) → cell_b (load vs sh) sh q.table (q.number * page_size + j) q.bound q.high c ≡ true → us ≡ shifted vs sh unit (held_in c) → x ≡ bit (eqb c.tag tag_vacant) → Walked ws us sh q (j + 1) (v + x)
+  pub walked_more : (us : List ℕ) (x : ℕ) → cell_b (load vs q.sh) q.sh q.table (q.number * page_size + j) q.bound q.high c ≡ true → us ≡ shifted vs q.sh unit (held_in c) → x ≡ bit (eqb c.tag tag_vacant) → Walked ws us q (j + 1) (v + x)
   walked_more us x y e ex = record {
-    noted = turn_more sh unit (λ (m : Mem) (k : ℕ). in_cell m q.frame k) (λ m n h k. in_cell_same m n h q.frame k) ws vs us j w.noted (e ∙ ap (λ (d : CellWords). shifted vs sh unit (held_in d)) ec);
-    tested = all_more j (slot_in (load ws sh) sh q) w.tested (sym test_left ∙ y);
+    noted = turn_more q.sh unit (λ (m : Mem) (k : ℕ). in_cell m q.frame k) (λ m n h k. in_cell_same m n h q.frame k) ws vs us j w.noted (e ∙ ap (λ (d : CellWords). shifted vs q.sh unit (held_in d)) ec);
+    tested = all_more j (slot_in (load ws q.sh) q) w.tested (sym test_left ∙ y);
     vacant = omega (arith, w.vacant, busy_more, bit_not (eqb c.tag tag_vacant));
   }
 
   -- where such a slot passes, it holds no handle
-  pub walked_other : (x : ℕ) → Other q (cell_at (load vs sh) q.frame j) → cell_b (load vs sh) sh q.table (q.number * page_size + j) q.bound q.high c ≡ true → x ≡ bit (eqb c.tag tag_vacant) → Walked ws vs sh q (j + 1) (v + x)
+  pub walked_other : (x : ℕ) → Other q (cell_at (load vs q.sh) q.frame j) → cell_b (load vs q.sh) q.sh q.table (q.number * page_size + j) q.bound q.high c ≡ true → x ≡ bit (eqb c.tag tag_vacant) → Walked ws vs q (j + 1) (v + x)
   unfolding cell_b
   walked_other x h y = walked_more vs x y (rw (ne_eqb c.tag tag_occupied (λ t. clash (both (slot_c q.bound q.high c) _ y).0 (subst (Other q) (sym ec) h t))))
 
   -- a slot that fails ends the walk
-  pub walked_stop : (n busy : ℕ) → j < n → cell_b (load vs sh) sh q.table (q.number * page_size + j) q.bound q.high c ≡ false
-      → (vs ≡ shifted ws sh unit (frame_found (load ws sh) sh q.table q.number q.bound q.high q.frame n)) × (false ≡ frame_b (load ws sh) sh q.table q.number q.bound q.high q.frame n busy)
+  pub walked_stop : (n busy : ℕ) → j < n → cell_b (load vs q.sh) q.sh q.table (q.number * page_size + j) q.bound q.high c ≡ false
+      → (vs ≡ shifted ws q.sh unit (frame_found (load ws q.sh) q.sh q.table q.number q.bound q.high q.frame n)) × (false ≡ frame_b (load ws q.sh) q.sh q.table q.number q.bound q.high q.frame n busy)
   unfolding frame_found frame_b
-  walked_stop n busy h y = let d : slot_in (load ws sh) sh q j ≡ false = sym test_left ∙ y in (
-    w.noted ∙ rw (passed_stop n (slot_in (load ws sh) sh q) j h w.tested d),
-    rw (all_stop n (slot_in (load ws sh) sh q) j h d),
+  walked_stop n busy h y = let d : slot_in (load ws q.sh) q j ≡ false = sym test_left ∙ y in (
+    w.noted ∙ rw (passed_stop n (slot_in (load ws q.sh) q) j h w.tested d),
+    rw (all_stop n (slot_in (load ws q.sh) q) j h d),
   )
 
 -- all slots passed
-pub walked_end : (ws vs : List ℕ) (sh : Shape) (q : Page) (n v busy : ℕ) → Walked ws vs sh q n v
-    → (vs ≡ shifted ws sh unit (frame_found (load ws sh) sh q.table q.number q.bound q.high q.frame n)) × (eqb (n - v) busy ≡ frame_b (load ws sh) sh q.table q.number q.bound q.high q.frame n busy)
+pub walked_end : (ws vs : List ℕ) (q : Page) (n v busy : ℕ) → Walked ws vs q n v
+    → (vs ≡ shifted ws q.sh unit (frame_found (load ws q.sh) q.sh q.table q.number q.bound q.high q.frame n)) × (eqb (n - v) busy ≡ frame_b (load ws q.sh) q.sh q.table q.number q.bound q.high q.frame n busy)
 unfolding frame_found frame_b
-walked_end ws vs sh q n v busy w = let e : n - v ≡ busy_cells (load ws sh) q.frame n = omega (arith, w.vacant) in (
-  w.noted ∙ rw (passed_all n (slot_in (load ws sh) sh q) w.tested),
+walked_end ws vs q n v busy w = let e : n - v ≡ busy_cells (load ws q.sh) q.frame n = omega (arith, w.vacant) in (
+  w.noted ∙ rw (passed_all n (slot_in (load ws q.sh) q) w.tested),
   rw (w.tested, e),
 )
 
-pub onward_none : (vs : List ℕ) (sh : Shape) (q : Page) (j : ℕ) → Onward vs vs sh q j j
+pub onward_none : (vs : List ℕ) (q : Page) (j : ℕ) → Onward vs vs q j j
 unfolding Onward
-onward_none vs sh q j ws v w = w
+onward_none vs q j ws v w = w
 
-pub onward_more : (vs us zs : List ℕ) (sh : Shape) (q : Page) (j k : ℕ) (c : CellWords) → Onward vs us sh q j k → c ≡ cell_at (load us sh) q.frame k → slot_c q.bound q.high c ≡ true → c.tag ≡ tag_occupied
-    → zs ≡ shift_w us sh unit c.object → Onward vs zs sh q j (k + 1)
+pub onward_more : (vs us zs : List ℕ) (q : Page) (j k : ℕ) (c : CellWords) → Onward vs us q j k → c ≡ cell_at (load us q.sh) q.frame k → slot_c q.bound q.high c ≡ true → c.tag ≡ tag_occupied
+    → zs ≡ shift_w us q.sh unit c.object → Onward vs zs q j (k + 1)
 unfolding Onward
-onward_more vs us zs sh q j k c g ec z h e ws v w =
-    let o : zs ≡ shifted us sh unit (held_in c) = e ∙ rw (eq-eqb c.tag tag_occupied h) in
+onward_more vs us zs q j k c g ec z h e ws v w =
+    let o : zs ≡ shifted us q.sh unit (held_in c) = e ∙ rw (eq-eqb c.tag tag_occupied h) in
     let x : 0 ≡ bit (eqb c.tag tag_vacant) = rw h in
     let y : v + 0 ≡ v = omega arith in
-    rw y at (walked_more ws us sh q k v (g ws v w) c ec zs 0 (held_passes (load us sh) sh q.table (q.number * page_size + k) q.bound q.high c z h) o x)
+    rw y at (walked_more ws us q k v (g ws v w) c ec zs 0 (held_passes (load us q.sh) q.sh q.table (q.number * page_size + k) q.bound q.high c z h) o x)
 
-pub onward_by : (ws vs us : List ℕ) (sh : Shape) (q : Page) (j k v : ℕ) → Onward vs us sh q j k → Walked ws vs sh q j v → Walked ws us sh q k v
+pub onward_by : (ws vs us : List ℕ) (q : Page) (j k v : ℕ) → Onward vs us q j k → Walked ws vs q j v → Walked ws us q k v
 unfolding Onward
-onward_by ws vs us sh q j k v g w = g ws v w
+onward_by ws vs us q j k v g w = g ws v w
 
 -- the same, shut: the tactics take it as one fact
-unfoldable pub Passed : List ℕ → List ℕ → Shape → Page → ℕ → ℕ → Type 0
-Passed ws vs sh q j v = Walked ws vs sh q j v
+unfoldable pub Passed : List ℕ → List ℕ → Page → ℕ → ℕ → Type 0
+Passed ws vs q j v = Walked ws vs q j v
 
-pub passed_none : (ws : List ℕ) (sh : Shape) (q : Page) → Passed ws ws sh q 0 0
+pub passed_none : (ws : List ℕ) (q : Page) → Passed ws ws q 0 0
 unfolding Passed
-passed_none ws sh q = walked_none ws sh q
+passed_none ws q = walked_none ws q
 
 -- the walk goes on from slot j to slot k, and there
-module _ (ws vs us : List ℕ) (sh : Shape) (q : Page) (j k v : ℕ) (g : Onward vs us sh q j k) (w : Passed ws vs sh q j v) where
-  on : Walked ws us sh q k v
+module _ (ws vs us : List ℕ) (q : Page) (j k v : ℕ) (g : Onward vs us q j k) (w : Passed ws vs q j v) where
+  on : Walked ws us q k v
   unfolding Passed
-  on = onward_by ws vs us sh q j k v g w
+  on = onward_by ws vs us q j k v g w
 
   -- all slots are passed
-  pub end_noted : us ≡ shifted ws sh unit (frame_found (load ws sh) sh q.table q.number q.bound q.high q.frame k)
-  end_noted = (walked_end ws us sh q k v 0 on).0
+  pub end_noted : us ≡ shifted ws q.sh unit (frame_found (load ws q.sh) q.sh q.table q.number q.bound q.high q.frame k)
+  end_noted = (walked_end ws us q k v 0 on).0
 
-  pub end_answer : (busy : ℕ) → eqb (k - v) busy ≡ frame_b (load ws sh) sh q.table q.number q.bound q.high q.frame k busy
-  end_answer busy = (walked_end ws us sh q k v busy on).1
+  pub end_answer : (busy : ℕ) → eqb (k - v) busy ≡ frame_b (load ws q.sh) q.sh q.table q.number q.bound q.high q.frame k busy
+  end_answer busy = (walked_end ws us q k v busy on).1
 
-  module _ (c : CellWords) (t : Bool) (n : ℕ) (ec : c ≡ cell_at (load us sh) q.frame k) (et : t ≡ cell_b (load us sh) sh q.table (q.number * page_size + k) q.bound q.high c) where
+  module _ (c : CellWords) (t : Bool) (n : ℕ) (ec : c ≡ cell_at (load us q.sh) q.frame k) (et : t ≡ cell_b (load us q.sh) q.sh q.table (q.number * page_size + k) q.bound q.high c) where
     -- it ends
-    pub stop_noted : k < n → t ≡ false → us ≡ shifted ws sh unit (frame_found (load ws sh) sh q.table q.number q.bound q.high q.frame n)
-    stop_noted h y = (walked_stop ws us sh q k v on c ec n 0 h (sym et ∙ y)).0
+    pub stop_noted : k < n → t ≡ false → us ≡ shifted ws q.sh unit (frame_found (load ws q.sh) q.sh q.table q.number q.bound q.high q.frame n)
+    stop_noted h y = (walked_stop ws us q k v on c ec n 0 h (sym et ∙ y)).0
 
-    pub stop_answer : (busy : ℕ) → k < n → t ≡ false → false ≡ frame_b (load ws sh) sh q.table q.number q.bound q.high q.frame n busy
-    stop_answer busy h y = (walked_stop ws us sh q k v on c ec n busy h (sym et ∙ y)).1
+    pub stop_answer : (busy : ℕ) → k < n → t ≡ false → false ≡ frame_b (load ws q.sh) q.sh q.table q.number q.bound q.high q.frame n busy
+    stop_answer busy h y = (walked_stop ws us q k v on c ec n busy h (sym et ∙ y)).1
 
     -- or the slot is passed
-    pub other_more : (x : ℕ) → k < n → (k < n → Other q (cell_at (load us sh) q.frame k)) → t ≡ true → x ≡ bit (eqb c.tag tag_vacant) → Passed ws us sh q (k + 1) (v + x)
+    pub other_more : (x : ℕ) → k < n → (k < n → Other q (cell_at (load us q.sh) q.frame k)) → t ≡ true → x ≡ bit (eqb c.tag tag_vacant) → Passed ws us q (k + 1) (v + x)
     unfolding Passed
-    other_more x h o y ex = walked_other ws us sh q k v on c ec x (o h) (sym et ∙ y) ex
+    other_more x h o y ex = walked_other ws us q k v on c ec x (o h) (sym et ∙ y) ex
 
 -- ---- tables and pages
 

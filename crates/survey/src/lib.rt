@@ -12,29 +12,20 @@ ghost use Rattle.counts.specs.Shift.{unit, shifted};
 ghost use Rattle.survey.specs.Code.{Onward, Other};
 ghost use Rattle.survey.specs.Walk.{cell_b, frame_b, frame_found, page_b, page_found, table_b, table_found, survey_b};
 
-use layout::{CellWords, Shape, field, place, size, value};
+mod page;
 
-// A page that has a frame: its table, its number there, what its handles' objects are below, its high mark and its frame.
-// The shape is no field of it, with `bound ≤ sh.objects` and `frame < sh.frames` as its ghost fields: so it was tried, and the check of 64 pages took 5 to 11 of 100 longer.
-#[derive(Clone, Copy)]
-struct Page {
-    table: u64,
-    number: u32,
-    bound: u64,
-    high: u64,
-    frame: u64,
-}
+use layout::{CellWords, Shape, field, place, size, value};
+use page::Page;
 
 impl Page {
     // Slot j, in words that hold the whole state: no test of bounds.
     #[tactic(auto, using(crate::specs::Code::cell_is))]
-    fn cell(self, s: &[u64], sh: Shape, j: u64) -> CellWords
-        requires frame_lt_frames { self.frame < sh.frames }
+    fn cell(self, s: &[u64], j: u64) -> CellWords
         requires j_lt_page_size { j < page_size }
-        requires sh_in_bounds { total sh ≤ length s.now }
-        ensures { result ≡ cell_at (loadAt s.now sh) self.frame j }
+        requires sh_in_bounds { total self.sh ≤ length s.now }
+        ensures { result ≡ cell_at (loadAt s.now self.sh) self.frame j }
     {
-        let e = layout::region_of(sh, layout::region::REGION_CELL);
+        let e = layout::region_of(self.sh, layout::region::REGION_CELL);
         let at = (e.low + (self.frame * size::PAGE_SIZE + j) * size::SLOT_SIZE) as usize;
         CellWords {
             tag: s[at],
@@ -48,55 +39,57 @@ impl Page {
 
     // Slot j by its words: its handle's object is below the bound, a mark is an item of the row that it names.
     #[tactic(auto, unfolding(crate::specs::Walk::cell_b), using(std::proofs::lemmas::Bool::Decides::nat_tests))]
-    fn slot_ok(self, s: &[u64], sh: Shape, j: u64, c: CellWords) -> bool
+    fn slot_ok(self, s: &[u64], j: u64, c: CellWords) -> bool
         requires j_lt_page_size { j < page_size }
-        ensures { result ≡ cell_b (loadAt s.now sh) sh self.table (self.number * page_size + j) self.bound self.high c }
+        ensures { result ≡ cell_b (loadAt s.now self.sh) self.sh self.table (self.number * page_size + j) self.bound self.high c }
     {
         let k = (self.number as u64) * size::PAGE_SIZE + j;
         structure::slot_ok(c, self.bound, self.high)
             && (c.tag == value::TAG_VACANT
                 || c.tag >= value::TAG_OCCUPIED
-                || ledger::mark_ok(s, sh, self.table, k, c.tag, c.object, c.rights))
+                || ledger::mark_ok(s, self.sh, self.table, k, c.tag, c.object, c.rights))
     }
 
-    // Counts the handles of the slots from `from` on that are occupied and right. The first slot that is not, n where all are: given as an `Option`, it makes the check of 64 pages 5 to 8 of 100 longer.
+    // Counts the handles of the slots from `from` on that are occupied and right. The first slot that is not, n where all are.
+    // A loop by hand and a number for its result: with `for`, or with an `Option`, the compiled loop is longer, and the check of 64 pages takes 13 of 100 longer (docs/performance.md, "Since the design pass").
     #[tactic(auto, unfolding(structure::specs::Checks::slot_c, structure::specs::Checks::handle_c), using(crate::specs::Code::onward_none, crate::specs::Code::onward_more, std::proofs::lemmas::Bool::Decides::nat_tests))]
-    fn next_other(self, s: &mut [u64], sh: Shape, from: u64, n: u64) -> u64
-        requires bound_le_objects { self.bound ≤ sh.objects }
-        requires n_le_page_size { (n ≤ page_size) × (self.frame < sh.frames) × (from ≤ n) }
-        requires sh_in_bounds { total sh ≤ length s.old }
-        ensures noted { Onward s.old s.new sh self from result }
+    fn next_other(self, s: &mut [u64], from: u64, n: u64) -> u64
+        requires n_le_page_size { (n ≤ page_size) × (from ≤ n) }
+        requires sh_in_bounds { total self.sh ≤ length s.old }
+        ensures noted { Onward s.old s.new self from result }
         ensures within { (from ≤ result) × (result ≤ n) }
-        ensures other { result < n → Other self (cell_at (loadAt s.new sh) self.frame result) }
+        ensures other { result < n → Other self (cell_at (loadAt s.new self.sh) self.frame result) }
     {
-        for j in from..n {
-            let c = self.cell(s, sh, j);
+        let mut j = from;
+        while j < n {
+            let c = self.cell(s, j);
             if c.tag != value::TAG_OCCUPIED || !structure::slot_ok(c, self.bound, self.high) {
                 return j;
             }
-            counts::note_handle(s, sh, c.object);
+            counts::note_handle(s, self.sh, c.object);
+            j += 1;
         }
-        n
+        j
     }
 
-    // The first n slots: whether each is right and `busy` of them are busy. Most are occupied, and have a loop of their own: one loop over all slots makes the check of 64 pages 8 to 12 of 100 longer. So the outer loop goes from one other slot to the next, which are no range's.
+    // The first n slots: whether each is right and `busy` of them are busy. Most are occupied, and have a loop of their own: with one loop over all slots, in five forms, the check of 64 pages takes 12 of 100 longer or more.
+    // So the outer loop goes from one other slot to the next, which are no range's.
     #[tactic(auto, using(crate::specs::Code::passed_none, crate::specs::Code::end_noted, crate::specs::Code::end_answer, crate::specs::Code::stop_noted, crate::specs::Code::stop_answer, crate::specs::Code::other_more))]
-    fn walk(self, s: &mut [u64], sh: Shape, n: u64, busy: u64) -> bool
-        requires bound_le_objects { self.bound ≤ sh.objects }
-        requires n_le_page_size { (n ≤ page_size) × (self.frame < sh.frames) }
-        requires sh_in_bounds { total sh ≤ length s.old }
-        ensures noted { s.new ≡ shifted s.old sh unit (frame_found (loadAt s.old sh) sh self.table self.number self.bound self.high self.frame n) }
-        ensures answer { result ≡ frame_b (loadAt s.old sh) sh self.table self.number self.bound self.high self.frame n busy }
+    fn walk(self, s: &mut [u64], n: u64, busy: u64) -> bool
+        requires n_le_page_size { n ≤ page_size }
+        requires sh_in_bounds { total self.sh ≤ length s.old }
+        ensures noted { s.new ≡ shifted s.old self.sh unit (frame_found (loadAt s.old self.sh) self.sh self.table self.number self.bound self.high self.frame n) }
+        ensures answer { result ≡ frame_b (loadAt s.old self.sh) self.sh self.table self.number self.bound self.high self.frame n busy }
     {
         let mut vacant: u64 = 0;
         let mut from: u64 = 0;
         loop {
-            let k = self.next_other(s, sh, from, n);
+            let k = self.next_other(s, from, n);
             if k == n {
                 return n - vacant == busy;
             }
-            let c = self.cell(s, sh, k);
-            if !self.slot_ok(s, sh, k, c) {
+            let c = self.cell(s, k);
+            if !self.slot_ok(s, k, c) {
                 return false;
             }
             vacant += u64::from(c.tag == value::TAG_VACANT);
@@ -131,8 +124,9 @@ fn walk_page(s: &mut [u64], sh: Shape, b: u64, bound: u64, e: u64, p: u32) -> bo
         bound,
         high,
         frame,
+        sh,
     };
-    page.walk(s, sh, n, busy)
+    page.walk(s, n, busy)
 }
 
 // The pages of table b.

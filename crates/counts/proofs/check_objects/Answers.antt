@@ -8,6 +8,7 @@ use Rattle.words.specs.Each.{range_all}
 use Rattle.counts.specs.Objects.{object_b}
 use Rattle.counts.proofs.check_objects.Goals as goal
 
+-- The check does not find these alone: `range_all` takes the objects' test and what each call of the closure gives.
 pub all-requires-clause-callable : goal.all-requires-clause-callable
 all-requires-clause-callable c = serves_from_Range (λ x q k. search rules) (λ x l h. let k : x < c.args.sh.objects = omega (arith, c.used-n.ensures, used_few (load c.args.s.now c.args.sh) c.args.sh.objects) in let e = ap (λ (e : Extent). e.low) c.region_of-first.ensures in search rules)
 

@@ -2,6 +2,7 @@ use Rattle.std.proofs.Common.{arith}
 use Rattle.detach.specs.Late.{leaving_none, leaving_more, leaving_all}
 use Rattle.detach.proofs.unlink_page.Goals as goal
 
+-- The check does not find these alone: what the loop keeps, `Leaving`, is a record, and it cites no lemma whose conclusion is one.
 pub loop-j-init : goal.loop-j-init
 loop-j-init c = leaving_none c.args.s.now c.args.sh c.args.b c.args.p _ _ _ c.load-h.ensures c.min-first.ensures c.frame_link-fr.ensures
 

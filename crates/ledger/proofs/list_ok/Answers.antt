@@ -7,6 +7,7 @@ use Rattle.ledger.specs.Items.{item_b}
 use Rattle.ledger.specs.Ledger.{list_b}
 use Rattle.ledger.proofs.list_ok.Goals as goal
 
+-- The check does not find this alone: `range_all` takes the items' test and what each call of the closure gives.
 pub returns-then-open_ok : goal.returns-then-open_ok
 unfolding list_b
 returns-then-open_ok c =

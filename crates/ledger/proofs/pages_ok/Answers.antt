@@ -3,6 +3,7 @@ use Rattle.layout.specs.Layout.{load}
 use Rattle.ledger.specs.Code.{pages_end}
 use Rattle.ledger.proofs.pages_ok.Goals as goal
 
+-- The check does not find this alone: the loop's end has to be put in two places of what it keeps.
 pub returns : goal.returns
 returns c =
     let e : c.loop-j.j ≡ c.args.n = omega arith in

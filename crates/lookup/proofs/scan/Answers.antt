@@ -6,6 +6,7 @@ use Rattle.lookup.specs.Code.{frame_next}
 use Rattle.lookup.specs.Walks.{scan_first, scan_took, scan_past, scan_end}
 use Rattle.lookup.proofs.scan.Goals as goal
 
+-- The check does not find these alone: `scan_took`, `scan_past` and `scan_end` have variables that no goal of the loop shows.
 pub overflow_add-start : goal.overflow_add-start
 unfolding max_slots
 overflow_add-start c = omega (arith, c.table_length-length.ensures, c.min-start.ensures)

@@ -5,6 +5,7 @@ use Rattle.orders.specs.Check.{page_next, detached_at, detached_link, detached_b
 use Rattle.orders.specs.Each.{range_count}
 use Rattle.orders.proofs.check_detached.Goals as goal
 
+-- The check does not find this alone: `range_count` takes the pages' test and what each call of the closure gives.
 pub returns : goal.returns
 unfolding detached_by tally
 returns c =

@@ -5,6 +5,7 @@ use Rattle.orders.specs.Check.{page_next, empty_at, empty_link, empty_by, tally}
 use Rattle.orders.specs.Each.{range_count}
 use Rattle.orders.proofs.check_empty.Goals as goal
 
+-- As `check_detached`.
 pub returns : goal.returns
 unfolding empty_by tally
 returns c =

@@ -7,6 +7,7 @@ use Rattle.model.specs.Base.{member}
 use Rattle.parcel.specs.Publishing.{ids_left}
 use Rattle.parcel.proofs.named.Goals as goal
 
+-- The check does not find this alone: what `any` gives is said over its closure, and the list of ids that it went over has to be named.
 any_member : (k : ℕ) (xs : List ℕ) → list_any (λ x. eqb k x) xs ≡ member k xs
 any_member k [] = refl
 any_member k (x ∷ xs) = bool (eqb k x) (λ e. rw e) (λ e. rw e (any_member k xs))

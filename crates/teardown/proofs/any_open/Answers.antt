@@ -8,6 +8,7 @@ use Rattle.teardown.specs.Ops.{opens_at, open_from, open_in}
 use Rattle.teardown.specs.Open.{any_by}
 use Rattle.teardown.proofs.any_open.Goals as goal
 
+-- The check does not find this alone: what `any` gives is said over its closure; with `any_by` named at the function the search came to a limit.
 pub returns : goal.returns
 unfolding open_in
 returns c =

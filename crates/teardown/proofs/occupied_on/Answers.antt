@@ -11,6 +11,7 @@ use Rattle.layout.specs.Values.{tag_occupied}
 use Rattle.teardown.specs.Walk.{page_by}
 use Rattle.teardown.proofs.occupied_on.Goals as goal
 
+-- The check does not find this alone: what `find` gives is said over its closure; with `page_none` and `page_by` named at the function the search came to a limit.
 pub returns : goal.returns
 returns c =
     let m = load c.args.s.now c.args.sh in

@@ -6,6 +6,7 @@ use Rattle.transfer.specs.Checks.{item_by, items_left}
 use Rattle.transfer.specs.Code.{any_earlier}
 use Rattle.transfer.proofs.listed.Goals as goal
 
+-- The check does not find this alone: what `any` gives is said over its closure, and the list of items that it went over has to be named.
 pub returns : goal.returns
 unfolding item_by
 returns c =
