@@ -1,7 +1,7 @@
 #!/usr/bin/env python3
 """Every command that README.md and docs/ give can be given: each is run, or, where it takes minutes or is run by the gate already, its program, flags and files are looked up.
 
-A command is a span in backticks, or an indented line, that begins with a program of PROGRAMS. FILE, CRATE and NAME stand for an example and the crate `basket`, LOG for what `rt must-fail basket`
+A command is a span in backticks, or an indented line, that begins with a program of PROGRAMS. FILE, CRATE, NAME and COMMIT stand for an example, the crate `basket` and the last commit, LOG for what `rt must-fail basket`
 prints. What `rt` does in a crate's folder (INSIDE) is run in that of `basket`. A command that
 writes files of the repository (WRITES) is run in a copy, and must leave there what stands here. The benchmark is run with `--short` added, and the tables that it prints must be those of
 docs/performance.md. A command for which there is no rule is a fault. It prints what it ran, with the seconds, and what it only looked at, with the reason. docs/landings and docs/PORT.md, which tell
@@ -21,7 +21,7 @@ from pathlib import Path
 
 from scratch import linked, root
 
-PROGRAMS = r"(?:\./[\w.]+|rt [a-z]|(?:tests|docs|c|oracle|\.ci)/[\w/-]+(?:\.py|\.sh)\b|\.ci/run|oracle/target/release/\w+|oracle [a-z]|cargo |grep |[A-Z_]+=\S+ )"
+PROGRAMS = r"(?:\./[\w.]+|rt [a-z]|(?:tests|tools|docs|c|oracle|\.ci)/[\w/-]+(?:\.py|\.sh)\b|\.ci/run|oracle/target/release/\w+|oracle [a-z]|cargo |grep |[A-Z_]+=\S+ )"
 WRITES = ("--write", "--record", "record recorded", "rt fmt", "rt tidy", "tests/wrong.py", "docs/two-runs.py")
 # what `rt` does in a crate's folder, and what `rt all` does
 INSIDE = ("check", "verdict", "lib", "run", "test", "try", "fmt", "tidy", "expand", "plant")
@@ -72,7 +72,7 @@ def commands():
 def filled(command):
     """A command with what stands for its capital words, and what is left out in the text."""
     example = "held-rollback" if "--held" in command else "state" if "--state" in command else "old-value"
-    command = re.sub(r"\b(?:CRATE|NAME)\b(?:\.\.)?", "basket", re.sub(r"\bFILE\b", f"examples/{example}.txt", command))
+    command = re.sub(r"\b(?:CRATE|NAME)\b(?:\.\.)?", "basket", re.sub(r"\bFILE\b", f"examples/{example}.txt", command)).replace("COMMIT", "HEAD")
     if re.match(r"oracle [a-z]", command):
         command = f"{ORACLE} {command.split(maxsplit=1)[1]}"
     return {ORACLE: f"{ORACLE} sources", f"{ORACLE} run": f"{ORACLE} run WORDS"}.get(command, command)
@@ -137,7 +137,7 @@ def reason(command):
         return "it takes minutes; with --gate and a small crate it is run"
     if part(command) in LONG and re.search(rf"^ *part {part(command)}\b", (root / LONG[part(command)]).read_text(), flags=re.M):
         return f"it takes longer, and {LONG[part(command)]} runs it"
-    if (program == "./run.py" or program == "tests/embedding.py" or "ORACLE_PORT=" in command) and not libraries():
+    if (program in ("./run.py", "tests/embedding.py", "tools/placements.py") or "ORACLE_PORT=" in command) and not libraries():
         return "not run: the port's libraries are not made"
     if ("--oracle" in command or "cargo " in command) and shutil.which("cargo") is None:
         return "not run: there is no cargo"
