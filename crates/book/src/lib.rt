@@ -173,7 +173,7 @@ pub fn vacate_items(s: &mut [u64], sh: Shape, b: u64, x: u64, from: u64, to: u64
     ensures words { s.new ≡ vacate_items_w s.old sh b x from (min to batch_max - from) }
 {
     let end = to.min(size::BATCH_MAX);
-    // Field by field, for speed: a copy in one go, which the calls would make, waits until the caller's stores of the fields are in the cache.
+    // Field by field, for speed: a copy in one go, which the calls would make, waits until the caller's stores of the fields are in the cache. Without this and that of claim's `abort` an abort takes 124 ns for 116.
     let own = Shape {
         tables: sh.tables,
         pages: sh.pages,

@@ -71,6 +71,7 @@ impl<'a> Objects<'a> {
     }
 
     // How many are left without those at the end that have no count and whose fields are in range.
+    // A loop, whose invariant is a line: what `find` gives is said over its closure, and takes a file of answers, as teardown's `occupied_on`.
     #[tactic(auto, unfolding(crate::specs::Used::used_to))]
     fn used(self) -> u64
         ensures { result ≡ used_to (loadAt self.entry.words.now self.entry.sh) self.entry.sh.objects }

@@ -56,7 +56,7 @@ fn objects_ok(p: &[u64], t: u8, n: u16) -> bool
     (0..n).all(|k| object_ok(p, base + (k as u32) * 6))
 }
 
-// The pages of the first n tables.
+// The pages of the first n tables. A loop, as structure's `free_in`.
 #[tactic(auto, using(crate::specs::Parameters::pages_small))]
 fn pages_of(p: &[u64], n: u8) -> u64
     ensures { result ≡ page_sum p.now n }

@@ -20,6 +20,7 @@ fn has_free(s: &[u64], sh: Shape, k: u64, x: u64) -> bool
 }
 
 // The first of 16 numbers of region k that has a free frame; the number past them if none does, as in the definition. An `Option` would be turned into that number at once, since the next level is read by it.
+// A loop, whose invariant is a line: what `find` gives is said over its closure, and takes a file of answers, as teardown's `occupied_on`.
 #[tactic(auto, using(crate::specs::Ops::first_step, crate::specs::Ops::first_end))]
 fn first_free(s: &[u64], sh: Shape, k: u64, from: u64) -> u64
     requires { from ≤ 1000000 }

@@ -155,11 +155,7 @@ impl Next {
     fn page(self) -> u64
         ensures { result ≡ page_at self.detached self.count }
     {
-        if self.detached == 0 {
-            self.count
-        } else {
-            self.detached - 1
-        }
+        self.detached.checked_sub(1).unwrap_or(self.count)
     }
 
     // It is a new page and would pass the limit.
@@ -174,16 +170,15 @@ impl Next {
         ensures detached { result.detached ≡ link_after (loadAt s.now sh) e self.detached }
         ensures count { result.count ≡ size_after self.detached self.count }
     {
-        if self.detached == 0 {
-            Next {
+        match self.detached.checked_sub(1) {
+            Some(p) => Next {
+                detached: storage::page_word(s, sh, e, p, field::ENTRY_NEXT),
+                ..self
+            },
+            None => Next {
                 detached: 0,
                 count: self.count.saturating_add(1),
-            }
-        } else {
-            Next {
-                detached: storage::page_word(s, sh, e, self.detached - 1, field::ENTRY_NEXT),
-                ..self
-            }
+            },
         }
     }
 }

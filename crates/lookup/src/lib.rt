@@ -120,13 +120,11 @@ fn open_slot(k: u64, g: u64, w: CellWords) -> Result<PreparedHandle, Refusal>
     if g != w.generation {
         return Err(Refusal::InvalidHandle);
     }
-    if w.tag == value::TAG_OCCUPIED {
-        return Ok(prepared(k, w));
+    match w.tag {
+        value::TAG_OCCUPIED => Ok(prepared(k, w)),
+        value::TAG_TRANSFER_RESERVED => Err(Refusal::Busy),
+        _ => Err(Refusal::InvalidHandle),
     }
-    if w.tag == value::TAG_TRANSFER_RESERVED {
-        return Err(Refusal::Busy);
-    }
-    Err(Refusal::InvalidHandle)
 }
 
 // What a value names in table b, active or not: a handle, or why there is none.

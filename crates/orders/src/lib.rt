@@ -30,7 +30,7 @@ impl Pages {
         slots.saturating_sub(storage::page_word(s, sh, self.first, p as u64, field::ENTRY_BUSY))
     }
 
-    // The vacant slots of all pages.
+    // The vacant slots of all pages. A loop, as structure's `free_in`.
     #[tactic(auto, using(crate::specs::Code::vacants_few), unfolding(crate::specs::Check::vacants))]
     fn vacants(self, s: &[u64], sh: Shape) -> u64
         ensures { result ≡ vacants (loadAt s.now sh) self.count self.first }
@@ -65,9 +65,11 @@ impl Pages {
     fn empty_link(self, s: &[u64], sh: Shape, at: u64, before: u64) -> bool
         ensures { result ≡ empty_link (loadAt s.now sh) self.count self.first at before }
     {
-        at > 0
-            && self.empty_at(s, sh, at - 1)
-            && storage::page_word(s, sh, self.first, at - 1, field::ENTRY_PREVIOUS) == before
+        let Some(p) = at.checked_sub(1) else {
+            return false;
+        };
+        self.empty_at(s, sh, p)
+            && storage::page_word(s, sh, self.first, p, field::ENTRY_PREVIOUS) == before
     }
 
     // Whether the link at is one to a detached page; these have no links back.
@@ -75,7 +77,10 @@ impl Pages {
     fn detached_link(self, s: &[u64], sh: Shape, at: u64) -> bool
         ensures { result ≡ detached_link (loadAt s.now sh) self.count self.first at }
     {
-        at > 0 && self.detached_at(s, sh, at - 1)
+        let Some(p) = at.checked_sub(1) else {
+            return false;
+        };
+        self.detached_at(s, sh, p)
     }
 }
 

@@ -144,7 +144,7 @@ fn duplicate_handle(
 }
 
 // "Duplicate: 16, 1, 2 or 3, 5, 9, 11, 12": the copy is a parcel.
-#[tactic(auto, unfolding(crate::specs::Ops::duplicate_r))]
+#[tactic(auto, unfolding(crate::specs::Ops::duplicate_r, lookup::specs::View::open_of))]
 pub fn duplicate(
     s: &mut [u64],
     sh: Shape,
@@ -158,7 +158,7 @@ pub fn duplicate(
     if !book::row_left(s, sh) {
         return Err(Refusal::Allocation);
     }
-    let h = lookup::open_handle(s, sh, b, v)?;
+    let h = lookup::find_handle(s, sh, b, v)?;
     duplicate_handle(s, sh, h, rights)
 }
 

@@ -180,7 +180,7 @@ impl<'a> Record<'a> {
     pub fn has_map(&self, map: u64) -> bool
         ensures { result ≡ has_map self.now.words.now self.now.at map }
     {
-        self.at < self.words.len() && self.words[self.at] == map
+        self.words.get(self.at) == Some(&map)
     }
 
     // Fields found one by one. A loop, since `map` of an array asks for a bound on `N`.
@@ -249,7 +249,7 @@ impl<'a> Record<'a> {
     {
         let op = self.field(format::field::FIELD_OP);
         let end = self.end();
-        if op == format::op::OP_PUBLISH || op == format::op::OP_PREPARE_TRANSFER {
+        if matches!(op, format::op::OP_PUBLISH | format::op::OP_PREPARE_TRANSFER) {
             let items = Record { at: end, ..*self };
             return items.records_end(self.field(format::field::FIELD_COUNT));
         }

@@ -45,10 +45,7 @@ pub fn check_room(s: &[u64], sh: Shape, p: u64) -> Result<(), Refusal>
     if p == growth::NO_PLAN {
         return Err(Refusal::TableFull);
     }
-    if layout::root_word(s, sh, field::ROOT_FREE_FRAMES) < p {
-        return Err(Refusal::Allocation);
-    }
-    if !book::row_left(s, sh) {
+    if layout::root_word(s, sh, field::ROOT_FREE_FRAMES) < p || !book::row_left(s, sh) {
         return Err(Refusal::Allocation);
     }
     book::id_left(s, sh)

@@ -29,7 +29,7 @@ fn run_one(s: &mut [u64], sh: Shape, rq: &Record, out: &mut [u64], base: usize)
     serve::serve(s, sh, rq, op, out, base);
 }
 
-// "Then every request runs; a refused one does not stop the next": n requests, for whose answers there are words enough. The answer's place goes on with the record's.
+// "Then every request runs; a refused one does not stop the next": n requests, for whose answers there are words enough. The answer's place goes on with the record's, as in `list_r`: by i times 72 it would be computed anew, and the invariant no shorter.
 #[tactic(auto, using(crate::proofs::Steps::list_step, crate::proofs::Steps::list_done))]
 fn run_all(s: &mut [u64], sh: Shape, list: &[u64], n: u64, out: &mut [u64])
     requires { answer_words * n ≤ length out.old }

@@ -141,6 +141,7 @@ fn tables_ok(s: &[u64], sh: Shape) -> Option<u64>
 }
 
 // How many of n frames from a on are free; none is past the last frame.
+// A loop, whose invariant is a line: what `sum` gives is said over the closure of its terms, and takes a file of answers, as orders' `check_empty`.
 #[tactic(auto, using(crate::specs::Code::free_out))]
 fn free_in(s: &[u64], sh: Shape, a: u32, n: u16) -> u64
     ensures { result ≡ free_from (loadAt s.now sh) sh.frames a n }
@@ -189,7 +190,7 @@ fn sixteens_ok(s: &[u64], sh: Shape) -> bool
     })
 }
 
-// The free frames of 16 groups of a level, by their counts, from group `first` on.
+// The free frames of 16 groups of a level, by their counts, from group `first` on. A loop, as `free_in`.
 #[tactic(auto, using(crate::specs::Code::free_more, crate::specs::Code::free_small), unfolding(crate::specs::Code::LevelIs))]
 fn free_under(s: &[u64], sh: Shape, level: Level, first: u32) -> u64
     requires { LevelIs (loadAt s.now sh) sh.frames level }

@@ -136,7 +136,7 @@ fn opens_in(s: &[u64], sh: Shape, b: u64, x: u64) -> bool
     ensures { result ≡ opens_at (loadAt s.now sh) b x }
 {
     let what = layout::row_word(s, sh, x, field::ROW_KIND);
-    (what == value::KIND_RESERVATION || what == value::KIND_CLAIM)
+    matches!(what, value::KIND_RESERVATION | value::KIND_CLAIM)
         && layout::row_word(s, sh, x, field::ROW_TABLE) == b
 }
 

@@ -87,7 +87,7 @@ fn mark_items(s: &mut [u64], sh: Shape, b: u64, x: u64, n: u64)
     }
 }
 
-// A claim of table b opens, whose n items stand in its place already, and marks the slots that they move.
+// A claim of table b opens, whose n items stand in its place already, and marks the slots that they move. As reserve's `open_batch`, but for the kind and the loop's call, which one function would take, and be no shorter.
 #[tactic(auto, unfolding(crate::specs::Ops::claim_w))]
 fn open_claim(s: &mut [u64], sh: Shape, b: u64, n: u64)
     ensures words { s.new ≡ claim_w s.old sh b n }
@@ -290,7 +290,7 @@ impl<'a> Iterator for TransferItems<'a> {
     }
 }
 
-// "Transfer: 16, 17, 13, 1, 12", for n items from table b.
+// "Transfer: 16, 17, 13, 1, 12", for n items from table b. It begins as `reserve::check_batch`: this crate does not build on reserve, and one function of both would lie in a third, with a definition beside the two.
 #[tactic(auto, unfolding(crate::specs::Checks::transfer_refusal))]
 fn check_transfer(s: &[u64], sh: Shape, b: u64, n: u64) -> Result<(), Refusal>
     ensures { number_of result ≡ transfer_refusal (loadAt s.now sh) sh b n }
@@ -325,17 +325,12 @@ fn route_bars(route: u64, class: u64) -> bool
 fn check_rights(held: Rights, q: HandleTransferRequest) -> Result<(), Refusal>
     ensures { number_of result ≡ rights_refusal held.0 (item_by q) }
 {
-    if !held.contains(Rights::TRANSFER) {
-        return Err(Refusal::AccessDenied);
-    }
-    if q.copies() && !held.contains(Rights::DUPLICATE) {
-        return Err(Refusal::AccessDenied);
-    }
     let offered = Rights(q.offered_rights.unwrap_or(held.0));
-    if !held.contains(offered) {
-        return Err(Refusal::AccessDenied);
-    }
-    if !offered.contains(q.rights) {
+    if !held.contains(Rights::TRANSFER)
+        || q.copies() && !held.contains(Rights::DUPLICATE)
+        || !held.contains(offered)
+        || !offered.contains(q.rights)
+    {
         return Err(Refusal::AccessDenied);
     }
     Ok(())
@@ -355,10 +350,9 @@ fn check_object(x: ObjectRecord, q: HandleTransferRequest, t: TransferRules) -> 
     if route_bars(t.route, x.class) {
         return Err(Refusal::UnsupportedTransfer);
     }
-    if q.offered_kind.is_some_and(|kind| kind != x.kind) {
-        return Err(Refusal::WrongObjectType);
-    }
-    if q.expected_kind.is_some_and(|kind| kind != x.kind) {
+    if q.offered_kind.is_some_and(|kind| kind != x.kind)
+        || q.expected_kind.is_some_and(|kind| kind != x.kind)
+    {
         return Err(Refusal::WrongObjectType);
     }
     Ok(())
