@@ -57,7 +57,7 @@ pub fn region_of(sh: Shape, k: u64) -> Extent
     let low2 = size::ROOT_SIZE + size::HEAD_SIZE * t;
     let low3 = low2 + size::ENTRY_SIZE * p;
     let low4 = low3 + f;
-    // Sums in place of `div_ceil`, which makes the requests 1.14 times as long (release parcel 102 ns for 73; docs/performance.md): every place of a slot, an object and a row is computed here.
+    // Sums in place of `div_ceil`, which makes the requests 1.13 times as long (release parcel 102 ns for 73; docs/performance.md): every place of a slot, an object and a row is computed here.
     let low5 = low4 + (f + 15) / 16;
     let low6 = low5 + (f + 255) / 256;
     let low7 = low6 + (f + 4095) / 4096;
