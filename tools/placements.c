@@ -1,5 +1,6 @@
 /* Times the state check of the port's compiled code at each of the places that tools/placements.py puts it in memory: one library file for each place. The state has one table of 64 pages, full but for
- * 16 slots, 4,000 objects and 16 rows, as that of the benchmark (docs/performance.md). Prints a line for each library: of its runs the hundredth and the middle one, in nanoseconds.
+ * 16 slots, 4,000 objects and 16 rows, as that of the benchmark (docs/performance.md). Prints a line for each library: the time below which a hundredth of its runs lie, and that below which half do, in
+ * nanoseconds.
  *
  *   placements (one | turn) ROUNDS LIBRARY..      the handles are all of object 0, or of all objects in turn */
 #define _POSIX_C_SOURCE 200809L

@@ -4,8 +4,8 @@ before it moves it: so one build of the code says little of how fast it is. Here
 
   tools/placements.py [--rounds N] [LIBRARY..]      target/staticlib/librunner.a, or archives like it of other sources
 
-For each library, with handles of one object and of all objects in turn: the least, the middle and the greatest of the 32 times, each the hundredth part of its runs from below (what else the machine does
-makes some runs longer, none shorter). It needs cc and the libraries of c/libraries.py; on an idle machine of 2026 60 rounds of two libraries take some 20 seconds.
+For each library, with handles of one object and of all objects in turn: the least, the middle and the greatest of the 32 times, each the time below which a
+hundredth of the runs at that place lie (what else the machine does makes some runs longer, none shorter). It needs cc and the libraries of c/libraries.py; 60 rounds of two libraries take some ten seconds.
 """
 import statistics
 import struct
