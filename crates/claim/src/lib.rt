@@ -93,6 +93,7 @@ fn moves(s: &[u64], sh: Shape, x: u64, j: u64) -> bool
 
 // Entry j of the claim in place x, of table b, is undone: a slot holds its handle again, which stands in the entry of its own; a copy is
 // released.
+// (x, j), a row's place and an item's number, stay two in these: each is called with the number of a loop's turn, and ledger's `Item` would be made for each call and taken apart in it.
 // The reads of a handle's object and flags stand in `fill_slots` too. By one function of both, without an inline hint, 8 moves
 // and their rollback took 8,091 instructions for 7,722, and a direct commit of 32 with its reservation and claim 49,368 for 48,134.
 #[tactic(auto, unfolding(crate::specs::Ops::undo_w))]

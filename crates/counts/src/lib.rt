@@ -129,6 +129,7 @@ fn raised(top: u64, n: u64, o: u64) -> u64
     if (top..n).contains(&o) { o + 1 } else { top }
 }
 
+// (x, top) stay two in these: `top` goes on from call to call, the row's place is each call's own.
 // Counts the handle of item j of the row in place x. The objects that may have a handle counted: so many as before, or up to that handle's.
 fn note_item(s: &mut [u64], sh: Shape, x: u64, j: u64, top: u64) -> u64
     ensures noted { s.new ≡ shifted s.old sh unit (loadAt s.old sh (item x j item_object) ∷ []) }

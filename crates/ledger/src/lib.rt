@@ -26,7 +26,7 @@ impl Item {
         layout::item_word(s, sh, self.row, self.number, f)
     }
 
-    // Whether slot k of table b has the tag t and names the item.
+    // Whether slot k of table b has the tag t and names the item. (k, t) stay two: the tag is a constant at each call.
     #[tactic(auto, unfolding(crate::specs::Items::names_b))]
     fn is_named(self, s: &[u64], sh: Shape, b: u64, k: u64, t: u64) -> bool
         ensures { result ≡ names_b (loadAt s.now sh) b k t self.row self.number }

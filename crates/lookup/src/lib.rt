@@ -127,7 +127,7 @@ fn open_slot(k: u64, g: u64, w: CellWords) -> Result<PreparedHandle, Refusal>
     }
 }
 
-// What a value names in table b, active or not: a handle, or why there is none.
+// What a value names in table b, active or not: a handle, or why there is none. (b, v) stay two here and below: a request has them as two fields, and a struct would be made for one call.
 #[tactic(auto, unfolding(crate::specs::View::view_of, crate::specs::View::slot_view))]
 pub fn find_handle(s: &[u64], sh: Shape, b: u64, v: HandleValue) -> Result<PreparedHandle, Refusal>
     ensures { result ≡ view_result (view_of (loadAt s.now sh) b v.0) }

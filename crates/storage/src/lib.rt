@@ -100,6 +100,7 @@ pub fn put_slot_link(s: &mut [u64], sh: Shape, fr: u64, l: u64, f: u64, v: u64)
     }
 }
 
+// (b, k), a table and a slot, stay two in these, and (fr, j), a frame's link and a place on it: of the first each makes the second at once, and callers have the parts from two places.
 // Word f of slot k of table b.
 pub fn slot_word(s: &[u64], sh: Shape, b: u64, k: u64, f: u64) -> u64
     ensures { result ≡ slot_word (loadAt s.now sh) b k f }

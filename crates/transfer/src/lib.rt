@@ -371,7 +371,7 @@ fn look_at(s: &[u64], sh: Shape, o: u64) -> ObjectRecord
     }
 }
 
-// The checks of an item that names the handle h, from its rights on.
+// The checks of an item that names the handle h, from its rights on. (b, q) and (q, t) stay apart: a table, an item and the rules come from three places, and few functions look at two of them.
 #[tactic(auto, unfolding(crate::specs::Checks::handle_refusal, crate::specs::Checks::object_refusal, crate::specs::Checks::looked_at, object::specs::Words::record_at))]
 fn check_handle(
     s: &[u64],
