@@ -1,4 +1,4 @@
--- Two decisions alike: the one in the state without the claim is the other one erased, and the claim stays as it is.
+-- Two decisions alike: the one in the state without the claim is the other one erased. That the claim stays as it is stands in Stays.antt.
 use Rattle.std.specs.Prelude.{◌≡◌, Bool, true, false, ◌&&◌, ◌||◌, List, [], ◌∷◌, ℕ, ◌≤◌, ◌<◌, length, eqb}
 use Rattle.std.proofs.Math.Path.{refl}
 use Rattle.std.proofs.Common.{sym, ap, ◌∙◌, arith}
@@ -17,7 +17,7 @@ use Rattle.noninterference.specs.Runs.{lowered, lower_answer, lower_slot}
 use Rattle.noninterference.specs.Erase.{erase_slot, erase_table, erase_rows, erase}
 use Rattle.model.proofs.Tests.{bool, clash}
 use Rattle.noninterference.proofs.Basics.{lowered_above, lowered_next}
-use Rattle.noninterference.proofs.Marks.{Stems, stems_same, marked}
+use Rattle.noninterference.proofs.Marks.{marked}
 use Rattle.noninterference.proofs.Rows.{find_erase, length_erase, rise_below, claim_open}
 
 -- the entries are moves of these values, whose slots are marked with t
@@ -137,11 +137,17 @@ module _ (x : Case) where
   pub is_active_law : is_active (s.tables b).life ≡ true
   is_active_law = bool (is_active (s.tables b).life) (λ e. e) (λ e. clash (claim_open t b es s.book.rows o.row) (o.wf.lifecycles.closing b e))
 
+  -- a slot with its mark is one of them
+  own_slot : (c k n : ℕ) → (s.tables c).slots k ≡ transfer_reserved n t → 1 ≤ occurs k (moved_of es)
+  own_slot c k n e = bool (eqb c b)
+      (λ q. let p : c ≡ b = eqb-true c b q in omega (arith, counted k ∙ ap bit (marked t n ((s.tables b).slots k) (rw p at e))))
+      (λ q. clash (marked t n ((s.tables c).slots k) e) (bare c k q))
+
   own : (v : ℕ) → decodes (s.tables b).mask v ≡ true
       → (s.tables b).slots (slot_in (s.tables b).mask v) ≡ transfer_reserved (generation_in (s.tables b).mask v) t
       → member v vs ≡ true
   own v d m = let k : ℕ = slot_in (s.tables b).mask v in let g : ℕ = generation_in (s.tables b).mask v in
-      named t (s.tables b) k v g d refl refl m es vs o.held (omega (arith, counted k ∙ ap bit (marked t g ((s.tables b).slots k) m)))
+      named t (s.tables b) k v g d refl refl m es vs o.held (own_slot b k g m)
 
   pub lookup_same : (c v : ℕ) → (eqb c b && member v vs) ≡ false → lookup (erase_table t es (s.tables c)) v ≡ lookup (s.tables c) v
   lookup_same c v n = let y : Table = s.tables c in let k : ℕ = slot_in y.mask v in let g : ℕ = generation_in y.mask v in
@@ -154,15 +160,6 @@ module _ (x : Case) where
   abbrev E : State → State
   E = erase t es
 
-  -- the claim stays as it is
-  abbrev pub Stays : State → Type 0
-  Stays u = ((c : ℕ) → Stems t (s.tables c) (u.tables c)) × (find t u.book.rows ≡ find t s.book.rows)
-
-  abbrev pub StaysBy : Decision → Type 0
-  StaysBy (refusal n) = Unit {0}
-  StaysBy (refusal_after_id n) = Unit {0}
-  StaysBy (accept u a) = Stays u
-
   -- a refusal for want of a row (with frames enough) or an id
   abbrev pub wants : Bool → Decision → Bool
   wants e (refusal n) = (eqb 1 n && e) || eqb 12 n
@@ -171,14 +168,13 @@ module _ (x : Case) where
 
   pub record Twin (d d₀ : Decision) : Type 0 where
     pub same : d₀ ≡ erase_decision t es d
-    pub stays : StaysBy d
 
   -- d is decided here, d₀ in the state without the claim
   pub record Alike (e : Bool) (d d₀ : Decision) : Type 0 where
     pub twin : wants e d ≡ false → Twin d d₀
 
   pub refuses : (e : Bool) (n : ℕ) → Alike e (refusal n) (refusal n)
-  refuses e n = record { twin = λ w. record { same = refl; stays = tt } }
+  refuses e n = record { twin = λ w. record { same = refl } }
 
   -- a check that comes out alike
   pub check : {e : Bool} (c : Bool) (n : ℕ) {d d₀ : Decision} → (c ≡ true → Alike e d d₀)
@@ -253,9 +249,6 @@ module _ (x : Case) where
       go (some (parcel hs)) = refuses e 18
       go (some (plan c n w fs)) = k c n w fs
 
-  pub all_stem : (c : ℕ) → Stems t (s.tables c) (s.tables c)
-  all_stem c = stems_same t (s.tables c)
-
   pub spend_erase : erase t es (spend_id s) ≡ spend_id (E s)
   spend_erase = rw (lowered_next t s.book.next below)
 
@@ -265,4 +258,4 @@ module _ (x : Case) where
     where
       go : (w : Option ℕ) → a ≡ w → Alike e (refuse_after_id w then d) (refuse_after_id w then d₀)
       go none q = k q
-      go (some n) q = record { twin = λ w. record { same = refl; stays = tt } }
+      go (some n) q = record { twin = λ w. record { same = refl } }

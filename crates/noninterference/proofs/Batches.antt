@@ -22,7 +22,6 @@ use Rattle.invariant.proofs.Snapshots.{snapshot_pages}
 use Rattle.noninterference.proofs.Basics.{map_same}
 use Rattle.noninterference.proofs.Tables.{gen_erase}
 use Rattle.noninterference.proofs.Snapshots.{snapshot_erase, stale_erase}
-use Rattle.noninterference.proofs.Marks.{stems_then}
 use Rattle.noninterference.proofs.Rows.{handles_erase, distinct_erase}
 use Rattle.noninterference.proofs.Alike.{Case, Alike, check, row_left_law, id_left_law, somes, reservations, plans}
 use Rattle.noninterference.proofs.Effects.{TableTwin, untouched, all_vacated, all_filled, grown, reserved_first, BookTwin, with_rows, with-rows₀, same_book, added, dropped, swapped, accepts, changes}
@@ -35,11 +34,11 @@ module _ (x : Case) where
   s₀ = erase x.t x.es x.s
 
   -- a table that has grown gives its first free slots, whatever frames are free and whichever row goes
-  reserves : {e : Bool} {rs rs₀ : List Row} (c n : ℕ) (fs : List ℕ) (u u₀ : Table) → TableTwin x (s.tables c) u u₀
+  reserves : {e : Bool} {rs rs₀ : List Row} (c n : ℕ) (fs : List ℕ) (u u₀ : Table) → TableTwin x u u₀
       → BookTwin x (with_rows x rs) (with-rows₀ x rs₀)
       → Alike x e (reserve_in x.z (with_frames (with_book s (with_rows x rs)) fs) c n u) (reserve_in x.z (with_frames (with_book s₀ (with-rows₀ x rs₀)) fs) c n u₀)
   reserves c n fs u u₀ p b = rw p.same (
-      changes x c (record { stems = stems_then x.t p.stems (reserved_first x n u).stems; same = (reserved_first x n u).same }) (added x _ b) refl
+      changes x c (reserved_first x n u) (added x _ b) refl
       (ap (batch s₀.book.next) (map_same _ _ (λ k. ap (encode u.mask k) (gen_erase x.t x.es k (u.slots k))) (take n u.free))))
 
   -- the pages that a request needs are those of its snapshot

@@ -105,12 +105,12 @@ module _ (x : Case) where
 
   -- one table changed, then one, the same or another
   module _ (i j : ℕ) (p : i ≡ x.t → ⊥) (q : j ≡ x.t → ⊥) where
-    two_tables : (c d : ℕ) {y y₀ : Table} (f : Table → Table) → TableTwin x (s.tables c) y y₀
-        → ((w : Table) → TableTwin x w (f w) (f (erase_table x.t x.es w)))
-        → (e : ℕ) → TableTwin x (s.tables e) (put (put s.tables c y) d (f (put s.tables c y d)) e)
+    two_tables : (c d : ℕ) {y y₀ : Table} (f : Table → Table) → TableTwin x y y₀
+        → ((w : Table) → TableTwin x (f w) (f (erase_table x.t x.es w)))
+        → (e : ℕ) → TableTwin x (put (put s.tables c y) d (f (put s.tables c y d)) e)
         (put (put s₀.tables c y₀) d (f (put s₀.tables c y₀ d)) e)
     two_tables c d {y} {y₀} f a g =
-        let w : (e : ℕ) → TableTwin x (s.tables e) (put s.tables c y e) (put s₀.tables c y₀ e) = put_twin x c
+        let w : (e : ℕ) → TableTwin x (put s.tables c y e) (put s₀.tables c y₀ e) = put_twin x c
         (λ e. untouched x (s.tables e)) a in
         put_twin x d w (and_then x f (w d) g)
 

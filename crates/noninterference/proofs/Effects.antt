@@ -1,23 +1,21 @@
 -- What a request does to a table, to the book and so to the state, with the claim and without it.
-use Rattle.std.specs.Prelude.{◌≡◌, refl, Bool, false, List, [], ◌∷◌, ◌++◌, ℕ, ◌+◌, eqb}
-use Rattle.std.proofs.Common.{sym, ap, ◌∙◌, arith, eqb-true, ne_eqb}
+use Rattle.std.specs.Prelude.{◌≡◌, refl, Bool, List, [], ◌∷◌, ◌++◌, ℕ, ◌+◌, eqb}
+use Rattle.std.proofs.Common.{ap, ◌∙◌, arith, ne_eqb}
 use Rattle.codec.specs.Codec.{next_generation}
 use Rattle.model.specs.Base.{put}
 use Rattle.model.specs.State.{Handle, Slot.reserved, Slot.transfer_reserved, Slot.occupied, Lifecycle, Table, Object, Entry, Body, Book, Row, State, generation}
 use Rattle.model.specs.Storage.{place, keep, keep_all, vacate, vacate_all, take_free, grow, detach}
 use Rattle.model.specs.Change.{with_life}
 use Rattle.model.specs.Request.{Answer}
-use Rattle.model.specs.Book.{find, drop_id, swap_id}
+use Rattle.model.specs.Book.{drop_id, swap_id}
 use Rattle.model.specs.Decision.{Decision.accept}
 use Rattle.model.specs.Step.{fill_all, restore_all}
-use Rattle.model.specs.WellFormed.{is_moving_by}
 use Rattle.noninterference.specs.Runs.{lowered, lower_answer}
 use Rattle.noninterference.specs.Erase.{erase_slot, erase_table, erase_book, erase}
 use Rattle.model.proofs.Tests.{bool}
 use Rattle.noninterference.proofs.Basics.{lowered_next}
 use Rattle.noninterference.proofs.Tables.{gen_erase, place_erase, keep_all_erase, vacate_erase, vacate_all_erase, take_free_erase, grow_erase, detach_erase, fill_all_erase, restore_all_erase}
-use Rattle.noninterference.proofs.Marks.{Stems, stems_same, stems_then, stems_place, stems_keep_all, stems_vacate, stems_vacate_all, stems_take_free, stems_grow, stems_detach, stems_fill_all, stems_restore_all, stems_life}
-use Rattle.noninterference.proofs.Rows.{drop_erase, swap_erase, append_erase, find_drop, find_swap, find_append}
+use Rattle.noninterference.proofs.Rows.{drop_erase, swap_erase, append_erase}
 use Rattle.noninterference.proofs.Alike.{Case, Alike, below}
 
 module _ (x : Case) where
@@ -30,80 +28,73 @@ module _ (x : Case) where
   abbrev T₀ : Table → Table
   T₀ = erase_table x.t x.es
 
-  -- the table w has become y here and y₀ there
-  pub record TableTwin (w y y₀ : Table) : Type 0 where
-    pub stems : Stems x.t w y
+  -- a table has become y here and y₀ there
+  pub record TableTwin (y y₀ : Table) : Type 0 where
     pub same : y₀ ≡ T₀ y
 
-  pub untouched : (w : Table) → TableTwin w w (T₀ w)
-  untouched w = record { stems = stems_same x.t w; same = refl }
+  pub untouched : (w : Table) → TableTwin w (T₀ w)
+  untouched w = record { same = refl }
 
-  pub and_then : {w y y₀ : Table} (f : Table → Table) → TableTwin w y y₀ → ((v : Table) → TableTwin v (f v) (f (T₀ v))) → TableTwin w (f y) (f y₀)
-  and_then {y = y} f p q = record { stems = stems_then x.t p.stems (q y).stems; same = ap f p.same ∙ (q y).same }
+  pub and_then : {y y₀ : Table} (f : Table → Table) → TableTwin y y₀ → ((v : Table) → TableTwin (f v) (f (T₀ v))) → TableTwin (f y) (f y₀)
+  and_then {y = y} f p q = record { same = ap f p.same ∙ (q y).same }
 
-  pub vacated : (k : ℕ) (w : Table) → TableTwin w (vacate x.z w k) (vacate x.z (T₀ w) k)
-  vacated k w = record { stems = stems_vacate x.t x.z w k; same = vacate_erase x.t x.es x.z w k }
+  pub vacated : (k : ℕ) (w : Table) → TableTwin (vacate x.z w k) (vacate x.z (T₀ w) k)
+  vacated k w = record { same = vacate_erase x.t x.es x.z w k }
 
-  pub all_vacated : (ks : List ℕ) (w : Table) → TableTwin w (vacate_all x.z ks w) (vacate_all x.z ks (T₀ w))
-  all_vacated ks w = record { stems = stems_vacate_all x.t x.z ks w; same = vacate_all_erase x.t x.es x.z ks w }
+  pub all_vacated : (ks : List ℕ) (w : Table) → TableTwin (vacate_all x.z ks w) (vacate_all x.z ks (T₀ w))
+  all_vacated ks w = record { same = vacate_all_erase x.t x.es x.z ks w }
 
-  pub all_filled : (ks : List ℕ) (hs : List Handle) (w : Table) → TableTwin w (fill_all x.z ks hs w) (fill_all x.z ks hs (T₀ w))
-  all_filled ks hs w = record { stems = stems_fill_all x.t x.z ks hs w; same = fill_all_erase x.t x.es x.z ks hs w }
+  pub all_filled : (ks : List ℕ) (hs : List Handle) (w : Table) → TableTwin (fill_all x.z ks hs w) (fill_all x.z ks hs (T₀ w))
+  all_filled ks hs w = record { same = fill_all_erase x.t x.es x.z ks hs w }
 
-  pub all_restored : (xs : List Entry) (w : Table) → TableTwin w (restore_all x.z xs w) (restore_all x.z xs (T₀ w))
-  all_restored xs w = record { stems = stems_restore_all x.t x.z xs w; same = restore_all_erase x.t x.es x.z xs w }
+  pub all_restored : (xs : List Entry) (w : Table) → TableTwin (restore_all x.z xs w) (restore_all x.z xs (T₀ w))
+  all_restored xs w = record { same = restore_all_erase x.t x.es x.z xs w }
 
-  pub grown : (ps fs : List ℕ) (w : Table) → TableTwin w (grow x.z ps fs w) (grow x.z ps fs (T₀ w))
-  grown ps fs w = record { stems = stems_grow x.t x.z ps fs w; same = grow_erase x.t x.es x.z ps fs w }
+  pub grown : (ps fs : List ℕ) (w : Table) → TableTwin (grow x.z ps fs w) (grow x.z ps fs (T₀ w))
+  grown ps fs w = record { same = grow_erase x.t x.es x.z ps fs w }
 
-  pub detached : (p : ℕ) (w : Table) → TableTwin w (detach x.z w p) (detach x.z (T₀ w) p)
-  detached p w = record { stems = stems_detach x.t x.z w p; same = detach_erase x.t x.es x.z w p }
+  pub detached : (p : ℕ) (w : Table) → TableTwin (detach x.z w p) (detach x.z (T₀ w) p)
+  detached p w = record { same = detach_erase x.t x.es x.z w p }
 
-  pub aged : {w y y₀ : Table} (l : Lifecycle) → TableTwin w y y₀ → TableTwin w (with_life y l) (with_life y₀ l)
-  aged {w} {y} l p = record { stems = stems_life x.t w y l p.stems; same = ap (λ (v : Table). with_life v l) p.same }
+  pub aged : {y y₀ : Table} (l : Lifecycle) → TableTwin y y₀ → TableTwin (with_life y l) (with_life y₀ l)
+  aged l p = record { same = ap (λ (v : Table). with_life v l) p.same }
 
   -- a handle renewed in its slot
-  pub renews : (k : ℕ) (h : Handle) (w : Table) → TableTwin w
+  pub renews : (k : ℕ) (h : Handle) (w : Table) → TableTwin
       (place x.z w k (occupied (next_generation (generation (w.slots k))) h))
       (place x.z (T₀ w) k (occupied (next_generation (generation ((T₀ w).slots k))) h))
   renews k h w = record {
-    stems = stems_place x.t x.z w k (occupied (next_generation (generation (w.slots k))) h) refl;
     same = ap (λ (g : ℕ). place x.z (T₀ w) k (occupied (next_generation g) h)) (gen_erase x.t x.es k (w.slots k))
         ∙ place_erase x.t x.es x.z w k (occupied (next_generation (generation (w.slots k))) h);
   }
 
   -- marks of the next id, which is not the claim's
-  fresh : s.book.next ≡ x.t → ⊥
+  pub fresh : s.book.next ≡ x.t → ⊥
   fresh e = omega (arith, below x)
 
   move_same : (k g : ℕ) → transfer_reserved g s₀.book.next ≡ erase_slot x.t x.es k (transfer_reserved g s.book.next)
   move_same k g = rw (ne_eqb s.book.next x.t fresh)
 
-  move_bare : (g : ℕ) → is_moving_by x.t (transfer_reserved g s.book.next) ≡ false
-  move_bare g = ne_eqb x.t s.book.next (λ e. fresh (sym e))
-
-  pub all_marked : (ks : List ℕ) (w : Table) → TableTwin w
+  pub all_marked : (ks : List ℕ) (w : Table) → TableTwin
       (keep_all x.z (λ g. transfer_reserved g s.book.next) ks w) (keep_all x.z (λ g. transfer_reserved g s₀.book.next) ks (T₀ w))
-  all_marked ks w = record { stems = stems_keep_all x.t x.z (λ g. transfer_reserved g s.book.next) move_bare ks w; same = keep_all_erase x.t x.es x.z (λ g. transfer_reserved g s.book.next) (λ g. transfer_reserved g s₀.book.next) move_same ks w }
+  all_marked ks w = record { same = keep_all_erase x.t x.es x.z (λ g. transfer_reserved g s.book.next) (λ g. transfer_reserved g s₀.book.next) move_same ks w }
 
-  pub marked : (k : ℕ) (w : Table) → TableTwin w
+  pub marked : (k : ℕ) (w : Table) → TableTwin
       (keep x.z (λ g. transfer_reserved g s.book.next) w k) (keep x.z (λ g. transfer_reserved g s₀.book.next) (T₀ w) k)
   marked k w = all_marked (k ∷ []) w
 
-  pub reserved_first : (n : ℕ) (w : Table) → TableTwin w
+  pub reserved_first : (n : ℕ) (w : Table) → TableTwin
       (take_free x.z n (λ g. reserved g s.book.next) w) (take_free x.z n (λ g. reserved g s₀.book.next) (T₀ w))
   reserved_first n w = record {
-    stems = stems_take_free x.t x.z n _ (λ g. refl) w;
     same = take_free_erase x.t x.es x.z n _ _ (λ k g. refl) w;
   }
 
   -- the book has become k here and k₀ there
   pub record BookTwin (k k₀ : Book) : Type 0 where
-    pub stays : find x.t k.rows ≡ find x.t s.book.rows
     pub same : k₀ ≡ erase_book x.t k
 
   pub same_book : BookTwin s.book s₀.book
-  same_book = record { stays = refl; same = refl }
+  same_book = record { same = refl }
 
   abbrev pub with_rows : List Row → Book
   with_rows rs = record { rows = rs; capacity = s.book.capacity; next = s.book.next }
@@ -115,7 +106,6 @@ module _ (x : Case) where
       (record { rows = rs ++ (record { id = s.book.next; body = a } ∷ []); capacity = s.book.capacity; next = s.book.next + 1 })
       (record { rows = rs₀ ++ (record { id = s₀.book.next; body = a } ∷ []); capacity = s₀.book.capacity; next = s₀.book.next + 1 })
   added {rs} a p = record {
-    stays = find_append x.t s.book.next fresh a rs ∙ p.stays;
     same = ap (λ (k : Book). record { rows = k.rows ++ (record { id = s₀.book.next; body = a } ∷ []); capacity = s.book.capacity; next = s₀.book.next + 1 }) p.same
         ∙ rw (append_erase x.t rs (record { id = s.book.next; body = a }) fresh, lowered_next x.t s.book.next (below x));
   }
@@ -123,14 +113,12 @@ module _ (x : Case) where
   pub dropped : {rs rs₀ : List Row} (i : ℕ) → (i ≡ x.t → ⊥) → BookTwin (with_rows rs) (with-rows₀ rs₀)
       → BookTwin (with_rows (drop_id i rs)) (with-rows₀ (drop_id (lowered x.t i) rs₀))
   dropped {rs} i n p = record {
-    stays = find_drop x.t i n rs ∙ p.stays;
     same = ap (λ (k : Book). with-rows₀ (drop_id (lowered x.t i) k.rows)) p.same ∙ ap with-rows₀ (drop_erase x.t i n rs);
   }
 
   pub swapped : (i : ℕ) (a : Body) → (i ≡ x.t → ⊥)
       → BookTwin (with_rows (swap_id i a s.book.rows)) (with-rows₀ (swap_id (lowered x.t i) a s₀.book.rows))
   swapped i a n = record {
-    stays = find_swap x.t i n a s.book.rows;
     same = ap with-rows₀ (swap_erase x.t i n a s.book.rows);
   }
 
@@ -147,11 +135,10 @@ module _ (x : Case) where
   }
 
   pub accepts : {e : Bool} {f f₀ : ℕ → Table} {o o₀ : ℕ → Object} {fs : List ℕ} {k k₀ : Book} {a a₀ : Answer}
-      → ((c : ℕ) → TableTwin (s.tables c) (f c) (f₀ c)) → BookTwin k k₀ → o₀ ≡ o → a₀ ≡ lower_answer x.t a
+      → ((c : ℕ) → TableTwin (f c) (f₀ c)) → BookTwin k k₀ → o₀ ≡ o → a₀ ≡ lower_answer x.t a
       → Alike x e (accept (Becomes f o fs k) a) (accept (Becomes f₀ o₀ fs k₀) a₀)
   accepts {fs = fs} p q r l = record {
     twin = λ w. record {
-      stays = (λ c. (p c).stems, q.stays);
       same = λ i. accept (Becomes (λ c. (p c).same i) (r i) fs (q.same i)) (l i);
     };
   }
@@ -161,11 +148,11 @@ module _ (x : Case) where
   reads l = accepts (λ c. untouched (s.tables c)) same_book refl l
 
   -- one table changes
-  pub put_twin : {f f₀ : ℕ → Table} (c : ℕ) {y y₀ : Table} → ((d : ℕ) → TableTwin (s.tables d) (f d) (f₀ d)) → TableTwin (s.tables c) y y₀
-      → (d : ℕ) → TableTwin (s.tables d) (put f c y d) (put f₀ c y₀ d)
-  put_twin c p q d = bool (eqb d c) (λ e. rw (e, eqb-true d c e) q) (λ e. rw e (p d))
+  pub put_twin : {f f₀ : ℕ → Table} (c : ℕ) {y y₀ : Table} → ((d : ℕ) → TableTwin (f d) (f₀ d)) → TableTwin y y₀
+      → (d : ℕ) → TableTwin (put f c y d) (put f₀ c y₀ d)
+  put_twin c p q d = bool (eqb d c) (λ e. rw e q) (λ e. rw e (p d))
 
   pub changes : {e : Bool} (c : ℕ) {y y₀ : Table} {o o₀ : ℕ → Object} {fs : List ℕ} {k k₀ : Book} {a a₀ : Answer}
-      → TableTwin (s.tables c) y y₀ → BookTwin k k₀ → o₀ ≡ o → a₀ ≡ lower_answer x.t a
+      → TableTwin y y₀ → BookTwin k k₀ → o₀ ≡ o → a₀ ≡ lower_answer x.t a
       → Alike x e (accept (Becomes (put s.tables c y) o fs k) a) (accept (Becomes (put s₀.tables c y₀) o₀ fs k₀) a₀)
   changes c p = accepts (put_twin c (λ d. untouched (s.tables d)) p)

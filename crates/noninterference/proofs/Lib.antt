@@ -3,6 +3,7 @@ pub mod Tables
 pub mod Snapshots
 pub mod Marks
 pub mod Rows
+pub mod Stays
 pub mod Alike
 pub mod Effects
 pub mod Values

@@ -4,7 +4,7 @@ use Rattle.std.proofs.Common.{sym, ap, ◌∙◌, arith, eqb-true, le-ltb, eq-eq
 use Rattle.std.proofs.Math.Bool.{not}
 use mathlib.Core.List.{List, [], ◌∷◌, map}
 use Rattle.std.proofs.Math.Option.{some}
-use Rattle.std.proofs.lemmas.Bool.{eqb-false, not-true}
+use Rattle.std.proofs.lemmas.Bool.{not-true}
 use Rattle.codec.specs.Codec.{generation_in}
 use Rattle.model.specs.Base.{bit, at_most, every, member, occurs}
 use Rattle.model.specs.State.{Sizes, Slot, Slot.absent, Slot.vacant, Slot.reserved, Slot.transfer_reserved, Slot.occupied, Table, Entry, Entry.moved, Entry.copied, Body.claim, State}
@@ -19,24 +19,18 @@ use Rattle.noninterference.specs.Runs.{names_id, names_value, walks, permitted, 
 use Rattle.noninterference.specs.Erase.{erase}
 use Rattle.model.proofs.Tests.{bool, clash, and_left, and_right, or_left, or_right}
 use Rattle.noninterference.proofs.Marks.{Stems}
-use Rattle.noninterference.proofs.Alike.{Held, Open, Case, Stays, wants, Twin, Alike, all_stem, spend_erase}
+use Rattle.noninterference.proofs.Stays.{other, head_apart, only, tail_apart, Stays, step_stays}
+use Rattle.noninterference.proofs.Alike.{Held, Open, Case, wants, Twin, Alike, spend_erase}
+use Rattle.noninterference.proofs.Effects.{fresh}
 use Rattle.noninterference.proofs.Values.{alike_new_object, alike_duplicate, alike_release_parcel, alike_retire_object, alike_get_info, alike_resolve, alike_replace, alike_close}
 use Rattle.noninterference.proofs.Batches.{alike_reserve, alike_make_plan, alike_use_plan, alike_drop_plan, alike_trim, alike_abort, alike_publish}
 use Rattle.noninterference.proofs.Walks.{alike_scan_handles, alike_remove_stopping_owner, alike_teardown_start, alike_teardown_step, alike_teardown_finish, alike_take_empty_page}
 use Rattle.noninterference.proofs.Claims.{Clear, alike_prepare_transfer, alike_prepare_consumption, alike_rollback, alike_commit, alike_direct_commit, alike_direct_rollback}
 
 -- what a permitted request does not name
-other : (t i : ℕ) → eqb t i ≡ false → i ≡ t → ⊥
-other t i e p = eqb-false t i e (sym p)
-
-head_apart : (t i : ℕ) (is : List ℕ) → member t (i ∷ is) ≡ false → eqb t i ≡ false
-head_apart t i is m = bool (eqb t i) (λ e. clash refl (rw e at m)) (λ e. e)
-
-only : (t i : ℕ) → member t (i ∷ []) ≡ false → i ≡ t → ⊥
-only t i m = other t i (head_apart t i [] m)
-
-tail_apart : (t i : ℕ) (is : List ℕ) → member t (i ∷ is) ≡ false → member t is ≡ false
-tail_apart t i is m = rw (head_apart t i is m) at m
+pub permits_id : (t b : ℕ) (vs : List ℕ) (r : Request) → permitted t b vs r ≡ true → names_id t r ≡ false
+unfolding permitted
+permits_id t b vs r p = not-true _ (and_left _ _ p)
 
 values_apart : (w : ℕ) (vs : List ℕ) → every (λ v. not (eqb v w)) vs ≡ true → member w vs ≡ false
 values_apart w [] e = refl
@@ -83,12 +77,12 @@ module _ (x : Case) where
   unfolding decide
   decided (new_object o r f) i v w = none_needed (alike_new_object x o r f)
   decided (duplicate c a r) i v w = none_needed (alike_duplicate x c a r (value_apart x.b c a x.vs v))
-  decided (release_parcel j) i v w = none_needed (alike_release_parcel x j (only x.t j i))
+  decided (release_parcel j) i v w = none_needed (alike_release_parcel x j (only x.t j [] i))
   decided (retire_object o) i v w = none_needed (alike_retire_object x o)
   decided (reserve c n) i v w = alike_reserve x c n
-  decided (trim j n) i v w = none_needed (alike_trim x j n (only x.t j i))
-  decided (abort j) i v w = none_needed (alike_abort x j (only x.t j i))
-  decided (publish j js) i v w = none_needed (alike_publish x j js (other x.t j (head_apart x.t j js i)) (tail_apart x.t j js i))
+  decided (trim j n) i v w = none_needed (alike_trim x j n (only x.t j [] i))
+  decided (abort j) i v w = none_needed (alike_abort x j (only x.t j [] i))
+  decided (publish j js) i v w = none_needed (alike_publish x j js (only x.t j js i) (tail_apart x.t j js i))
   decided (get_info c a) i v w = none_needed (alike_get_info x c a (value_apart x.b c a x.vs v))
   decided (resolve c a r k) i v w = none_needed (alike_resolve x c a r k (value_apart x.b c a x.vs v))
   decided (replace c a r) i v w = none_needed (alike_replace x c a r (value_apart x.b c a x.vs v))
@@ -96,31 +90,29 @@ module _ (x : Case) where
   decided (scan_handles c k) i v w = none_needed (alike_scan_handles x c w k)
   decided (prepare_transfer c route o k qs) i v w = none_needed (alike_prepare_transfer x c route o k qs (items_apart x.b c x.vs qs v))
   decided (prepare_consumption c a r k o) i v w = none_needed (alike_prepare_consumption x c a r k o (value_apart x.b c a x.vs v))
-  decided (rollback j) i v w = none_needed (alike_rollback x j (only x.t j i))
-  decided (commit j) i v w = none_needed (alike_commit x j (only x.t j i))
+  decided (rollback j) i v w = none_needed (alike_rollback x j (only x.t j [] i))
+  decided (commit j) i v w = none_needed (alike_commit x j (only x.t j [] i))
   decided (direct_commit j k) i v w =
-      none_needed (alike_direct_commit x j k (other x.t j (head_apart x.t j (k ∷ []) i))
-      (other x.t k (head_apart x.t k [] (tail_apart x.t j (k ∷ []) i))))
+      none_needed (alike_direct_commit x j k (only x.t j (k ∷ []) i) (only x.t k [] (tail_apart x.t j (k ∷ []) i)))
   decided (direct_rollback j k) i v w =
-      none_needed (alike_direct_rollback x j k (other x.t j (head_apart x.t j (k ∷ []) i))
-      (other x.t k (head_apart x.t k [] (tail_apart x.t j (k ∷ []) i))))
+      none_needed (alike_direct_rollback x j k (only x.t j (k ∷ []) i) (only x.t k [] (tail_apart x.t j (k ∷ []) i)))
   decided (remove_stopping_owner c k) i v w = none_needed (alike_remove_stopping_owner x c w k)
   decided (teardown_start c) i v w = none_needed (alike_teardown_start x c w)
   decided (teardown_step c) i v w = none_needed (alike_teardown_step x c)
   decided (teardown_finish c) i v w = none_needed (alike_teardown_finish x c)
   decided (take_empty_page c) i v w = none_needed (alike_take_empty_page x c)
   decided (make_plan c n) i v w = alike_make_plan x c n
-  decided (use_plan j) i v w = none_needed (alike_use_plan x j (only x.t j i))
-  decided (drop_plan j) i v w = none_needed (alike_drop_plan x j (only x.t j i))
+  decided (use_plan j) i v w = none_needed (alike_use_plan x j (only x.t j [] i))
+  decided (drop_plan j) i v w = none_needed (alike_drop_plan x j (only x.t j [] i))
 
   -- a decision carried out
   abbrev Same : State × Answer → State × Answer → Type 0
-  Same o o₀ = (o₀ ≡ (erase x.t x.es o.0, lower_answer x.t o.1)) × Stays x o.0
+  Same o o₀ = o₀ ≡ (erase x.t x.es o.0, lower_answer x.t o.1)
 
   carried : (d d₀ : Decision) → Twin x d d₀ → Same (carry x.z s d) (carry x.z s₀ d₀)
-  carried (refusal n) d₀ w = (rw w.same, (all_stem x, refl))
-  carried (refusal_after_id n) d₀ w = (rw w.same (ap (λ (u : State). (u, refused n)) (sym (spend_erase x))), (all_stem x, refl))
-  carried (accept u a) d₀ w = (rw w.same, w.stays)
+  carried (refusal n) d₀ w = rw w.same
+  carried (refusal_after_id n) d₀ w = rw w.same (ap (λ (u : State). (u, refused n)) (sym (spend_erase x)))
+  carried (accept u a) d₀ w = rw w.same
 
   no_want : (e : Bool) (d : Decision) → (gives 1 (carry x.z s d).1 && e) ≡ false → gives 12 (carry x.z s d).1 ≡ false → wants x e d ≡ false
   no_want e (refusal n) p q = rw (p, q)
@@ -158,12 +150,11 @@ held_stays t x y p (copied h' ∷ es) m vs h = absurd h
 module _ (z : Sizes) (kept : (s : State) → WellFormed z s → (r : Request) → WellFormed z (step z s r).0) (t b : ℕ) (es : List Entry) (vs : List ℕ)
   where
     -- the claim is still open in a well-formed state where it stayed
-    still : (s u : State) → Open z t b es vs s → WellFormed z u → ((c : ℕ) → Stems t (s.tables c) (u.tables c))
-        → find t u.book.rows ≡ find t s.book.rows → Open z t b es vs u
-    still s u o w p q = let r : find t u.book.rows ≡ some (claim b es) = q ∙ o.row in record {
+    still : (s u : State) → Open z t b es vs s → WellFormed z u → Stays t s u → Open z t b es vs u
+    still s u o w p = let r : find t u.book.rows ≡ some (claim b es) = p.row ∙ o.row in record {
       wf = w;
       row = r;
-      held = held_stays t (s.tables b) (u.tables b) (p b) es (λ k c.
+      held = held_stays t (s.tables b) (u.tables b) (p.tables b) es (λ k c.
           let m : occurs k (moved_of es) ≡ bit (is_moving_by t ((u.tables b).slots k)) = rw (r, eq-eqb b b refl) at (w.marks.transfer_reserved t b k) in
           bool (is_moving_by t ((u.tables b).slots k)) (λ e. e) (λ e. absurd (omega (arith, m ∙ ap bit e)))) vs o.held;
     }
@@ -179,9 +170,9 @@ module _ (z : Sizes) (kept : (s : State) → WellFormed z s → (r : Request) �
         let n : (wants_row z s r || wants_id z s r) ≡ false = or_left (wants_row z s r || wants_id z s r) (wanting z u rs) w in
         let y = step_alike x r (and_left (permitted t b vs r) (every (permitted t b vs) rs) p) (or_left (wants_row z s r) (wants_id z s r) n)
         (or_right (wants_row z s r) (wants_id z s r) n) in
-        let k = list_alike u (still s u o (kept s o.wf r) y.1.0 y.1.1) rs (and_right (permitted t b vs r) (every (permitted t b vs) rs) p)
+        let k = list_alike u (still s u o (kept s o.wf r) (step_stays t z s (fresh x) r (permits_id t b vs r (and_left (permitted t b vs r) (every (permitted t b vs) rs) p)))) rs (and_right (permitted t b vs r) (every (permitted t b vs) rs) p)
         (or_right (wants_row z s r || wants_id z s r) (wanting z u rs) w) in (
-          ap (λ (a : State × Answer). let q : State × List Answer = run z a.0 (map (lower_request t) rs) in (q.0, a.1 ∷ q.1)) y.0
+          ap (λ (a : State × Answer). let q : State × List Answer = run z a.0 (map (lower_request t) rs) in (q.0, a.1 ∷ q.1)) y
               ∙ ap (λ (q : State × List Answer). (q.0, lower_answer t (step z s r).1 ∷ q.1)) k.0,
           k.1,
         )

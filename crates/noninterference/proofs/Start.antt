@@ -1,5 +1,5 @@
 -- A transfer of moves only, accepted: its claim is open, and without it the state is the one before.
-use Rattle.std.specs.Prelude.{◌≡◌, Bool, true, false, ℕ, ◌+◌, ◌≤◌, length, ltb, eqb}
+use Rattle.std.specs.Prelude.{◌≡◌, true, false, ℕ, ◌+◌, ◌≤◌, ◌<◌, length, ltb, eqb}
 use Rattle.std.proofs.Math.Path.{refl}
 use Rattle.std.proofs.Common.{sym, ap, subst, ◌∙◌, arith}
 use mathlib.Core.List.{List, [], ◌∷◌, map}
@@ -14,7 +14,7 @@ use Rattle.model.specs.Change.{with_table, with_objects}
 use Rattle.model.specs.Objects.{raise, change_all}
 use Rattle.model.specs.Request.{Route, Operation, Operation.as_move, Operation.as_copy, Item, Request.prepare_transfer, Answer.opened}
 use Rattle.model.specs.Book.{find, add_row, free_row, id_left, moved_of, copies_of}
-use Rattle.model.specs.Decision.{Decision, unless◌refuse◌then◌, refuse_after_id◌then◌}
+use Rattle.model.specs.Decision.{Decision, Decision.refusal, Decision.refusal_after_id, Decision.accept}
 use Rattle.model.specs.Lookup.{handle_or}
 use Rattle.model.specs.Transfer.{is_copy, items_fault, copies_fault, entry_by, entry_for}
 use Rattle.model.specs.Step.{restore_all, prepare_transfer_of, decide, carry, step}
@@ -23,6 +23,7 @@ use Rattle.noninterference.specs.Names.{value_of}
 use Rattle.noninterference.specs.Runs.{is_move, lowered, with_slots}
 use Rattle.noninterference.specs.Erase.{erase_slot, erase_table, erase}
 use Rattle.model.proofs.Tests.{bool, clash, and_left, and_right}
+use Rattle.model.proofs.Decided.{Decided, Any, accepts, checked, after_id}
 use Rattle.invariant.proofs.BookLemmas.{ids_none}
 use Rattle.noninterference.proofs.Basics.{lowered_above, lowered_below}
 use Rattle.noninterference.proofs.Rows.{erase_new, find_new}
@@ -48,14 +49,23 @@ module _ (z : Sizes) where
   unfolding place
   place_mask x k y = refl
 
-  marks_gen : (t : ℕ) (ks : List ℕ) (x : Table) (j : ℕ) → generation ((keep_all z (λ g. transfer_reserved g t) ks x).slots j) ≡ generation (x.slots j)
+  pub marks_gen : (t : ℕ) (ks : List ℕ) (x : Table) (j : ℕ) → generation ((keep_all z (λ g. transfer_reserved g t) ks x).slots j) ≡ generation (x.slots j)
   marks_gen t [] x j = refl
   marks_gen t (k ∷ ks) x j = marks_gen t ks (keep z (λ g. transfer_reserved g t) x k) j
       ∙ place_gen x k (transfer_reserved (generation (x.slots k)) t) refl j
 
-  marks_mask : (t : ℕ) (ks : List ℕ) (x : Table) → (keep_all z (λ g. transfer_reserved g t) ks x).mask ≡ x.mask
+  pub marks_mask : (t : ℕ) (ks : List ℕ) (x : Table) → (keep_all z (λ g. transfer_reserved g t) ks x).mask ≡ x.mask
   marks_mask t [] x = refl
   marks_mask t (k ∷ ks) x = marks_mask t ks (keep z (λ g. transfer_reserved g t) x k) ∙ place_mask x k (transfer_reserved (generation (x.slots k)) t)
+
+-- what a decision leaves that opens t
+pub opened_leaves : (z : Sizes) (s : State) (t : ℕ) (P : State → Type 0) {d : Decision} → Decided Any Any (λ v a. a ≡ opened t → P v) d → (carry z s d).1 ≡ opened t → P (carry z s d).0
+opened_leaves z s t P {d} r = go d r
+  where
+    go : (d : Decision) → Decided Any Any (λ v a. a ≡ opened t → P v) d → (carry z s d).1 ≡ opened t → P (carry z s d).0
+    go (refusal m) r e = let f : ◌≡◌ {A = ℕ} 0 1 = cc in absurd (omega arith)
+    go (refusal_after_id m) r e = let f : ◌≡◌ {A = ℕ} 0 1 = cc in absurd (omega arith)
+    go (accept v a) r e = r.leaves e
 
 module _ (z : Sizes) (s : State) (w : WellFormed z s) where
   abbrev n : ℕ
@@ -79,6 +89,20 @@ module _ (z : Sizes) (s : State) (w : WellFormed z s) where
 
   low_table : (es : List Entry) (c : ℕ) → erase_table n es (s.tables c) ≡ s.tables c
   low_table es c = λ i. with_slots (s.tables c) (λ k. low_slot c k ((s.tables c).slots k) refl es i)
+
+  -- what a new claim of table b with these entries leaves
+  module _ (b : ℕ) (es : List Entry) where
+    abbrev pub marked : Table
+    marked = keep_all z (λ g. transfer_reserved g n) (moved_of es) (s.tables b)
+
+    abbrev pub claimed : State
+    claimed = add_row (claim b es) (with_objects (with_table s b marked) (change_all raise (copies_of es) s.objects))
+
+    pub row : find n claimed.book.rows ≡ some (claim b es)
+    row = find_new n (claim b es) s.book.rows (none_from n (omega arith))
+
+    pub marks : WellFormed z claimed → (k : ℕ) → occurs k (moved_of es) ≡ bit (is_moving_by n (marked.slots k))
+    marks f k = rw (row, eq-eqb b b refl) at (f.marks.transfer_reserved n b k)
 
   module _ (b : ℕ) (route : Route) (bo bk : Option ℕ) where
     abbrev y : Table
@@ -132,50 +156,38 @@ module _ (z : Sizes) (s : State) (w : WellFormed z s) where
         go as_move e o r = (rw p a.0.valid, rw p, there (o k (rw (eq-eqb k k refl) (omega arith))), r (λ j c. o j (omega arith)))
         go as_copy e o r = clash refl e
 
-    -- the accepted transfer
+    abbrev entries : List Item → List Entry
+    entries qs = map (entry_for y) qs
+
+    -- the accepted transfer, of moves only
     module _ (qs : List Item) (m : every is_move qs ≡ true) (a : AllName s y route bo bk qs) where
-      abbrev es : List Entry
-      es = map (entry_for y) qs
-
-      abbrev x : Table
-      x = keep_all z (λ g. transfer_reserved g n) (moved_of es) y
-
-      abbrev u : State
-      u = add_row (claim b es) (with_objects (with_table s b x) (change_all raise (copies_of es) s.objects))
-
-      row : find n u.book.rows ≡ some (claim b es)
-      row = find_new n (claim b es) s.book.rows (none_from n (omega arith))
-
-      marks : WellFormed z u → (k : ℕ) → occurs k (moved_of es) ≡ bit (is_moving_by n (x.slots k))
-      marks f k = rw (row, eq-eqb b b refl) at (f.marks.transfer_reserved n b k)
-
-      open_now : WellFormed z u → Open z n b es (map value_of qs) u
+      open_now : WellFormed z (claimed b (entries qs)) → Open z n b (entries qs) (map value_of qs) (claimed b (entries qs))
       open_now f = record {
         wf = f;
-        row = row;
-        held = rw (eq-eqb b b refl) (held x (marks_mask z n (moved_of es) y) (marks_gen z n (moved_of es) y) qs m a
-            (λ k c. bool (is_moving_by n (x.slots k)) (λ e. e) (λ e. absurd (omega (arith, marks f k ∙ ap bit e)))));
+        row = row b (entries qs);
+        held = rw (eq-eqb b b refl) (held (marked b (entries qs)) (marks_mask z n (moved_of (entries qs)) y) (marks_gen z n (moved_of (entries qs)) y) qs m a
+            (λ k c. bool (is_moving_by n ((marked b (entries qs)).slots k)) (λ e. e) (λ e. absurd (omega (arith, marks b (entries qs) f k ∙ ap bit e)))));
       }
 
-      erased : WellFormed z u → erase_table n es x ≡ y
+      erased : WellFormed z (claimed b (entries qs)) → erase_table n (entries qs) (marked b (entries qs)) ≡ y
       erased f =
-          mark_restored z n es es
-          (agrees_own es (λ k. bool (is_moving_by n (x.slots k)) (λ e. omega (arith, marks f k ∙ ap bit e)) (λ e. omega (arith, marks f k ∙ ap bit e)))) y
-          ∙ ap (restore_all z es) (low_table es b)
-          ∙ restore_idle z y es (stand qs a)
+          mark_restored z n (entries qs) (entries qs)
+          (agrees_own (entries qs) (λ k. bool (is_moving_by n ((marked b (entries qs)).slots k)) (λ e. omega (arith, marks b (entries qs) f k ∙ ap bit e)) (λ e. omega (arith, marks b (entries qs) f k ∙ ap bit e)))) y
+          ∙ ap (restore_all z (entries qs)) (low_table (entries qs) b)
+          ∙ restore_idle z y (entries qs) (stand qs a)
 
-      same_tables : WellFormed z u → (c : ℕ) → erase_table n es (put s.tables b x c) ≡ s.tables c
-      same_tables f c = bool (eqb c b) (λ e. rw (e, eqb-true c b e) (erased f)) (λ e. rw e (low_table es c))
+      same_tables : WellFormed z (claimed b (entries qs)) → (c : ℕ) → erase_table n (entries qs) (put s.tables b (marked b (entries qs)) c) ≡ s.tables c
+      same_tables f c = bool (eqb c b) (λ e. rw (e, eqb-true c b e) (erased f)) (λ e. rw e (low_table (entries qs) c))
 
       same_next : lowered n (n + 1) ≡ n
       same_next = rw (lowered_above n (n + 1) (omega arith)) (omega arith)
 
-      same_objects : change_all raise (copies_of es) s.objects ≡ s.objects
+      same_objects : change_all raise (copies_of (entries qs)) s.objects ≡ s.objects
       same_objects = rw (no_copies qs m)
 
-      begun : WellFormed z u → Begun z s n b (map value_of qs) u
+      begun : WellFormed z (claimed b (entries qs)) → Begun z s n b (map value_of qs) (claimed b (entries qs))
       begun f = record {
-        es = es;
+        es = entries qs;
         claimed = open_now f;
         same = λ i. record {
           table_count = s.table_count;
@@ -184,41 +196,29 @@ module _ (z : Sizes) (s : State) (w : WellFormed z s) where
           objects = same_objects i;
           frame_count = s.frame_count;
           frames = s.frames;
-          book = record { rows = erase_new 1 n (claim b es) s.book.rows w.ids.rise i; capacity = s.book.capacity; next = same_next i };
+          book = record { rows = erase_new 1 n (claim b (entries qs)) s.book.rows w.ids.rise i; capacity = s.book.capacity; next = same_next i };
         };
       }
 
-      begun_as : (t : ℕ) → opened n ≡ opened t → WellFormed z u → Begun z s t b (map value_of qs) u
-      begun_as t e f = let i : n ≡ t = cc in subst (λ (j : ℕ). Begun z s j b (map value_of qs) u) i (begun f)
+      begun_as : (t : ℕ) → n ≡ t → WellFormed z (claimed b (entries qs)) → Begun z s t b (map value_of qs) (claimed b (entries qs))
+      begun_as t i f = subst (λ (j : ℕ). Begun z s j b (map value_of qs) (claimed b (entries qs))) i (begun f)
 
-    -- a decision that opens t has passed its checks
-    module _ (t : ℕ) (vs : List ℕ) where
-      abbrev Begins : Decision → Type 0
-      Begins d = (carry z s d).1 ≡ opened t → WellFormed z (carry z s d).0 → Begun z s t b vs (carry z s d).0
-
-      passes : (c : Bool) (i : ℕ) (d : Decision) → (c ≡ true → Begins d) → Begins (unless c refuse i then d)
-      passes true i d k e = k refl e
-      passes false i d k e = let f : ◌≡◌ {A = ℕ} 0 1 = cc in absurd (omega arith)
-
-      passes_items : (f : Option ℕ) (d : Decision) → (f ≡ none → Begins d) → Begins (refuse_after_id f then d)
-      passes_items none d k e = k refl e
-      passes_items (some i) d k e = let f : ◌≡◌ {A = ℕ} 0 1 = cc in absurd (omega arith)
-
-    begins : (qs : List Item) → every is_move qs ≡ true → (t : ℕ) → Begins t (map value_of qs) (prepare_transfer_of z s b route bo bk qs)
-    unfolding prepare_transfer_of
-    begins qs m t =
-        passes t (map value_of qs) (ltb b s.table_count) 18 _ λ q.
-        passes t (map value_of qs) (is_active y.life) 16 _ λ q.
-        passes t (map value_of qs) (ltb 0 (length qs)) 17 _ λ q.
-        passes t (map value_of qs) (at_most (length qs) max_batch) 13 _ λ q.
-        passes t (map value_of qs) (free_row s) 1 _ λ q.
-        passes t (map value_of qs) (id_left s) 12 _ λ q.
-        passes_items t (map value_of qs) (items_fault s y route bo bk [] qs) _ λ q.
-        passes_items t (map value_of qs) (copies_fault s.objects (copies_of (map (entry_for y) qs))) _ λ r.
-        begun_as qs m (all_name s y route bo bk [] qs q) t
+    -- an accepted transfer has passed its checks: what holds of what it leaves, holds after the step
+    pub opens_to : (qs : List Item) (t : ℕ) (P : State → Type 0) → (b < s.table_count → is_active y.life ≡ true → AllName s y route bo bk qs → n ≡ t → P (claimed b (entries qs)))
+        → (step z s (prepare_transfer b route bo bk qs)).1 ≡ opened t → P (step z s (prepare_transfer b route bo bk qs)).0
+    unfolding step decide prepare_transfer_of
+    opens_to qs t P f = opened_leaves z s t P (
+        checked (ltb b s.table_count) 18 tt λ l.
+        checked (is_active y.life) 16 tt λ a.
+        checked (ltb 0 (length qs)) 17 tt λ q.
+        checked (at_most (length qs) max_batch) 13 tt λ q.
+        checked (free_row s) 1 tt λ q.
+        checked (id_left s) 12 tt λ q.
+        after_id (items_fault s y route bo bk [] qs) (λ m e. tt) λ q.
+        after_id (copies_fault s.objects (copies_of (entries qs))) (λ m e. tt) λ r.
+        accepts λ e. f (ltb-true b s.table_count l) a (all_name s y route bo bk [] qs q) (let i : n ≡ t = cc in i))
 
     pub opens : (qs : List Item) → every is_move qs ≡ true → (t : ℕ) → (step z s (prepare_transfer b route bo bk qs)).1 ≡ opened t
         → WellFormed z (step z s (prepare_transfer b route bo bk qs)).0
         → Begun z s t b (map value_of qs) (step z s (prepare_transfer b route bo bk qs)).0
-    unfolding step decide
-    opens qs m t = begins qs m t
+    opens qs m t = opens_to qs t (λ v. WellFormed z v → Begun z s t b (map value_of qs) v) (λ l v a i. begun_as qs m a t i)
