@@ -16,7 +16,7 @@ use Rattle.model.specs.Lookup.{lookup, snapshot_at, value_at}
 use Rattle.model.specs.Request.{Request, Answer.batch, Answer.scanned, Request.new_object, Request.duplicate, Request.release_parcel, Request.retire_object, Request.reserve, Request.trim, Request.abort, Request.publish, Request.get_info, Request.resolve, Request.replace, Request.close, Request.scan_handles, Request.prepare_transfer, Request.prepare_consumption, Request.rollback, Request.commit, Request.direct_commit, Request.direct_rollback, Request.remove_stopping_owner, Request.teardown_start, Request.teardown_step, Request.teardown_finish, Request.take_empty_page, Request.make_plan, Request.use_plan, Request.drop_plan}
 use Rattle.model.specs.Words.{used_words}
 use Rattle.model.specs.Step.{decide, step, carry, new_object_of, duplicate_of, release_parcel_of, retire_object_of, reserve_of, trim_of, abort_of, publish_of, get_info_of, resolve_of, replace_of, close_of, scan_handles_of, prepare_transfer_of, prepare_consumption_of, rollback_of, commit_of, direct_commit_of, direct_rollback_of, remove_stopping_owner_of, remove_at, next_occupied, teardown_start_of, teardown_step_of, tear_at, teardown_finish_of, take_empty_page_of, take_at, make_plan_of, use_plan_of, drop_plan_of, snapshot_page}
-use Rattle.model.proofs.Decided.{Decided, Any, accepts, checked, with_some, with_view, with_handle, with_reservation, with_claim, with_plan, with_room_law, while_tearing, after_id, found_or, either_way, first_or}
+use Rattle.model.proofs.Decided.{Decided, Any, accepts, checked, with_some, with_view, with_handle, with_look, with_reservation, with_claim, with_plan, with_room_law, while_tearing, after_id, found_or, either_way, first_or}
 use Rattle.model.proofs.Lists.{entry_words_law}
 use Rattle.model.specs.WellFormed.{WellFormed}
 use Rattle.model.proofs.Tests.{at_most_law}
@@ -102,7 +102,7 @@ module _ (z : Sizes) (fits : z.scan_entries ≤ till.scan_entries) (s : State) (
       checked (eqb (length hs) (length ks)) 18 tt λ e.
       accepts (omega arith)
   decide_short (get_info b v) =
-      with_handle s b v tt tt tt tt λ l a k h e.
+      with_look s b v tt tt tt λ l a h e.
       accepts (omega arith)
   decide_short (resolve b v r kind) =
       with_handle s b v tt tt tt tt λ l a k h e.

@@ -21,7 +21,7 @@ use Rattle.model.specs.Step.{next_occupied, remove_at, remove_stopping_owner_of,
 use Rattle.model.specs.Step.{take_empty_page_of}
 use Rattle.model.specs.WellFormed.{HandleRange, StageCount, WellFormed}
 use Rattle.model.proofs.Tests.{clash, same}
-use Rattle.model.proofs.Decided.{Decided, accepts, checked, with_some, with_view, either_way, while_tearing, Any, found_or, first_or}
+use Rattle.model.proofs.Decided.{Decided, accepts, checked, with_some, with_view, with_look, either_way, while_tearing, Any, found_or, first_or}
 use Rattle.invariant.proofs.Pointwise.{place_slots, vacate_slots, place_alike, vacate_alike, detach_grown}
 use Rattle.invariant.proofs.CountLemmas.{Fit, activated_fit, raise_fit, of_same}
 use Rattle.invariant.proofs.Items.{contains_le, with_slot, stands_at}
@@ -104,7 +104,7 @@ module _ (z : Sizes) (sane : Sane z) (s : State) (w : WellFormed z s) where
 
   pub info_kept : (b v : ℕ) → Keeps s (get_info_of z s b v)
   unfolding get_info_of
-  info_kept b v = with_slot s b v λ l a k g h e. accepts its
+  info_kept b v = with_look s b v tt tt tt λ l a h e. accepts its
 
   pub resolve_kept : (b v r kind : ℕ) → Keeps s (resolve_of z s b v r kind)
   unfolding resolve_of

@@ -23,7 +23,7 @@ use Rattle.model.specs.Step.{take_at, take_empty_page_of}
 use Rattle.model.specs.WellFormed.{LifeRange, BodyRange, is_frame, is_attached, WellFormed}
 use Rattle.model.proofs.Tests.{and_left, bit_true, bit_small, same}
 use Rattle.model.proofs.Sums.{sum_part}
-use Rattle.model.proofs.Decided.{accepts, checked, with_some, with_view, while_tearing, either_way, found_or, first_or}
+use Rattle.model.proofs.Decided.{accepts, checked, with_some, with_view, with_look, while_tearing, either_way, found_or, first_or}
 use Rattle.invariant.proofs.Pointwise.{alike_self, detach_free, place_alike, vacate_alike, place_free, detach_grown}
 use Rattle.invariant.proofs.BookLemmas.{all_map, found_range}
 use Rattle.invariant.proofs.Items.{with_slot, stands_at}
@@ -82,7 +82,7 @@ module _ (z : Sizes) (sane : Sane z) (s : State) (w : WellFormed z s) where
 
   pub read_kept : (b v : ℕ) → KeptD z s (get_info_of z s b v)
   unfolding get_info_of
-  read_kept b v = with_slot s b v λ l a k n h e. accepts (still z s w)
+  read_kept b v = with_look s b v tt tt tt λ l a h e. accepts (still z s w)
 
   pub resolve_kept : (b v r kind : ℕ) → KeptD z s (resolve_of z s b v r kind)
   unfolding resolve_of

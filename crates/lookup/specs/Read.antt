@@ -1,4 +1,4 @@
--- The requests that look at one handle: what their functions do to the words, and that it is the model's step. Assumes nothing.
+-- What is told of a handle; `resolve`: what its function does to the words, and that it is the model's step. Assumes nothing.
 use Rattle.std.specs.Prelude.{◌≡◌, List, [], ◌∷◌}
 use Rattle.std.proofs.Math.Path.{refl}
 use Rattle.std.proofs.Common.{◌∙◌}
@@ -8,9 +8,9 @@ use Rattle.words.specs.Pick.{pick, bool}
 use Rattle.authority.specs.Rights.{contains}
 use Rattle.model.specs.State.{Sizes, Handle, Slot.occupied, Table, State}
 use Rattle.model.specs.Objects.{info_for}
-use Rattle.model.specs.Request.{Request.get_info, Request.resolve, Answer.info_of, Answer.resolved}
+use Rattle.model.specs.Request.{Request.resolve, Answer.resolved}
 use Rattle.model.specs.Decision.{Decision, Decision.accept, unless◌refuse◌then◌}
-use Rattle.model.specs.Step.{get_info_of, resolve_of, decide}
+use Rattle.model.specs.Step.{resolve_of, decide}
 use Rattle.model.specs.Words.{info_words, used_words}
 use Rattle.model.specs.WellFormed.{SlotRange, WellFormed}
 use Rattle.layout.specs.declared.Shape.{Shape}
@@ -42,12 +42,6 @@ info_list i = i.koid.0 ∷ i.kind ∷ i.rights ∷ i.flags ∷ []
 abbrev pub resolved_list : Resolved → List ℕ
 resolved_list r = r.object ∷ r.koid.0 ∷ r.rights ∷ []
 
-unfoldable pub get_info_r : List ℕ → List ℕ → Shape → ℕ → ℕ → ℕ → Both
-get_info_r ws os sh base b v =
-    on_opened (open_of (load ws sh) sh b v)
-    (λ n. refuse_r ws os base n)
-    (λ h. both ws (answered os base (0 ∷ info_list (info_at (load ws sh) h))))
-
 -- "Resolve: 16, 2 or 3, 5, 4"; "1 the object's number, 2 koid, 3 rights"
 unfoldable pub resolved_r : List ℕ → List ℕ → Shape → ℕ → ℕ → ℕ → PreparedHandle → Both
 resolved_r ws os sh base r kind h =
@@ -78,19 +72,6 @@ module _ (ws : List ℕ) (sh : Shape) (s : State) (i : Rep ws sh s) (b v : ℕ) 
   opened_known h o = object_known s i.well_formed b o.table.known h.slot h.generation (handle_of h) o.slot
 
   module _ (os : List ℕ) (base : ℕ) where
-    -- GET_INFO is the model's step
-    pub get_info_does : Does ws os sh base s (get_info b v) (get_info_r ws os sh base b v)
-    unfolding get_info_r decide get_info_of used_words
-    get_info_does = go (open_of (load ws sh) sh b v) refl
-      where
-        go : (x : Opened) → open_of (load ws sh) sh b v ≡ x
-            → Does ws os sh base s (get_info b v) (on_opened x (λ n. refuse_r ws os base n) (λ h. both ws (answered os base (0 ∷ info_list (info_at (load ws sh) h)))))
-        go (Refused n) e = does_refused os sh base s (get_info b v) ws n i.reps
-            (open_refused_is sh (load ws sh) s i.reps.memory b v n e (λ t k h. accept s (info_of (info_for s h))))
-        go (Found h) e = let o = open_found_is sh (load ws sh) s i.reps.memory b v h e in
-            rw (info_is sh (load ws sh) s i.reps.memory h (opened_known h o))
-            (does_accepted os sh base s (get_info b v) ws s (info_of (info_for s (handle_of h))) i.reps (o.handle (λ t k h. accept s (info_of (info_for s h)))))
-
     -- RESOLVE is the model's step
     pub resolve_does : (r kind : ℕ) → Does ws os sh base s (resolve b v r kind) (resolve_r ws os sh base b v r kind)
     unfolding resolve_r resolved_r decide resolve_of used_words

@@ -2,7 +2,7 @@
 // SPDX-License-Identifier: Apache-2.0
 // Ported from src/capability/handle/mod.rs of HypeR-Proj/kernel, with changes.
 
-// Looking up a handle value, and the requests that only read.
+// Looking up a handle value, what is told of a handle, and two requests that only read: `resolve` and `scan_handles`.
 #![tactic(auto)]
 
 ghost use Rattle.std.specs.Prelude.{◌≡◌, ◌∷◌, ◌≤◌, ◌<◌, take};
@@ -14,7 +14,7 @@ ghost use Rattle.request.specs.Answers.{puts};
 ghost use Rattle.format.specs.Refusals.{number_of};
 ghost use Rattle.answer.specs.Does.{both, answered, reply, Gives};
 ghost use Rattle.lookup.specs.View.{handle_by, handle_at, shown, view_of, view_result, table_refusal, opened, open_of};
-ghost use Rattle.lookup.specs.Read.{info_at, info_list, get_info_r, resolved_list, resolved_r, resolve_r};
+ghost use Rattle.lookup.specs.Read.{info_at, info_list, resolved_list, resolved_r, resolve_r};
 ghost use Rattle.lookup.specs.Scan.{length_at, entry_by, entry_of, no_entry, FrameFor, ended_of, scan_of, entry_words, entry_list, page_list, scan_r};
 ghost use Rattle.format.specs.Fields.{table_field, value_field, rights_field, kind_field, cursor_field};
 ghost use Rattle.request.specs.Place.{word_of};
@@ -158,15 +158,6 @@ pub fn info_of(s: &[u64], sh: Shape, h: PreparedHandle) -> HandleInfo
         rights: h.rights,
         flags: h.flags,
     }
-}
-
-// "`get_info`: 16, 2 or 3".
-#[tactic(auto, unfolding(crate::specs::Read::get_info_r))]
-pub fn get_info(s: &[u64], sh: Shape, b: u64, v: HandleValue) -> Result<HandleInfo, Refusal>
-    ensures { Gives s.now (reply info_list result) (λ os base. get_info_r s.now os sh base b v.0) }
-{
-    let h = open_handle(s, sh, b, v)?;
-    Ok(info_of(s, sh, h))
 }
 
 // "Resolve: 16, 2 or 3, 5, 4".
@@ -337,16 +328,6 @@ pub fn scan_handles(s: &[u64], sh: Shape, b: u64, cursor: u64) -> Result<Snapsho
 }
 
 // The request of a list at a place: its fields are read.
-pub fn serve_get_info(s: &mut [u64], sh: Shape, rq: &Record, out: &mut [u64], base: usize)
-    ensures { both s.new out.new ≡ get_info_r s.old out.old sh base (word_of rq.now table_field) (word_of rq.now value_field) }
-{
-    let [table, value] = rq.fields(op::OP_GET_INFO, [FIELD_TABLE, FIELD_VALUE]);
-    match get_info(s, sh, table, HandleValue(value)) {
-        Ok(info) => answer::say(out, base, &info.words()),
-        Err(refusal) => answer::refuse(out, base, refusal),
-    }
-}
-
 pub fn serve_resolve(s: &mut [u64], sh: Shape, rq: &Record, out: &mut [u64], base: usize)
     ensures { both s.new out.new ≡ resolve_r s.old out.old sh base (word_of rq.now table_field) (word_of rq.now value_field) (word_of rq.now rights_field) (word_of rq.now kind_field) }
 {

@@ -234,9 +234,10 @@ unfolding fresh encode payload decodes payload_in number_in slot_in generation_i
     prepare_transfer_of prepare_consumption_of rollback_of commit_of direct_commit_of direct_rollback_of remove_stopping_owner_of teardown_start_of teardown_step_of
     teardown_finish_of take_empty_page_of
 corners =
-    -- "A value naming a TransferReserved slot of equal generation gives Busy. One naming a Reserved slot gives InvalidHandle"
-    numbers (end fresh first) (transfer (item as_move v63 3 ∷ []) ∷ get_info 0 v63 ∷ close 0 v63 ∷ transfer (item as_copy v63 3 ∷ []) ∷ get_info 0 (at0 63 2) ∷ []) is (0 ∷ 3 ∷ 3 ∷ 3 ∷ 2 ∷ [])
-    ∷ numbers fresh (reserve 0 1 ∷ get_info 0 v63 ∷ []) is (0 ∷ 2 ∷ [])
+    -- "A value naming a TransferReserved slot of equal generation gives Busy. One naming a Reserved slot gives InvalidHandle"; `get_info` is the one exception (document 02, 2:
+    -- LookCases.antt)
+    numbers (end fresh first) (transfer (item as_move v63 3 ∷ []) ∷ resolve 0 v63 0 3 ∷ close 0 v63 ∷ transfer (item as_copy v63 3 ∷ []) ∷ resolve 0 (at0 63 2) 0 3 ∷ []) is (0 ∷ 3 ∷ 3 ∷ 3 ∷ 2 ∷ [])
+    ∷ numbers fresh (reserve 0 1 ∷ resolve 0 v63 0 3 ∷ []) is (0 ∷ 2 ∷ [])
     -- "`next_generation` of 4,294,967,295 is 1"
     ∷ (next_generation 4294967295 ∷ next_generation 4294967294 ∷ []) is (1 ∷ 4294967295 ∷ [])
     -- "`prepare_transfer_with_storage` spends its id before it looks at any value; `prepare_consumption_with_storage` spends it after all checks"

@@ -11,7 +11,7 @@ use Rattle.model.specs.Storage.{snapshot_for}
 use Rattle.model.specs.Book.{free_row, id_left, spend_id}
 use Rattle.model.specs.Decision.{Decision, Decision.refusal, Decision.refusal_after_id, Decision.accept, unless◌refuse◌then◌, given◌refuse◌then◌}
 use Rattle.model.specs.Decision.{table◌of◌refuse◌then◌, as_reservation, as_claim, as_plan, refuse_after_id◌then◌, teardown_cursor◌refuse◌then◌}
-use Rattle.model.specs.Lookup.{View, View.invalid, View.busy, View.holds, lookup, on_view, handle◌of◌refuse◌or_busy◌then◌}
+use Rattle.model.specs.Lookup.{View, View.invalid, View.busy, View.holds, lookup, on_view, handle◌of◌refuse◌or_busy◌then◌, look_at}
 use Rattle.model.specs.Step.{with_room, carry}
 
 abbrev pub Leaves : (ℕ → Type 0) → (ℕ → Type 0) → (State → Answer → Type 0) → Decision → Type 0
@@ -25,6 +25,10 @@ on_active s b f = table b of s refuse 18 then λ t. unless is_active t.life refu
 
 abbrev pub on_handle : State → ℕ → ℕ → (Table → ℕ → Handle → Decision) → Decision
 on_handle s b v f = on_active s b λ t. handle v of t refuse 2 or_busy 3 then f t
+
+-- what `get_info` shows of it
+abbrev pub on_looked : State → ℕ → ℕ → (Handle → Decision) → Decision
+on_looked s b v f = on_active s b λ t. given look_at s t v refuse 2 then f
 
 -- what the checks of a reservation, or of a plan, have found
 pub record Room (z : Sizes) (s : State) (b n : ℕ) (w : StorageSnapshot) : Type 0 where
@@ -73,6 +77,14 @@ module _ {N R : ℕ → Type 0} {A : State → Answer → Type 0} where
   with_handle s b v o p q r c = let t : Table = s.tables b in
       checked (ltb b s.table_count) 18 o λ l. checked (is_active t.life) 16 p λ a. with_view (lookup t v) q r λ k h e.
       c (ltb-true b s.table_count l) a k h e
+
+  -- the handle that `get_info` shows
+  pub with_look : (s : State) (b v : ℕ) {f : Handle → Decision} → N 18 → N 16 → N 2
+      → (b < s.table_count → is_active (s.tables b).life ≡ true → (h : Handle) → look_at s (s.tables b) v ≡ some h → Decided N R A (f h))
+      → Decided N R A (on_looked s b v f)
+  with_look s b v o p q c = let t : Table = s.tables b in
+      checked (ltb b s.table_count) 18 o λ l. checked (is_active t.life) 16 p λ a. with_some (look_at s t v) 2 q λ h e.
+      c (ltb-true b s.table_count l) a h e
 
   pub with_reservation : (x : Option Body) {f : ℕ → List ℕ → Decision} → N 18
       → ((b : ℕ) (ks : List ℕ) → x ≡ some (reservation b ks) → Decided N R A (f b ks)) → Decided N R A (as_reservation x 18 f)

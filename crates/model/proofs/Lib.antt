@@ -4,6 +4,7 @@ pub mod Counting
 pub mod Bounds
 pub mod Cases
 pub mod PlanCases
+pub mod LookCases
 pub mod Effects
 pub mod WordCases
 pub mod Decided

@@ -28,7 +28,7 @@ use Rattle.model.specs.Step.{publish_of, get_info_of, resolve_of, replace_of, cl
 use Rattle.model.specs.Step.{rollback_of, commit_of, direct_commit_of, direct_rollback_of, remove_stopping_owner_of, remove_at, next_occupied}
 use Rattle.model.specs.Step.{teardown_start_of, tear_at, teardown_step_of, teardown_finish_of, take_at, take_empty_page_of, make_plan_of, use_plan_of, drop_plan_of}
 use Rattle.model.proofs.Tests.{clash, and_left, and_right}
-use Rattle.model.proofs.Decided.{Decided, accepts, checked, with_some, with_view, with_handle, with_reservation, with_claim, with_plan, with_room_law, while_tearing}
+use Rattle.model.proofs.Decided.{Decided, accepts, checked, with_some, with_view, with_handle, with_look, with_reservation, with_claim, with_plan, with_room_law, while_tearing}
 use Rattle.model.proofs.Decided.{after_id, either_way, found_or, first_or}
 
 abbrev pub is_refused : Answer → Bool
@@ -177,7 +177,7 @@ module _ (z : Sizes) (s : State) where
       checked (eqb (length hs) (length ks)) 18 refl λ e.
       accepts refl
   decide_fits (get_info b v) =
-      with_handle s b v refl refl refl refl λ l a k h e.
+      with_look s b v refl refl refl λ l a h e.
       accepts refl
   decide_fits (resolve b v r kind) =
       with_handle s b v refl refl refl refl λ l a k h e.

@@ -21,7 +21,7 @@ use Rattle.model.specs.Book.{spend_id, free_row, id_left, any_open, moved_of, co
 use Rattle.model.specs.Effect.{◌setting_table◌to◌, ◌setting_frames◌, ◌changing◌by◌, ◌raising◌, ◌releasing◌, ◌opening◌, ◌ending◌, ◌ending_all◌, ◌turning◌into◌}
 use Rattle.model.specs.Decision.{Decision, Decision.refusal, Decision.refusal_after_id, Decision.accept, leave◌answer◌, unless◌leaving◌answering◌then◌, unless◌refuse◌then◌, when◌refuse◌then◌, given◌refuse◌then◌, table◌of◌refuse◌then◌, object◌of◌refuse◌then◌}
 use Rattle.model.specs.Decision.{reservation_row◌of◌refuse◌then◌, claim_row◌of◌refuse◌then◌, parcel_row◌of◌refuse◌then◌, plan_row◌of◌refuse◌then◌, refuse_after_id◌then◌, teardown_cursor◌refuse◌then◌, handles_of, distinct}
-use Rattle.model.specs.Lookup.{handle◌of◌refuse◌or_busy◌then◌, value_at, handle_or, snapshot_at}
+use Rattle.model.specs.Lookup.{handle◌of◌refuse◌or_busy◌then◌, look_at, value_at, handle_or, snapshot_at}
 use Rattle.model.specs.Transfer.{items_fault, copies_fault, entry_for}
 
 module _ (z : Sizes) where
@@ -175,12 +175,12 @@ module _ (z : Sizes) where
       ending_all (i ∷ is)
       answer done
 
-  -- "`get_info`, close, `replace`: 16, 2 or 3, then 5 (`replace`)"
+  -- "`get_info`, close, `replace`: 16, 2 or 3, then 5 (`replace`)". Document 02, 2: "Let `get_info` answer for the handle of a TransferReserved slot": so never 3
   unfoldable pub get_info_of : State → (table_number value : ℕ) → Decision
   get_info_of s b v =
       table b of s refuse 18 then λ t.
       unless is_active t.life refuse 16 then
-      handle v of t refuse 2 or_busy 3 then λ k h.
+      given look_at s t v refuse 2 then λ h.
       leave s answer info_of (info_for s h)
 
   -- "`get_info`, close, `replace`: 16, 2 or 3, then 5 (`replace`)". "Closing answers the handle's info and releases its count"

@@ -11,10 +11,10 @@ use Rattle.model.specs.State.{Sizes, Handle, Slot, Slot.absent, Slot.vacant, Slo
 use Rattle.model.specs.State.{is_active, is_occupied}
 use Rattle.model.specs.Book.{find, free_row, id_left, moved_of, spend_id}
 use Rattle.model.specs.Decision.{Decision, Decision.refusal, Decision.refusal_after_id, Decision.accept, unless◌refuse◌then◌, given◌refuse◌then◌, as_reservation, as_claim, as_plan, reservation_row◌of◌refuse◌then◌, claim_row◌of◌refuse◌then◌, plan_row◌of◌refuse◌then◌, refuse_after_id◌then◌}
-use Rattle.model.specs.Lookup.{View, View.invalid, View.busy, View.holds, view_slot, lookup, on_view, handle_or}
+use Rattle.model.specs.Lookup.{View, View.invalid, View.busy, View.holds, view_slot, lookup, on_view, handle_or, kept_for, kept_at, on_look, look_at}
 use Rattle.model.specs.WellFormed.{WellFormed, is_moving_by, in_claim}
 use Rattle.noninterference.specs.Runs.{lowered, lower_answer, lower_slot}
-use Rattle.noninterference.specs.Erase.{erase_slot, erase_table, erase_rows, erase}
+use Rattle.noninterference.specs.Erase.{handle_at, erase_slot, erase_table, erase_rows, erase}
 use Rattle.model.proofs.Tests.{bool, clash}
 use Rattle.noninterference.proofs.Basics.{lowered_above, lowered_next}
 use Rattle.noninterference.proofs.Marks.{marked}
@@ -56,6 +56,12 @@ named t x k v g d a c m (moved j y r ∷ es) (w ∷ vs) h o = bool (eqb v w)
     absurd (eqb-false v w e (same_value x.mask v w d h.0 (a ∙ p ∙ sym h.1) (c ∙ i))))
     (λ q. named t x k v g d a c m es vs h.3 (omega (arith, rw q at o)))))
 named t x k v g d a c m (copied y ∷ es) vs h o = absurd h
+
+-- the handle of a moved slot is kept
+pub kept_has : (k : ℕ) (es : List Entry) → 1 ≤ occurs k (moved_of es) → kept_for k es ≡ some (handle_at k es)
+kept_has k [] h = absurd (omega arith)
+kept_has k (moved j y r ∷ es) h = bool (eqb k j) (λ q. rw q) (λ q. rw q (kept_has k es (omega (arith, rw q at h))))
+kept_has k (copied y ∷ es) h = kept_has k es h
 
 -- a slot without the claim's mark is only lowered
 pub bare_slot : (t : ℕ) (es : List Entry) (k : ℕ) (x : Slot) → is_moving_by t x ≡ false → erase_slot t es k x ≡ lower_slot t x
@@ -156,6 +162,21 @@ module _ (x : Case) where
       (λ q. let p : c ≡ b = eqb-true c b q in clash (own v (rw p at d) (rw p at m)) (rw q at n))
       (λ q. clash (marked t g (y.slots k) m) (bare c k q)))))
       (λ d. rw d)
+
+  -- `get_info` shows the same: of a slot of the claim the handle that the claim keeps, which stands in the slot without it
+  look_slot : (c k g : ℕ) (y : Slot) → (s.tables c).slots k ≡ y
+      → on_look (view_slot k g (erase_slot t es k y)) (kept_at (erase_rows t s.book.rows) k (erase_slot t es k y)) ≡ on_look (view_slot k g y) (kept_at s.book.rows k y)
+  look_slot c k g absent e = refl
+  look_slot c k g (vacant n) e = refl
+  look_slot c k g (reserved n i) e = refl
+  look_slot c k g (transfer_reserved n i) e = bool (eqb i t)
+      (λ q. let p : i ≡ t = eqb-true i t q in rw (q, p, o.row) (bool (eqb g n) (λ r. rw r (sym (kept_has k es (own_slot c k n (rw p at e))))) (λ r. rw r)))
+      (λ q. rw (q, find_erase t i (eqb-false i t q) s.book.rows))
+  look_slot c k g (occupied n h) e = refl
+
+  pub look_same : (c v : ℕ) → look_at (erase t es s) (erase_table t es (s.tables c)) v ≡ look_at s (s.tables c) v
+  look_same c v = let y : Table = s.tables c in let k : ℕ = slot_in y.mask v in
+      bool (decodes y.mask v) (λ d. rw d (look_slot c k (generation_in y.mask v) (y.slots k) refl)) (λ d. rw d)
 
   abbrev E : State → State
   E = erase t es

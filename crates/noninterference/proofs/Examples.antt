@@ -100,6 +100,7 @@ list₂ =
     ∷ prepare_transfer 0 rendezvous none none (item as_move (v0 1 1) 2 ∷ item as_copy (v0 0 1) 2 ∷ [])
     ∷ prepare_transfer 0 rendezvous none none (item as_move (v0 1 1) 2 ∷ [])
     ∷ get_info 0 (v0 1 1)
+    ∷ resolve 0 (v0 1 1) 1 1
     ∷ commit 12
     ∷ release_parcel 12
     ∷ reserve 2 1
@@ -121,7 +122,7 @@ list₂ =
     ∷ []
 
 abbrev given₂ : List ℕ
-given₂ = 11 ∷ 6 ∷ 7 ∷ 0 ∷ 11 ∷ 0 ∷ 18 ∷ 8 ∷ 11 ∷ 0 ∷ 3 ∷ 0 ∷ 0 ∷ 0 ∷ 1 ∷ 0 ∷ 0 ∷ 0 ∷ 0 ∷ 14 ∷ 0 ∷ 0 ∷ 0 ∷ 0 ∷ 0 ∷ 0 ∷ 16 ∷ 0 ∷ 18 ∷ []
+given₂ = 11 ∷ 6 ∷ 7 ∷ 0 ∷ 11 ∷ 0 ∷ 18 ∷ 8 ∷ 11 ∷ 0 ∷ 0 ∷ 3 ∷ 0 ∷ 0 ∷ 0 ∷ 1 ∷ 0 ∷ 0 ∷ 0 ∷ 0 ∷ 14 ∷ 0 ∷ 0 ∷ 0 ∷ 0 ∷ 0 ∷ 0 ∷ 16 ∷ 0 ∷ 18 ∷ []
 
 second : Pair (ran shop (reserve 0 1 ∷ [])).0 (prepare_transfer 0 buffered (some 102) (some 9) items₂) 8 0 (map value_of items₂) list₂ given₂
 unfolding ran
@@ -160,6 +161,40 @@ given₃ = 18 ∷ 15 ∷ 0 ∷ 21 ∷ 0 ∷ 18 ∷ 0 ∷ 0 ∷ 0 ∷ 21 ∷ 0 �
 third : Pair (ran shop (make_plan 0 2 ∷ make_plan 1 2 ∷ [])).0 (prepare_transfer 0 rendezvous none none items₁) 9 0 (map value_of items₁) list₃ given₃
 unfolding ran
 third = record {
+  opens = refl;
+  permits = refl;
+  wants = refl;
+  gives = refl;
+  answers = same_list_equal _ _ refl;
+  after_rollback = same_list_equal _ _ refl;
+  after_commit = same_list_equal _ _ refl;
+}
+
+-- The fourth pair, document 02, 2: a screen looks at the moved values between other requests, one of which opens a claim of its own; two of the looks are refused
+
+abbrev list₄ : List Request
+list₄ =
+    get_info 0 (v0 3 1)
+    ∷ get_info 0 (v0 1 1)
+    ∷ prepare_consumption 0 (v0 2 1) 1 2 101
+    ∷ get_info 0 (v0 2 1)
+    ∷ get_info 0 (v0 3 1)
+    ∷ reserve 0 1
+    ∷ retire_object 0
+    ∷ get_info 0 (v0 1 2)
+    ∷ get_info 1 (v0 3 1)
+    ∷ commit 8
+    ∷ get_info 0 (v0 2 1)
+    ∷ get_info 0 (v0 3 1)
+    ∷ get_info 0 (v0 1 1)
+    ∷ []
+
+abbrev given₄ : List ℕ
+given₄ = 0 ∷ 0 ∷ 0 ∷ 0 ∷ 0 ∷ 0 ∷ 0 ∷ 2 ∷ 2 ∷ 0 ∷ 2 ∷ 0 ∷ 0 ∷ []
+
+fourth : Pair shop (prepare_transfer 0 rendezvous none none items₁) 7 0 (map value_of items₁) list₄ given₄
+unfolding ran
+fourth = record {
   opens = refl;
   permits = refl;
   wants = refl;

@@ -7,10 +7,10 @@ use Rattle.model.specs.Change.{with_book}
 use Rattle.model.specs.Create.{created}
 use Rattle.model.specs.Words.{used_words}
 use Rattle.model.specs.Request.{Route.rendezvous, Operation.as_move, Operation.as_copy, Item}
-use Rattle.model.specs.Request.{Request, Request.new_object, Request.duplicate, Request.reserve, Request.publish, Request.get_info, Request.scan_handles, Request.prepare_transfer, Request.rollback, Request.remove_stopping_owner, Request.teardown_start, Request.make_plan, Request.use_plan}
+use Rattle.model.specs.Request.{Request, Request.new_object, Request.duplicate, Request.reserve, Request.publish, Request.get_info, Request.resolve, Request.replace, Request.close, Request.scan_handles, Request.prepare_transfer, Request.prepare_consumption, Request.rollback, Request.remove_stopping_owner, Request.teardown_start, Request.make_plan, Request.use_plan}
 use Rattle.model.proofs.Cases.{item}
 use Rattle.noninterference.specs.Names.{value_of}
-use Rattle.noninterference.specs.Runs.{is_move, names_id, names_value, walks, wanting, lower_request, lower_answer}
+use Rattle.noninterference.specs.Runs.{is_move, names_id, uses_value, walks, permitted, wanting, lower_request, lower_answer}
 use Rattle.noninterference.specs.World.{little, ran, v0, v1, shop, parameters}
 
 module _ (s : State) (t : ℕ) (items : List Item) (rs : List Request) where
@@ -24,12 +24,12 @@ module _ (s : State) (t : ℕ) (items : List Item) (rs : List Request) where
   abbrev plain : List (List ℕ)
   plain = map used_words (ran s (map (lower_request t) rs)).1
 
-  -- which conditions are met: moves only; the id not named; no moved value named; no walk there; nothing wanted
+  -- which conditions are met: moves only; the id not named; no moved value named but by a look; no walk there; nothing wanted
   abbrev met : List Bool
   met =
       every is_move items
       ∷ every (λ r. not (names_id t r)) rs
-      ∷ every (λ r. every (λ v. not (names_value 0 v r)) (map value_of items)) rs
+      ∷ every (λ r. every (λ v. not (uses_value 0 v r)) (map value_of items)) rs
       ∷ every (λ r. not (walks 0 r)) rs
       ∷ not (wanting little held_state rs)
       ∷ []
@@ -41,10 +41,38 @@ module _ (s : State) (t : ℕ) (items : List Item) (rs : List Request) where
 abbrev items : List Item
 items = item as_move (v0 3 1) 3 ∷ item as_move (v0 1 1) 2 ∷ []
 
--- a moved value: Busy against its info
-value_named : Differ shop 7 items (get_info 0 (v0 3 1) ∷ []) (true ∷ true ∷ false ∷ true ∷ true ∷ []) ((3 ∷ []) ∷ []) ((0 ∷ 100 ∷ 1 ∷ 7 ∷ 0 ∷ []) ∷ [])
+-- a moved value named by any request but `get_info`: Busy against done
+abbrev Named : Request → List ℕ → Type 0
+Named r p = Differ shop 7 items (r ∷ []) (true ∷ true ∷ false ∷ true ∷ true ∷ []) ((3 ∷ []) ∷ []) (p ∷ [])
+
+value_resolved : Named (resolve 0 (v0 3 1) 1 1) (0 ∷ 0 ∷ 100 ∷ 7 ∷ [])
 unfolding ran
-value_named = (refl, refl, refl)
+value_resolved = (refl, refl, refl)
+
+value_duplicated : Named (duplicate 0 (v0 3 1) 1) (0 ∷ 7 ∷ [])
+unfolding ran
+value_duplicated = (refl, refl, refl)
+
+value_replaced : Named (replace 0 (v0 3 1) 1) (0 ∷ v0 3 2 ∷ [])
+unfolding ran
+value_replaced = (refl, refl, refl)
+
+value_closed : Named (close 0 (v0 3 1)) (0 ∷ 100 ∷ 1 ∷ 7 ∷ 0 ∷ [])
+unfolding ran
+value_closed = (refl, refl, refl)
+
+value_moved : Named (prepare_transfer 0 rendezvous none none (item as_move (v0 3 1) 1 ∷ [])) (0 ∷ 7 ∷ [])
+unfolding ran
+value_moved = (refl, refl, refl)
+
+value_consumed : Named (prepare_consumption 0 (v0 3 1) 1 1 100) (0 ∷ 7 ∷ [])
+unfolding ran
+value_consumed = (refl, refl, refl)
+
+-- a look at it is the same in both, and is let in: the handle's own rights, 7, where the receiver gets 3
+looked_at : (every (permitted 7 0 (map value_of items)) (get_info 0 (v0 3 1) ∷ []) ≡ true) × Differ shop 7 items (get_info 0 (v0 3 1) ∷ []) (true ∷ true ∷ true ∷ true ∷ true ∷ []) ((0 ∷ 100 ∷ 1 ∷ 7 ∷ 0 ∷ []) ∷ []) ((0 ∷ 100 ∷ 1 ∷ 7 ∷ 0 ∷ []) ∷ [])
+unfolding ran
+looked_at = (refl, (refl, refl, refl))
 
 -- the transfer's id: done against Misuse
 id_named : Differ shop 7 items (rollback 7 ∷ []) (true ∷ false ∷ true ∷ true ∷ true ∷ []) ((0 ∷ []) ∷ []) ((18 ∷ []) ∷ [])

@@ -15,6 +15,7 @@ pub mod Lists
 pub mod Restore
 pub mod Endings
 pub mod Start
+pub mod Moving
 pub mod Beside
 pub mod Theorem
 pub mod Plans

@@ -15,7 +15,7 @@ use Rattle.model.specs.Book.{find, moved_of}
 use Rattle.model.specs.Decision.{Decision, Decision.refusal, Decision.refusal_after_id, Decision.accept}
 use Rattle.model.specs.Step.{decide, carry, step, run}
 use Rattle.model.specs.WellFormed.{WellFormed, is_moving_by}
-use Rattle.noninterference.specs.Runs.{names_id, names_value, walks, permitted, gives, pages_needed, wants_row, wants_id, wanting, lower_request, lower_answer}
+use Rattle.noninterference.specs.Runs.{names_id, uses_value, walks, permitted, gives, pages_needed, wants_row, wants_id, wanting, lower_request, lower_answer}
 use Rattle.noninterference.specs.Erase.{erase}
 use Rattle.model.proofs.Tests.{bool, clash, and_left, and_right, or_left, or_right}
 use Rattle.noninterference.proofs.Marks.{Stems}
@@ -72,7 +72,7 @@ module _ (x : Case) where
   abbrev Enough : Request → Bool
   Enough r = at_most (pages_needed x.z s r) (length s.frames)
 
-  decided : (r : Request) → names_id x.t r ≡ false → every (λ v. not (names_value x.b v r)) x.vs ≡ true → walks x.b r ≡ false
+  decided : (r : Request) → names_id x.t r ≡ false → every (λ v. not (uses_value x.b v r)) x.vs ≡ true → walks x.b r ≡ false
       → Alike x (Enough r) (decide x.z s r) (decide x.z s₀ (lower_request x.t r))
   unfolding decide
   decided (new_object o r f) i v w = none_needed (alike_new_object x o r f)
@@ -83,7 +83,7 @@ module _ (x : Case) where
   decided (trim j n) i v w = none_needed (alike_trim x j n (only x.t j [] i))
   decided (abort j) i v w = none_needed (alike_abort x j (only x.t j [] i))
   decided (publish j js) i v w = none_needed (alike_publish x j js (only x.t j js i) (tail_apart x.t j js i))
-  decided (get_info c a) i v w = none_needed (alike_get_info x c a (value_apart x.b c a x.vs v))
+  decided (get_info c a) i v w = none_needed (alike_get_info x c a)
   decided (resolve c a r k) i v w = none_needed (alike_resolve x c a r k (value_apart x.b c a x.vs v))
   decided (replace c a r) i v w = none_needed (alike_replace x c a r (value_apart x.b c a x.vs v))
   decided (close c a) i v w = none_needed (alike_close x c a (value_apart x.b c a x.vs v))
@@ -124,7 +124,7 @@ module _ (x : Case) where
   unfolding permitted wants_row wants_id step
   step_alike r p a c = carried _ _ (
       (decided r (not-true _ (and_left _ _ p)) (and_left _ _ (and_right (not (names_id x.t r)) _ p))
-      (not-true _ (and_right (every (λ v. not (names_value x.b v r)) x.vs) _ (and_right (not (names_id x.t r)) _ p)))
+      (not-true _ (and_right (every (λ v. not (uses_value x.b v r)) x.vs) _ (and_right (not (names_id x.t r)) _ p)))
       ).twin (no_want (Enough r) (decide x.z s r) a c))
 
 -- a slot that is marked with t

@@ -26,7 +26,7 @@ use Rattle.invariant.proofs.Kept.{kept as always_kept}
 use Rattle.noninterference.specs.Names.{value_of}
 use Rattle.noninterference.specs.Runs.{is_move, permitted, wanting, lowered, lower_request, lower_row}
 use Rattle.noninterference.specs.Erase.{erase_rows, erase}
-use Rattle.noninterference.specs.Plans.{PlanAt, PlansStand, PlansAgree}
+use Rattle.noninterference.specs.Plans.{PlansStand, PlansAgree}
 use Rattle.noninterference.proofs.Snapshots.{SameStorage, storage_lower, storage_keep_all, storage_restore_all, stale_same, stale_erase}
 use Rattle.noninterference.proofs.Basics.{lowered_above, lowered_below}
 use Rattle.noninterference.proofs.Rows.{find_erase}

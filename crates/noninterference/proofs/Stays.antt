@@ -20,7 +20,7 @@ use Rattle.model.specs.Transfer.{items_fault, copies_fault, entry_for}
 use Rattle.model.specs.Step.{restore_all, reserve_in, remove_at, next_occupied, tear_at, take_at, decide, step, new_object_of, duplicate_of, release_parcel_of, retire_object_of, reserve_of, trim_of, abort_of, publish_of, get_info_of, resolve_of, replace_of, close_of, scan_handles_of, prepare_transfer_of, prepare_consumption_of, rollback_of, commit_of, direct_commit_of, direct_rollback_of, remove_stopping_owner_of, teardown_start_of, teardown_step_of, teardown_finish_of, take_empty_page_of, make_plan_of, use_plan_of, drop_plan_of}
 use Rattle.model.specs.WellFormed.{is_moving_by}
 use Rattle.model.proofs.Tests.{bool, clash}
-use Rattle.model.proofs.Decided.{Decided, Any, accepts, checked, with_some, with_view, with_handle, with_reservation, with_claim, with_plan, with_room_law, while_tearing, after_id, either_way, found_or, first_or, carried}
+use Rattle.model.proofs.Decided.{Decided, Any, accepts, checked, with_some, with_view, with_handle, with_look, with_reservation, with_claim, with_plan, with_room_law, while_tearing, after_id, either_way, found_or, first_or, carried}
 use Rattle.noninterference.specs.Runs.{names_id}
 use Rattle.noninterference.proofs.Marks.{Stems, stems_same, stems_then, stems_place, stems_keep_all, stems_vacate, stems_vacate_all, stems_reserve, stems_detach, stems_fill_all, stems_restore_all, stems_life}
 use Rattle.noninterference.proofs.Rows.{find_drop, find_swap, find_append}
@@ -195,7 +195,7 @@ module _ (t : ℕ) where
         checked (eqb (length hs) (length ks)) 18 tt λ e.
         accepts (drops_all (i ∷ is) _ n (sets still b _ (stems_fill_all t z ks hs (s.tables b))))
     decide_stays (get_info b v) n =
-        with_handle s b v tt tt tt tt λ l a k h e.
+        with_look s b v tt tt tt λ l a h e.
         accepts still
     decide_stays (resolve b v r kind) n =
         with_handle s b v tt tt tt tt λ l a k h e.

@@ -16,7 +16,7 @@ use Rattle.noninterference.specs.Runs.{lowered}
 use Rattle.noninterference.specs.Erase.{erase}
 use Rattle.noninterference.proofs.Tables.{gen_erase}
 use Rattle.noninterference.proofs.Rows.{find_erase}
-use Rattle.noninterference.proofs.Alike.{Case, Alike, lookup_same, check, row_left_law, id_left_law, views, somes}
+use Rattle.noninterference.proofs.Alike.{Case, Alike, lookup_same, look_same, check, row_left_law, id_left_law, views, somes}
 use Rattle.noninterference.proofs.Effects.{untouched, vacated, renews, same_book, added, dropped, accepts, reads, changes}
 
 module _ (x : Case) where
@@ -74,9 +74,13 @@ module _ (x : Case) where
       check x (is_active (s.tables c).life) 16 λ q.
       views x f f₀ (lookup_same x c v n) λ k h l. y k h
 
-  pub alike_get_info : (c v : ℕ) → (eqb c x.b && member v x.vs) ≡ false → Alike x true (get_info_of x.z s c v) (get_info_of x.z s₀ c v)
+  -- of any value, a moved one too
+  pub alike_get_info : (c v : ℕ) → Alike x true (get_info_of x.z s c v) (get_info_of x.z s₀ c v)
   unfolding get_info_of
-  alike_get_info c v n = handles c v _ _ n λ k h. reads x refl
+  alike_get_info c v =
+      check x (ltb c s.table_count) 18 λ q.
+      check x (is_active (s.tables c).life) 16 λ q.
+      somes x 2 _ _ (look_same x c v) λ h q. reads x refl
 
   pub alike_resolve : (c v r kind : ℕ) → (eqb c x.b && member v x.vs) ≡ false
       → Alike x true (resolve_of x.z s c v r kind) (resolve_of x.z s₀ c v r kind)

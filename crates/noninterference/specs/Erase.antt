@@ -1,15 +1,14 @@
 -- A state without an open claim: its slots hold their handles again, its row goes, and ids above it are one lower.
-use Rattle.std.specs.Prelude.{List, [], ◌∷◌, map, ℕ, eqb}
-use Rattle.model.specs.Base.{pick}
-use Rattle.model.specs.State.{Handle, Slot, Slot.absent, Slot.vacant, Slot.reserved, Slot.transfer_reserved, Slot.occupied, Table, Entry, Entry.moved, Entry.copied, Row, Book, State}
+use Rattle.std.specs.Prelude.{List, map, ℕ, eqb}
+use Rattle.model.specs.Base.{pick, or_else}
+use Rattle.model.specs.State.{Handle, Slot, Slot.absent, Slot.vacant, Slot.reserved, Slot.transfer_reserved, Slot.occupied, Table, Entry, Row, Book, State}
 use Rattle.model.specs.Book.{drop_id}
+use Rattle.model.specs.Lookup.{no_handle, kept_for}
 use Rattle.noninterference.specs.Runs.{lowered, with_slots, lower_row}
 
 -- the handle that a claim's entries keep for a slot
 abbrev pub handle_at : ℕ → List Entry → Handle
-handle_at k [] = record { object = 0; rights = 0; flags = 0 }
-handle_at k (moved j h r ∷ es) = pick (eqb k j) h (handle_at k es)
-handle_at k (copied h ∷ es) = handle_at k es
+handle_at k es = or_else (kept_for k es) no_handle
 
 abbrev pub erase_slot : ℕ → List Entry → ℕ → Slot → Slot
 erase_slot t es k absent = absent

@@ -1,5 +1,5 @@
 -- What a request names, in one table. Which lists the two runs may have, the ids one lower and the pages that a request needs follow from it; a new request adds its line to `names_of`.
-use Rattle.std.specs.Prelude.{◌≡◌, refl, List, [], ◌∷◌, map, ℕ}
+use Rattle.std.specs.Prelude.{◌≡◌, refl, Bool, true, false, List, [], ◌∷◌, map, ℕ}
 use Rattle.std.proofs.Math.Option.{Option, none, some}
 use Rattle.model.specs.Request.{Item, Request, Request.new_object, Request.duplicate, Request.release_parcel, Request.retire_object, Request.reserve, Request.trim, Request.abort, Request.publish, Request.get_info, Request.resolve, Request.replace, Request.close, Request.scan_handles, Request.prepare_transfer, Request.prepare_consumption, Request.rollback, Request.commit, Request.direct_commit, Request.direct_rollback, Request.remove_stopping_owner, Request.teardown_start, Request.teardown_step, Request.teardown_finish, Request.take_empty_page, Request.make_plan, Request.use_plan, Request.drop_plan}
 
@@ -12,6 +12,8 @@ pub record Names (r : Request) : Type 0 where
   -- handle values, in a table (0 where it names none: then `values` is empty, so that nothing is named in table 0)
   pub table : ℕ
   pub values : List ℕ
+  -- document 02, 2: whether it looks at them and does nothing else
+  pub looks : Bool
   -- a table that it scans, starts to tear down or removes from for a stopping owner
   pub walked : Option ℕ
   -- a table and a number of slots that it needs pages for
@@ -28,25 +30,28 @@ rest [] = []
 rest (i ∷ is) = is
 
 abbrev nothing : (r : Request) → Names r
-nothing r = record { ids = []; renamed = λ js. r; itself = refl; table = 0; values = []; walked = none; batch = none }
+nothing r = record { ids = []; renamed = λ js. r; itself = refl; table = 0; values = []; looks = false; walked = none; batch = none }
 
 abbrev an_id : (i : ℕ) (make : ℕ → Request) → Names (make i)
-an_id i make = record { ids = i ∷ []; renamed = λ js. make (first js); itself = refl; table = 0; values = []; walked = none; batch = none }
+an_id i make = record { ids = i ∷ []; renamed = λ js. make (first js); itself = refl; table = 0; values = []; looks = false; walked = none; batch = none }
 
 abbrev two_ids : (i j : ℕ) (make : ℕ → ℕ → Request) → Names (make i j)
-two_ids i j make = record { ids = i ∷ j ∷ []; renamed = λ js. make (first js) (first (rest js)); itself = refl; table = 0; values = []; walked = none; batch = none }
+two_ids i j make = record { ids = i ∷ j ∷ []; renamed = λ js. make (first js) (first (rest js)); itself = refl; table = 0; values = []; looks = false; walked = none; batch = none }
 
 abbrev many_ids : (i : ℕ) (is : List ℕ) (make : ℕ → List ℕ → Request) → Names (make i is)
-many_ids i is make = record { ids = i ∷ is; renamed = λ js. make (first js) (rest js); itself = refl; table = 0; values = []; walked = none; batch = none }
+many_ids i is make = record { ids = i ∷ is; renamed = λ js. make (first js) (rest js); itself = refl; table = 0; values = []; looks = false; walked = none; batch = none }
 
 abbrev values_in : (b : ℕ) (vs : List ℕ) (r : Request) → Names r
-values_in b vs r = record { ids = []; renamed = λ js. r; itself = refl; table = b; values = vs; walked = none; batch = none }
+values_in b vs r = record { ids = []; renamed = λ js. r; itself = refl; table = b; values = vs; looks = false; walked = none; batch = none }
+
+abbrev look_at_in : (b v : ℕ) (r : Request) → Names r
+look_at_in b v r = record { ids = []; renamed = λ js. r; itself = refl; table = b; values = v ∷ []; looks = true; walked = none; batch = none }
 
 abbrev walk_of : (b : ℕ) (r : Request) → Names r
-walk_of b r = record { ids = []; renamed = λ js. r; itself = refl; table = 0; values = []; walked = some b; batch = none }
+walk_of b r = record { ids = []; renamed = λ js. r; itself = refl; table = 0; values = []; looks = false; walked = some b; batch = none }
 
 abbrev slots_in : (b n : ℕ) (r : Request) → Names r
-slots_in b n r = record { ids = []; renamed = λ js. r; itself = refl; table = 0; values = []; walked = none; batch = some (b, n) }
+slots_in b n r = record { ids = []; renamed = λ js. r; itself = refl; table = 0; values = []; looks = false; walked = none; batch = some (b, n) }
 
 abbrev pub value_of : Item → ℕ
 value_of q = q.value
@@ -62,7 +67,7 @@ names_of (reserve b n) = slots_in b n (reserve b n)
 names_of (trim i n) = an_id i λ j. trim j n
 names_of (abort i) = an_id i λ j. abort j
 names_of (publish i is) = many_ids i is λ j js. publish j js
-names_of (get_info b v) = values_in b (v ∷ []) (get_info b v)
+names_of (get_info b v) = look_at_in b v (get_info b v)
 names_of (resolve b v r kind) = values_in b (v ∷ []) (resolve b v r kind)
 names_of (replace b v r) = values_in b (v ∷ []) (replace b v r)
 names_of (close b v) = values_in b (v ∷ []) (close b v)

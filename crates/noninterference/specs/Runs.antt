@@ -25,13 +25,17 @@ names_id t r = member t (names_of r).ids
 abbrev pub names_value : (table value : ℕ) → Request → Bool
 names_value b v r = eqb (names_of r).table b && member v (names_of r).values
 
+-- document 02, 2: "the list may now hold `get_info` on moved values"; every other naming of one is barred
+abbrev pub uses_value : (table value : ℕ) → Request → Bool
+uses_value b v r = not (names_of r).looks && names_value b v r
+
 -- "neither scans, starts tearing down nor removes for a stopping owner there"
 abbrev pub walks : (table : ℕ) → Request → Bool
 walks b r = bans (names_of r).walked b
 
--- "The list names neither those values in that table nor that transfer's id, and neither scans .. there"
+-- "The list names neither those values in that table nor that transfer's id, and neither scans .. there", but for `get_info` on the values
 unfoldable pub permitted : (id table : ℕ) → (values : List ℕ) → Request → Bool
-permitted t b vs r = not (names_id t r) && (every (λ v. not (names_value b v r)) vs && not (walks b r))
+permitted t b vs r = not (names_id t r) && (every (λ v. not (uses_value b v r)) vs && not (walks b r))
 
 -- "It wants a row if it gives 1 with frames enough for the pages it needs, an id if it gives 12"
 abbrev pub gives : ℕ → Answer → Bool

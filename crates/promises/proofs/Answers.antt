@@ -19,7 +19,7 @@ use Rattle.model.specs.Decision.{Decision, Decision.refusal, Decision.refusal_af
 use Rattle.model.specs.Lookup.{lookup}
 use Rattle.model.specs.Transfer.{items_fault, copies_fault, entry_for}
 use Rattle.model.specs.Step.{decide, step, carry, new_object_of, duplicate_of, release_parcel_of, retire_object_of, reserve_of, trim_of, abort_of, publish_of, get_info_of, resolve_of, replace_of, close_of, scan_handles_of, prepare_transfer_of, prepare_consumption_of, rollback_of, commit_of, direct_commit_of, direct_rollback_of, remove_stopping_owner_of, remove_at, next_occupied, teardown_start_of, tear_at, teardown_step_of, teardown_finish_of, take_at, take_empty_page_of, make_plan_of, use_plan_of, drop_plan_of}
-use Rattle.model.proofs.Decided.{Decided, Any, accepts, checked, with_some, with_view, with_handle, with_reservation, with_claim, with_plan, with_room_law, while_tearing, after_id, either_way, found_or, first_or}
+use Rattle.model.proofs.Decided.{Decided, Any, accepts, checked, with_some, with_view, with_handle, with_look, with_reservation, with_claim, with_plan, with_room_law, while_tearing, after_id, either_way, found_or, first_or}
 use Rattle.model.proofs.Refusals.{is_refused, numbered, refused_keeps}
 use Rattle.model.specs.Words.{used_words, words_of}
 use Rattle.promises.specs.Answers.{gives_id, has_id, is_number}
@@ -74,7 +74,7 @@ module _ (z : Sizes) (s : State) where
       checked (eqb (length hs) (length ks)) 18 tt λ e.
       accepts refl
   decide_gives (get_info b v) =
-      with_handle s b v tt tt tt tt λ l a k h e.
+      with_look s b v tt tt tt λ l a h e.
       accepts refl
   decide_gives (resolve b v r kind) =
       with_handle s b v tt tt tt tt λ l a k h e.

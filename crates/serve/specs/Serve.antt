@@ -9,7 +9,8 @@ use Rattle.answer.specs.Does.{Both, both}
 use Rattle.parcel.specs.Ops.{new_object_r, duplicate_r, release_r, retire_r}
 use Rattle.reserve.specs.Ops.{reserve_r}
 use Rattle.parcel.specs.Publishing.{ids_at, publish_r}
-use Rattle.lookup.specs.Read.{get_info_r, resolve_r}
+use Rattle.info.specs.Info.{get_info_r}
+use Rattle.lookup.specs.Read.{resolve_r}
 use Rattle.close.specs.Replace.{replace_r}
 use Rattle.close.specs.Close.{close_r}
 use Rattle.lookup.specs.Scan.{scan_r}

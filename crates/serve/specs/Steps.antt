@@ -9,7 +9,8 @@ use Rattle.representation.specs.Represents.{Rep}
 use Rattle.request.specs.Place.{field_of, op_at, count_at, end_at, request_of, request_at}
 use Rattle.request.specs.Laws.{request_is}
 use Rattle.answer.specs.Does.{Does}
-use Rattle.lookup.specs.Read.{get_info_does, resolve_does}
+use Rattle.info.proofs.Does.{get_info_does}
+use Rattle.lookup.specs.Read.{resolve_does}
 use Rattle.lookup.specs.Scanned.{scan_does}
 use Rattle.close.specs.Close.{close_does}
 use Rattle.close.specs.Replace.{replace_does}

@@ -23,7 +23,7 @@ pub fn serve(s: &mut [u64], sh: Shape, rq: &Record, op: u64, out: &mut [u64], ba
         op::OP_TRIM => claim::serve_trim(s, sh, rq, out, base),
         op::OP_ABORT => claim::serve_abort(s, sh, rq, out, base),
         op::OP_PUBLISH => parcel::serve_publish(s, sh, rq, out, base),
-        op::OP_GET_INFO => lookup::serve_get_info(s, sh, rq, out, base),
+        op::OP_GET_INFO => info::serve_get_info(s, sh, rq, out, base),
         op::OP_RESOLVE => lookup::serve_resolve(s, sh, rq, out, base),
         op::OP_REPLACE => close::serve_replace(s, sh, rq, out, base),
         op::OP_CLOSE => close::serve_close(s, sh, rq, out, base),
