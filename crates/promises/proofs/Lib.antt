@@ -6,6 +6,7 @@ pub mod Shop
 pub mod ShopRuns
 pub mod Applied
 pub mod PlansApplied
+pub mod LooksApplied
 pub mod BatchesLemmas
 pub mod TransfersLemmas
 pub mod Ids
@@ -15,5 +16,6 @@ pub mod Demand1
 pub mod Demand2
 pub mod Demand3
 pub mod Plans
+pub mod Looks
 pub mod Transfers
 pub mod Batches

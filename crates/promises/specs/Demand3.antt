@@ -54,7 +54,8 @@ pub record TwoRuns : Type 0 where
   pub ps : List Call
   pub calls_p : Calls us ps
   pub list_p : list_of ps ≡ lower_words t list ++ end_p ending table (map value_of items)
-  -- "The list names neither those values in that table nor that transfer's id, and neither scans, starts tearing down nor removes for a stopping owner there"
+  -- "The list names neither those values in that table nor that transfer's id, and neither scans, starts tearing down nor removes for a stopping owner there"; document 02, 2: "the list may
+  -- now hold `get_info` on moved values"
   pub permits : every (permitted t table (map value_of items)) requests ≡ true
   -- "H refuses nothing for want of a row or an id"
   pub wants : wanting till (step till s (prepare_transfer table route banned_object banned_kind items)).0 requests ≡ false

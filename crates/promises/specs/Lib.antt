@@ -6,5 +6,6 @@ pub mod Demand1
 pub mod Demand2
 pub mod Demand3
 pub mod Plans
+pub mod Looks
 pub mod Batches
 pub mod Transfers
