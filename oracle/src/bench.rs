@@ -1,8 +1,9 @@
 //! The benchmark (docs/performance.md): the Rust and the port in one run, by the same driver. Both are fed the same request words and write the
 //! same 72 answer words for each request. A call of the port checks the whole state first: its requests are timed in long lists, less the time of
 //! an empty list. The Rust's time is given as it is, and less what its driver takes to read the words of the list. A request that can't be repeated
-//! alone is timed in a cycle, and, at 64 slots, by the difference of two lists that share their first part. The state check is timed beside a plain
-//! read of the same words, on states that differ in which objects have handles and in how many rows are open.
+//! alone is timed in a cycle, and, at 64 slots, by the difference of two lists that share their first part. The Rust is timed as it is: it is not asked
+//! what a value shows before it is moved, and refuses a look at it (Busy), which the port answers; these rows say so. The state check is timed beside a
+//! plain read of the same words, on states that differ in which objects have handles and in how many rows are open.
 
 use std::hint::black_box;
 use std::time::Instant;
@@ -183,6 +184,23 @@ fn list_of(start: &Start, count: usize, mut next: impl FnMut(usize, &[[u64; ANSW
     (list, count)
 }
 
+/// The answers that the port must give to a list.
+fn wanted(start: &Start, list: &[u64], count: usize) -> Vec<u64> {
+    let mut rust = Direct::default();
+    assert_eq!(rust.start(start), 0);
+    let mut answers = vec![0; count * ANSWER];
+    assert_eq!(rust.call(list, &mut answers), 0);
+    rust.end();
+    answers
+}
+
+/// Whether the Rust that was timed gave these answers; to a look it may have given Busy.
+fn same_or_busy(list: &[u64], given: &[u64], wanted: &[u64]) -> bool {
+    let requests = read_list(list).unwrap_or_default();
+    let mut both = requests.iter().zip(given.chunks(ANSWER).zip(wanted.chunks(ANSWER)));
+    both.all(|(request, (given, wanted))| given == wanted || request.op() == GET_INFO && given[0] == 3 && given[1..].iter().all(|word| *word == 0))
+}
+
 /// Some requests, then a cycle over and over; its requests are made from the answers since then.
 fn cycle_of(start: &Start, count: usize, before: &[Make], turn: usize, next: Make) -> (Vec<u64>, usize) {
     let first = before.len();
@@ -311,7 +329,7 @@ fn tell(settings: Settings, rows: &mut Vec<Row>, slots: u64, start: &Start, word
     let mut wanted = vec![0u64; this.counts.1 * ANSWER];
     let mut answers = wanted.clone();
     let mut rust_run = |list: &[u64], count: usize| {
-        let mut rust = Direct::default();
+        let mut rust = Direct::timed();
         assert_eq!(rust.start(start), 0);
         let from = Instant::now();
         let result = rust.call(black_box(list), &mut wanted[..count * ANSWER]);
@@ -535,6 +553,12 @@ fn pass(settings: Settings) -> Pass {
                 }),
             ),
         ];
+        // A look at a value that a claim moves: the only one of its claim, and the last of as many as a claim has.
+        for (at, count) in [1, 64.min(handles.len())].into_iter().enumerate() {
+            let claim: Make = &|_, _| transfer(0, 0, handles[..count].iter().map(|value| item(0, *value, 1)).collect());
+            let which = if count == 1 { "a moved value".to_string() } else { format!("the last of {count} moved values") };
+            lists.insert(1 + at, (format!("get_info of {which} (the Rust: Busy)"), 1.0, cycle_of(&start, long, &[claim], 1, &|_, _| get_info(0, handles[count - 1]))));
+        }
         // Plans of 1 and of 64 slots. Of the 16 free slots one does and 64 do not, which need a page then; with the 16 reserved before, one slot needs a page too, and with an
         // empty page more, 64 need none.
         let sixteen: Make = &|_, _| reserve(0, 16);
@@ -623,18 +647,20 @@ fn pass(settings: Settings) -> Pass {
         lists.truncate(settings.rows(lists.len()));
         for (name, cycle, (list, count)) in lists {
             let mut answers = vec![0u64; count * ANSWER];
-            let mut wanted = vec![0u64; count * ANSWER];
+            let mut given = vec![0u64; count * ANSWER];
             // The Rust.
             let rust_time = median(settings.times(), || {
-                let mut rust = Direct::default();
+                let mut rust = Direct::timed();
                 assert_eq!(rust.start(&start), 0);
                 let from = Instant::now();
-                let result = rust.call(black_box(&list), &mut wanted);
+                let result = rust.call(black_box(&list), &mut given);
                 let time = from.elapsed().as_nanos() as f64;
                 assert_eq!(result, 0);
                 rust.end();
                 time
             });
+            let wanted = wanted(&start, &list, count);
+            assert!(same_or_busy(&list, &given, &wanted), "{name}: the Rust that is timed answers otherwise");
             let reading = median(settings.times(), || {
                 let from = Instant::now();
                 black_box(read_list(black_box(&list)).map(|list| list.len()));

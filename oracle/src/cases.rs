@@ -7,6 +7,7 @@ use crate::state::*;
 use crate::subject::{Call, Start};
 use crate::words;
 
+pub mod looks;
 pub mod plans;
 
 pub type Look = Box<dyn Fn(&State) -> bool>;
@@ -271,14 +272,15 @@ fn points(cases: &mut Vec<Case>) {
 fn corners(cases: &mut Vec<Case>) {
     let mut c = Case::new(
         "busy-and-reserved",
-        "a value naming a TransferReserved slot of equal generation gives Busy, one naming a Reserved slot InvalidHandle",
+        "a value naming a TransferReserved slot of equal generation gives Busy, but to get_info; one naming a Reserved slot InvalidHandle",
         world(),
     );
     publish_one(&mut c, 0, ALL, 0, 1, v(63, 1));
     c.ask(reserve(0, 1), &[0, 3, 1, v(62, 1)]);
     c.ask(transfer(0, 0, vec![item(0, v(63, 1), 3)]), &[0, 4]);
+    c.ask(get_info(0, v(63, 1)), &[0, 100, 7, ALL]);
     for request in [
-        get_info(0, v(63, 1)), close(0, v(63, 1)), replace(0, v(63, 1), 0), duplicate(0, v(63, 1), 0), resolve(0, v(63, 1), 0, 7),
+        close(0, v(63, 1)), replace(0, v(63, 1), 0), duplicate(0, v(63, 1), 0), resolve(0, v(63, 1), 0, 7),
         consume(0, v(63, 1), 0, 7, 100), transfer(0, 0, vec![item(1, v(63, 1), 0)]),
     ] {
         c.ask(request, &[3]);

@@ -28,7 +28,7 @@ pub const ADVANCE_EPOCH_LINE: u32 = 331;
 
 pub fn run(tally: &mut Tally) {
     let mut oracle = Oracle::default();
-    for case in cases::all().into_iter().chain(cases::plans::all()) {
+    for case in cases::all().into_iter().chain(cases::plans::all()).chain(cases::looks::all()) {
         let calls: Vec<_> = case.asks.iter().map(|ask| ask.call.clone()).collect();
         let trace = oracle.run(&case.start, &calls);
         let read = Reading::new(Slip::None).run(&case.start, &calls);
@@ -110,6 +110,7 @@ pub fn run(tally: &mut Tally) {
     facts(tally, &mut oracle);
     table_full(tally, &mut oracle);
     stale_plans(tally, &mut oracle);
+    moved_values(tally, &mut oracle);
 }
 
 /// Runs on the Rust and brings a result back; Err with the place of a violation.
@@ -271,13 +272,14 @@ fn stale_plans(tally: &mut Tally, oracle: &mut Oracle) {
         found == Ok((21, Some(Err(15)))),
         &format!("difference-stale-plan on the Rust: a plan used in a table that has no page to attach gives 15, and the driver 21 ({found:?})"),
     );
-    let (mut stopped, mut full, mut strange, mut seed) = (0, 0, 0, 0);
-    while stopped + full + strange < 60 {
+    let (mut stopped, mut full, mut limited, mut strange, mut seed) = (0, 0, 0, 0, 0);
+    while stopped + full + limited + strange < 60 {
         seed += 1;
         let kind = [Kind::Plain, Kind::Edges, Kind::Scrambled][seed as usize % 3];
         let made = sequence_with(seed, kind, 120, Ops::All, Texts::Last);
         let Some(at) = (0..made.calls.len()).find(|at| made.calls[*at].list.first() == Some(&129) && made.calls[*at].list[1] == requests::USE_PLAN && made.trace.steps[*at].answers[0] == 21) else { continue };
         let (start, calls, id) = (made.start.clone(), made.calls[..at].to_vec(), made.calls[at].list[2]);
+        let beyond = beyond_the_limit(&start, &calls, id);
         let found = ask(oracle, move |direct| {
             direct.start(&start);
             for call in &calls {
@@ -289,6 +291,7 @@ fn stale_plans(tally: &mut Tally, oracle: &mut Oracle) {
         match &found {
             found if stops(found) => stopped += 1,
             Ok(Some(Err(15))) => full += 1,
+            Ok(Some(Ok(()))) if beyond => limited += 1,
             Err(place) if explained(place).is_some() => {}
             other => {
                 strange += 1;
@@ -298,7 +301,78 @@ fn stale_plans(tally: &mut Tally, oracle: &mut Oracle) {
     }
     tally.line(
         strange == 0,
-        &format!("stale plans on the Rust: of {} stale plans of random lists, used all the same, {stopped} reach invariant_violation where snapshots are compared, {full} give 15, {strange} neither", stopped + full + strange),
+        &format!(
+            "stale plans on the Rust: of {} stale plans of random lists, used all the same, {stopped} reach invariant_violation where snapshots are compared, {full} give 15, {limited} are accepted, stale by a page limit that the Rust has not, {strange} are none of these",
+            stopped + full + limited + strange
+        ),
+    );
+}
+
+/// Whether a plan's table has no page to attach for it after some calls, by the reading.
+fn beyond_the_limit(start: &Start, calls: &[crate::subject::Call], id: u64) -> bool {
+    let mut reading = Reading::new(Slip::None);
+    reading.start(start);
+    for call in calls {
+        reading.call(&call.list, &mut vec![0; call.lent]);
+    }
+    let Some(state) = reading.state() else { return false };
+    state.rows.iter().any(|row| match &row.kind {
+        state::RowKind::Plan { table, count, .. } => row.id == id && state.tables[*table as usize].snapshot(*count, Slip::None).is_err(),
+        _ => false,
+    })
+}
+
+/// A look at a value that is being moved, by a transfer or a consumption, gets Busy from the Rust, and from the driver what the Rust said of it just before. Where the two do not fit, the
+/// driver's answer is no number.
+fn moved_values(tally: &mut Tally, oracle: &mut Oracle) {
+    let found = ask(oracle, |direct| {
+        direct.start(&Start::Create(cases::params(&[(1, 0)], 1, &[[50, 7, 0, u64::MAX, 1, 9]], 4)));
+        let run = |direct: &mut crate::oracle::Direct, request: requests::Request| {
+            let mut answers = [0; ANSWER];
+            direct.call(&request.words(), &mut answers);
+            answers[..5].to_vec()
+        };
+        let look = |direct: &mut crate::oracle::Direct, slot: u64| {
+            let answer = run(direct, requests::get_info(0, v(slot, 1)));
+            (answer, direct.machine.as_ref().map(|machine| bare::get_info_raw(machine, 0, v(slot, 1))))
+        };
+        // Handles in slots 63 and 62.
+        for request in [
+            requests::new_object(0, 0x3F, 2), requests::reserve(0, 1), requests::publish(2, &[1]), requests::duplicate(0, v(63, 1), 3), requests::reserve(0, 1), requests::publish(4, &[3]),
+        ] {
+            run(direct, request);
+        }
+        let mut shown = vec![look(direct, 63)];
+        run(direct, requests::transfer(0, 0, vec![requests::item(0, v(63, 1), 1)]));
+        shown.push(look(direct, 63));
+        run(direct, requests::rollback(5));
+        shown.push(look(direct, 63));
+        run(direct, requests::consume(0, v(63, 1), 0, 7, 50));
+        shown.push(look(direct, 63));
+        // What is remembered is made wrong: nothing of slot 63, slot 62 as moved, other rights.
+        let remember = |direct: &mut crate::oracle::Direct, known| {
+            if let Some(machine) = direct.machine.as_mut() {
+                bare::remember_only(machine, known);
+            }
+        };
+        remember(direct, None);
+        let mut wrong = vec![look(direct, 63).0[0]];
+        remember(direct, Some((v(62, 1), [50, 7, 3, 2])));
+        wrong.push(look(direct, 62).0[0]);
+        remember(direct, Some((v(63, 1), [50, 7, 3, 2])));
+        wrong.push(run(direct, requests::rollback(6))[0]);
+        (shown, wrong)
+    });
+    let info = vec![0, 50, 7, 0x3F, 2];
+    let free = (info.clone(), Some(Ok([50, 7, 0x3F, 2])));
+    let busy = (info, Some(Err(3)));
+    tally.line(
+        matches!(&found, Ok((shown, _)) if *shown == [free.clone(), busy.clone(), free, busy]),
+        "difference-look on the Rust: get_info gives Busy on a value that is being moved or consumed, and before and after it the info that the driver answers meanwhile",
+    );
+    tally.line(
+        matches!(&found, Ok((_, wrong)) if *wrong == [1001, 1003, 1002]),
+        "difference-look on the Rust: Busy on a value of which nothing is remembered, another answer than Busy on one that is, and another info after the rollback: the driver answers 1001, 1003, 1002, no numbers",
     );
 }
 

@@ -8,7 +8,7 @@ use crate::coverage::{Coverage, possible};
 use crate::generate::{KINDS, Kind, Ops, Sequence, last_call, sequence_with, shrink};
 use crate::oracle::Oracle;
 use crate::requests::{ANSWER, NAMES, read_list};
-use crate::plans::Seen;
+use crate::{looks, plans};
 use crate::second_reader;
 use crate::state;
 use crate::subject::{Call, FILL, Runs, Start, Texts, Trace, difference};
@@ -40,7 +40,7 @@ pub fn show(start: &Start, calls: &[Call]) {
 pub fn random(settings: &Settings, mut other: Option<&mut dyn Runs>, tally: &mut Tally) {
     let mut oracle = Oracle::default();
     let mut coverage = Coverage::default();
-    let mut seen = Seen::default();
+    let (mut seen_plans, mut seen_looks) = (plans::Seen::default(), looks::Seen::default());
     let mut violations: BTreeMap<String, u64> = BTreeMap::new();
     let (mut differences, mut unexplained, mut readers, mut reader_faults, mut lists, mut loads) = (0, 0, 0u64, 0, 0u64, 0u64);
     let mut per_kind = [0u64; 4];
@@ -54,7 +54,7 @@ pub fn random(settings: &Settings, mut other: Option<&mut dyn Runs>, tally: &mut
             _ => Kind::Scrambled,
         };
         let length = if kind == Kind::LastPage { 30 } else { settings.length };
-        let Sequence { start, calls, trace, plans } = sequence_with(seed, kind, length, Ops::All, if other.is_some() { Texts::Last } else { Texts::Each });
+        let Sequence { start, calls, trace, plans, looks } = sequence_with(seed, kind, length, Ops::All, if other.is_some() { Texts::Last } else { Texts::Each });
         per_kind[kind as usize] += 1;
         let found = oracle.run(&start, &calls);
         let compared = match other.as_mut() {
@@ -64,7 +64,8 @@ pub fn random(settings: &Settings, mut other: Option<&mut dyn Runs>, tally: &mut
         coverage.add(&calls, &found);
         // A list that the Rust ends early is not counted.
         if found.stopped.is_none() {
-            seen.add(&plans);
+            seen_plans.add(&plans);
+            seen_looks.add(&looks);
         }
         if let Some(place) = &found.stopped {
             match explained(place) {
@@ -157,8 +158,11 @@ pub fn random(settings: &Settings, mut other: Option<&mut dyn Runs>, tally: &mut
     tally.line(unexplained == 0, &format!("{name}: {unexplained} unexplained invariant_violation, {stopped} explained"));
     if settings.covers {
         tally.line(unseen == 0 && strange == 0, &format!("{name}: coverage, {unseen} possible cells unseen, {strange} impossible cells seen"));
-        let lacking = seen.print();
-        tally.line(lacking.is_empty(), &format!("{name}: plans of every sort were made, used and dropped{}", lacking.iter().map(|what| format!("; none {what}")).collect::<String>()));
+        let told = |lacking: &[&str]| lacking.iter().map(|what| format!("; none {what}")).collect::<String>();
+        let lacking = seen_plans.print();
+        tally.line(lacking.is_empty(), &format!("{name}: plans of every sort were made, used and dropped{}", told(&lacking)));
+        let lacking = seen_looks.print();
+        tally.line(lacking.is_empty(), &format!("{name}: {} looks at values that are being moved, of every sort{}", seen_looks.looks, told(&lacking)));
     }
     tally.line(lists > 0 && differences == 0, &format!("{name}: {lists} of these lists run as one call: the same answers and the same end"));
     if !whole {

@@ -14,15 +14,17 @@ pub struct Coverage {
     pub cells: [[u64; NUMBERS]; OPS],
     pub results: [u64; NUMBERS],
     pub requests: u64,
+    /// Answers with a number that there is not.
+    beyond: usize,
 }
 
 impl Default for Coverage {
     fn default() -> Self {
-        Self { cells: [[0; NUMBERS]; OPS], results: [0; NUMBERS], requests: 0 }
+        Self { cells: [[0; NUMBERS]; OPS], results: [0; NUMBERS], requests: 0, beyond: 0 }
     }
 }
 
-/// The numbers that each request can answer, by document 01's "Orders".
+/// The numbers that each request can answer, by document 01's "Orders" and document 02.
 const POSSIBLE: [&[usize]; OPS] = [
     &[],
     &[0, 1, 6, 7, 9, 10, 11, 12, 18],
@@ -33,7 +35,7 @@ const POSSIBLE: [&[usize]; OPS] = [
     &[0, 18],
     &[0, 18],
     &[0, 18],
-    &[0, 2, 3, 16, 18],
+    &[0, 2, 16, 18],
     &[0, 2, 3, 4, 5, 16, 18],
     &[0, 2, 3, 5, 16, 18],
     &[0, 2, 3, 16, 18],
@@ -71,6 +73,7 @@ fn why_not(op: u64, number: usize) -> &'static str {
         1 | 12 if possible(op, number) => "would want a row or an id, which the held run's list does not",
         1 if op == USE_PLAN => "has its frames and its row",
         1 => "takes no row and no frame",
+        3 if op == GET_INFO => "answers for a moved value too",
         2 | 3 => "names no handle value",
         4 => "compares no kind",
         5 => "asks for no rights",
@@ -107,19 +110,22 @@ impl Coverage {
                 continue;
             }
             for (request, answer) in read_list(&call.list).unwrap_or_default().iter().zip(step.answers.chunks(ANSWER)) {
-                self.requests += 1;
-                if let Some(cell) = self.cells[request.op() as usize].get_mut(answer[0] as usize) {
-                    *cell += 1;
-                }
+                self.count(request.op(), answer[0]);
             }
         }
     }
     /// Counts one answered request.
     pub fn count(&mut self, op: u64, number: u64) {
         self.requests += 1;
-        if let Some(cell) = self.cells.get_mut(op as usize).and_then(|row| row.get_mut(number as usize)) {
-            *cell += 1;
+        match self.cells.get_mut(op as usize).and_then(|row| row.get_mut(number as usize)) {
+            Some(cell) => *cell += 1,
+            None => self.beyond += 1,
         }
+    }
+    /// How many cells were seen that can't be.
+    pub fn strange(&self, possible: Possible) -> usize {
+        let cells = (1..OPS).flat_map(|op| (0..NUMBERS).map(move |number| (op, number)));
+        self.beyond + cells.filter(|(op, number)| self.cells[*op][*number] > 0 && !possible(*op as u64, *number)).count()
     }
     /// The possible cells that were not seen, as (request, number), and how many were.
     pub fn unseen(&self, possible: Possible) -> (Vec<(usize, usize)>, usize) {
@@ -137,7 +143,7 @@ impl Coverage {
     }
     /// The table; gives how many possible cells were not seen and how many impossible ones were.
     pub fn print(&self, possible: Possible) -> (usize, usize) {
-        let (mut unseen, mut strange) = (0, 0);
+        let mut unseen = 0;
         print!("{:>22} |", "request \\ answer");
         for number in of_requests() {
             print!("{number:>8}");
@@ -153,14 +159,14 @@ impl Coverage {
                         print!("{:>8}", "UNSEEN");
                     }
                     (false, 0) => print!("{:>8}", "."),
-                    (false, _) => {
-                        strange += 1;
-                        print!("{:>8}", format!("!{count}"));
-                    }
+                    (false, _) => print!("{:>8}", format!("!{count}")),
                     _ => print!("{count:>8}"),
                 }
             }
             println!();
+        }
+        if self.beyond > 0 {
+            println!("answers with a number that there is not: {}", self.beyond);
         }
         println!("whole calls: 0 {}, 19 {}, 20 {}", self.results[0], self.results[19], self.results[20]);
         println!("cells marked '.' can't occur:");
@@ -179,6 +185,6 @@ impl Coverage {
                 println!("  {number:>2} for {}: the request {why}", ops.join(" "));
             }
         }
-        (unseen, strange)
+        (unseen, self.strange(possible))
     }
 }

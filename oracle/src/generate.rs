@@ -1,7 +1,8 @@
 //! Random lists with seeds: plain ones from creation, edges, scrambled well-formed states, and invalid values of every kind in all
 //! of them. The reading's state says which values and ids there are; every answer that counts is the other side's.
 
-use crate::plans::{Seen, Watch, is_stale};
+use crate::looks::{self, Moved, moved};
+use crate::plans::{self, is_stale};
 use crate::reading::{Reading, Slip};
 use crate::requests::*;
 use crate::state::*;
@@ -85,10 +86,12 @@ fn parameters(rng: &mut Rng) -> Vec<u64> {
     words
 }
 
-/// Which requests a list may hold. The lists that were recorded before there were plans are made without them, so that they stay as they are.
+/// Which requests a list may hold. The lists that were recorded before there were plans are made without them, and those that were recorded before a moved value could be looked at
+/// have no more such looks than come by chance, so that they stay as they are.
 #[derive(Clone, Copy, Debug, Eq, PartialEq)]
 pub enum Ops {
     WithoutPlans,
+    WithPlans,
     All,
 }
 
@@ -250,7 +253,13 @@ impl View<'_> {
             (COMMIT, 45), (DIRECT_COMMIT, 60), (DIRECT_ROLLBACK, 25), (STOPPING, 6), (TEARDOWN_START, 2), (TEARDOWN_STEP, 25),
             (TEARDOWN_FINISH, 10), (TAKE_PAGE, 40), (MAKE_PLAN, 70), (USE_PLAN, 75), (DROP_PLAN, 20),
         ];
-        let weights = if self.ops == Ops::All { &weights[..] } else { &weights[..24] };
+        if self.ops == Ops::All
+            && self.rng.chance(80)
+            && let Some(look) = self.look()
+        {
+            return look;
+        }
+        let weights = if self.ops == Ops::WithoutPlans { &weights[..24] } else { &weights[..] };
         let total: u64 = weights.iter().map(|(_, weight)| weight).sum();
         let mut op = TAKE_PAGE;
         // Requests that have nothing to work on are mostly passed over.
@@ -269,7 +278,7 @@ impl View<'_> {
         }
         // Only where the last page comes first and no slot is free has a plan two pages, and such lists are few.
         let table = &self.s.tables[0];
-        if self.ops == Ops::All && table.detached.first() == Some(&(MAX_PAGES - 1)) && table.free_count == 0 && self.rng.chance(300) {
+        if self.ops != Ops::WithoutPlans && table.detached.first() == Some(&(MAX_PAGES - 1)) && table.free_count == 0 && self.rng.chance(300) {
             let wide = self.ids(|kind| kind.frames().len() == 2 && !is_stale(self.s, kind));
             return match self.rng.pick(&wide).copied() {
                 Some(id) => use_plan(id),
@@ -419,6 +428,29 @@ impl View<'_> {
             }
             _ => take_page(self.table()),
         }
+    }
+
+    /// A look at a value that is being moved: of any claim, of those behind a copy and those far behind in a claim more often, at times with another generation.
+    fn look(&mut self) -> Option<Request> {
+        let mut all = moved(self.s);
+        let rare: fn(&Moved) -> bool = match self.rng.below(10) {
+            0..=1 => Moved::behind,
+            2..=4 => Moved::far,
+            _ => |_| true,
+        };
+        if all.iter().any(rare) {
+            all.retain(rare);
+        }
+        let mut claims: Vec<u64> = all.iter().map(|at| at.claim).collect();
+        claims.dedup();
+        let claim = *self.rng.pick(&claims)?;
+        all.retain(|at| at.claim == claim);
+        let at = *self.rng.pick(&all)?;
+        if self.rng.chance(60) {
+            let generation = 1 + self.rng.below(4);
+            return Some(get_info(at.table, self.encoded(at.table as usize, at.slot, generation)));
+        }
+        Some(get_info(at.table, at.value))
     }
 
     /// A plan's id, of those that are as wanted if there are any and only they will do.
@@ -585,7 +617,7 @@ impl View<'_> {
 /// A list spoilt on purpose: most of these are malformed.
 fn spoil(rng: &mut Rng, words: &mut Vec<u64>, ops: Ops) {
     let last = OPS as u64 - 1;
-    let edges = if ops == Ops::All { [0, last + 1, u64::MAX, last] } else { [0, 99, u64::MAX, TAKE_PAGE] };
+    let edges = if ops == Ops::WithoutPlans { [0, 99, u64::MAX, TAKE_PAGE] } else { [0, last + 1, u64::MAX, last] };
     match rng.below(8) {
         0 => {
             words.pop();
@@ -952,7 +984,8 @@ pub struct Sequence {
     pub calls: Vec<Call>,
     /// The reading's trace.
     pub trace: Trace,
-    pub plans: Seen,
+    pub plans: plans::Seen,
+    pub looks: looks::Seen,
 }
 
 /// A state some requests old, changed as its kind says.
@@ -978,7 +1011,7 @@ fn old_state(rng: &mut Rng, kind: Kind, params: &[u64], ops: Ops) -> State {
         }
         Kind::LastPage => {
             widen(rng, &mut state);
-            if ops == Ops::All && rng.chance(600) {
+            if ops != Ops::WithoutPlans && rng.chance(600) {
                 reserve_all(&mut state, 0);
                 if rng.chance(400) {
                     plan_64(&mut state);
@@ -1031,24 +1064,31 @@ pub fn sequence_with(seed: u64, kind: Kind, length: usize, ops: Ops, texts: Text
     let mut reading = Reading::new(Slip::None);
     let mut trace = Trace { start: reading.start(&start), text: reading.text().unwrap_or_default(), ..Trace::default() };
     let mut calls = Vec::new();
-    let mut watch = Watch::default();
+    let (mut plans, mut looks) = (plans::Watch::default(), looks::Watch::default());
     for at in 0..length {
         let Some(state) = reading.state() else { break };
-        let call = next_call(&mut rng, state, ops);
+        // At times a value whose claim has ended is looked at.
+        let ended = if ops == Ops::All && rng.chance(12) { looks.ended(|count| rng.below(count)) } else { None };
+        let call = match ended {
+            Some((table, value)) => Call::one(get_info(table, value).words()),
+            None => next_call(&mut rng, state, ops),
+        };
         let requests = read_list(&call.list).unwrap_or_default();
         if let [request] = requests.as_slice() {
-            watch.before(state, request);
+            plans.before(state, request);
+            looks.before(state, request);
         }
         let mut answers = vec![FILL; call.lent];
         let result = reading.call(&call.list, &mut answers);
         if let ([request], Some(state), 0) = (requests.as_slice(), reading.state(), result) {
-            watch.after(state, request, &answers);
+            plans.after(state, request, &answers);
+            looks.after(state, request, &answers);
         }
         let text = if texts == Texts::Each || at + 1 == length { reading.text().unwrap_or_default() } else { String::new() };
         trace.steps.push(Step { result, answers, text });
         calls.push(call);
     }
-    Sequence { start, calls, trace, plans: watch.seen }
+    Sequence { start, calls, trace, plans: plans.seen, looks: looks.seen }
 }
 
 /// The calls kept, with the ids and values that their answers give now in place of those that they gave in the whole list.

@@ -11,8 +11,10 @@ use crate::subject::{Call, FILL, Runs, Start, Subject, Texts, Trace};
 use crate::tally::Tally;
 use crate::words;
 
-/// The longest list between the transfer and its end.
+/// The longest list between the transfer and its end, looks at moved values apart.
 const LONGEST: u64 = 40;
+/// How many looks at moved values come to a thousand requests, beside those that the generator makes.
+const LOOKS: u64 = 70;
 
 /// Mistakes made on purpose in the comparison itself: each must show.
 #[derive(Clone, Copy, Debug, Eq, PartialEq)]
@@ -23,13 +25,15 @@ pub enum Mistake {
     EndNotLowered,
     ClosedBackwards,
     ListCutShort,
+    OtherLookedAt,
 }
-const MISTAKES: [(Mistake, &str); 5] = [
+const MISTAKES: [(Mistake, &str); 6] = [
     (Mistake::ListNotLowered, "the plain run's list keeps the held run's ids"),
     (Mistake::AnswersNotLowered, "the held run's answers keep their ids"),
     (Mistake::EndNotLowered, "the held run's end keeps its ids"),
     (Mistake::ClosedBackwards, "the plain run closes the moved values in the opposite order"),
     (Mistake::ListCutShort, "the plain run's list lacks its last request"),
+    (Mistake::OtherLookedAt, "the plain run looks at another of the moved values"),
 ];
 
 /// "Ids above the transfer's, the next id included, are one lower in P, in list, answers and state."
@@ -68,13 +72,18 @@ fn plain_state(state: &State, held: u64) -> State {
     state
 }
 
+/// A look at one of the moved values.
+fn looks(request: &Request, table: u64, values: &[u64]) -> bool {
+    request.op() == GET_INFO && request.get(TABLE) == table && values.contains(&request.get(VALUE))
+}
+
 /// Whether the list may hold this request: "The list names neither those values in that table nor that transfer's id, and neither scans,
-/// starts tearing down nor removes for a stopping owner there".
+/// starts tearing down nor removes for a stopping owner there", but "the list may now hold `get_info` on moved values".
 fn permitted(request: &Request, table: u64, values: &[u64], held: u64) -> bool {
     let there = request.record.option(TABLE) == Some(table);
     let mut records = std::iter::once(&request.record).chain(&request.items);
     let names = records.any(|record| {
-        (there && record.option(VALUE).is_some_and(|value| values.contains(&value)))
+        (there && request.op() != GET_INFO && record.option(VALUE).is_some_and(|value| values.contains(&value)))
             || record.option(ID) == Some(held)
             || record.option(DESTINATION) == Some(held)
     });
@@ -97,6 +106,8 @@ pub struct Pair {
     from: State,
     table: u64,
     values: Vec<u64>,
+    /// Koid, kind, rights and flags of each of the values before the transfer.
+    infos: Vec<[u64; 4]>,
     transfer: Request,
     list: Vec<Request>,
     commits: bool,
@@ -131,7 +142,7 @@ fn pair(seed: u64) -> Option<Pair> {
                 let object = &from.objects[handle.object as usize];
                 if handle.rights & 2 == 2 && (object.class == 0 || object.class == 1 && route != 0) {
                     let value = 0x4800_0000_0000_0000 | ((generation << 24 | (number as u64 * 64 + place as u64 + 1)) ^ held.mask);
-                    movable.push((value, handle.rights, u64::from(object.kind), object.koid));
+                    movable.push((value, handle.rights, u64::from(object.kind), object.koid, handle.flags));
                 }
             }
         }
@@ -147,8 +158,9 @@ fn pair(seed: u64) -> Option<Pair> {
     };
     movable.truncate(count as usize);
     let values: Vec<u64> = movable.iter().map(|(value, ..)| *value).collect();
+    let infos = movable.iter().map(|(_, rights, kind, koid, flags)| [*koid, *kind, *rights, *flags]).collect();
     let mut items = Vec::new();
-    for (value, rights, kind, _) in &movable {
+    for (value, rights, kind, ..) in &movable {
         let gets = rights & rng.next();
         let mut record = item(0, *value, gets);
         if rng.chance(150) {
@@ -163,10 +175,10 @@ fn pair(seed: u64) -> Option<Pair> {
     }
     let mut transfer = transfer(table, route, items);
     let (some_koid, some_kind) = (1 + rng.below(2000), rng.below(5));
-    if rng.chance(100) && movable.iter().all(|(.., koid)| *koid != some_koid) {
+    if rng.chance(100) && movable.iter().all(|(.., koid, _)| *koid != some_koid) {
         transfer = transfer.with(FORBIDDEN_OBJECT, some_koid);
     }
-    if rng.chance(100) && movable.iter().all(|(_, _, kind, _)| *kind != some_kind) {
+    if rng.chance(100) && movable.iter().all(|(_, _, kind, ..)| *kind != some_kind) {
         transfer = transfer.with(FORBIDDEN_KIND, some_kind);
     }
     let id = from.next;
@@ -179,9 +191,13 @@ fn pair(seed: u64) -> Option<Pair> {
     }
     let (length, commits) = (1 + rng.below(LONGEST), rng.chance(500));
     let mut list = Vec::new();
+    let mut others = 0;
     for _ in 0..4 * length {
         let now = reading.state()?;
-        let request = next_request(&mut rng, now, Ops::All);
+        let request = match rng.pick(&values).copied() {
+            Some(value) if rng.chance(LOOKS) => get_info(table, value),
+            _ => next_request(&mut rng, now, Ops::All),
+        };
         if !permitted(&request, table, &values, id) {
             continue;
         }
@@ -190,13 +206,14 @@ fn pair(seed: u64) -> Option<Pair> {
         if wants(&request, answer[0], reading.state()?) {
             continue;
         }
+        others += u64::from(!looks(&request, table, &values));
         list.push(request);
-        if list.len() as u64 == length {
+        if others == length {
             break;
         }
     }
     let plans = plans_of(reading.state()?);
-    (!list.is_empty()).then_some(Pair { from, table, values, transfer, list, commits, plans })
+    (!list.is_empty()).then_some(Pair { from, table, values, infos, transfer, list, commits, plans })
 }
 
 /// Requests cut into calls at random places, each with one answer word more than it needs.
@@ -269,6 +286,8 @@ struct Seen {
     long: u64,
     /// Plans compared after the list and while the transfer is held: fresh, and stale.
     plans: [u64; 2],
+    /// Looks at moved values, and of these at such whose receiver gets other rights.
+    looks: [u64; 2],
 }
 
 /// Whether a plan is stale after some requests: whether using it then gives 21. At the end of the epoch the Rust stops where it has found the plan fresh.
@@ -326,6 +345,12 @@ fn compare(pair: &Pair, seed: u64, subject: &mut dyn Runs, mistake: Mistake, see
     if mistake == Mistake::ListCutShort {
         p.pop();
     }
+    if mistake == Mistake::OtherLookedAt {
+        for request in p.iter_mut().filter(|request| looks(request, pair.table, &pair.values)) {
+            let at = pair.values.iter().position(|value| *value == request.get(VALUE)).unwrap_or(0);
+            *request = get_info(pair.table, pair.values[(at + 1) % pair.values.len()]);
+        }
+    }
     let compared = p.len();
     if pair.commits {
         let mut values = pair.values.clone();
@@ -370,6 +395,17 @@ fn compare(pair: &Pair, seed: u64, subject: &mut dyn Runs, mistake: Mistake, see
         let given = &left[place + 1];
         seen.coverage.count(request.op(), given[0]);
         seen.there += u64::from(given[0] == 0 && request.record.option(TABLE) == Some(pair.table));
+        if !possible_while_held(request.op(), given[0] as usize) {
+            faults.push(format!("answer {place} ({}): {} is no number of it", NAMES[request.op() as usize], given[0]));
+        }
+        if looks(request, pair.table, &pair.values) {
+            let at = pair.values.iter().position(|value| *value == request.get(VALUE)).unwrap_or(0);
+            seen.looks[0] += 1;
+            seen.looks[1] += u64::from(pair.transfer.items[at].get(RIGHTS) != pair.infos[at][2]);
+            if given[0] != 0 || given[1..5] != pair.infos[at] {
+                faults.push(format!("answer {place}: a look at a moved value gives {:x?}, and it had {:x?}", &given[..5], pair.infos[at]));
+            }
+        }
         let wanted = if mistake == Mistake::AnswersNotLowered { given.clone() } else { plain_answer(request, given, held) };
         if let Some(word) = (0..ANSWER).find(|word| wanted[*word] != right[place][*word]) {
             faults.push(format!("answer {place} ({}): word {word} is {:x} held and {:x} plain", NAMES[request.op() as usize], given[word], right[place][word]));
@@ -450,10 +486,10 @@ pub fn run(settings: &Settings, subject: &mut dyn Runs, tally: &mut Tally) {
         tally.line(unseen == 0 && strange == 0, &format!("held and plain run on {name}: coverage, {unseen} possible cells unseen, {strange} impossible cells seen"));
     }
     tally.line(
-        wrong == 0 && compared.iter().chain(&seen.plans).all(|count| *count > 0) && seen.there > 0 && seen.long > 0,
+        wrong == 0 && compared.iter().chain(&seen.plans).chain(&seen.looks).all(|count| *count > 0) && seen.there > 0 && seen.long > 0,
         &format!(
-            "held and plain run on {name}: {} pairs with a rollback (whole end state), {} with a commit (every table; the whole state once the parcel is released), {} transfers of more than 32 moves; {} requests between, {} of them accepted in the held transfer's table, all 72 words of each answer compared with ids one lower; {} plans fresh in both runs and {} stale in both: {wrong} differ, {stopped} not comparable (explained violations)",
-            compared[0], compared[1], seen.long, seen.coverage.requests, seen.there, seen.plans[0], seen.plans[1]
+            "held and plain run on {name}: {} pairs with a rollback (whole end state), {} with a commit (every table; the whole state once the parcel is released), {} transfers of more than 32 moves; {} requests between, {} of them accepted in the held transfer's table, all 72 words of each answer compared with ids one lower; {} looks at moved values, {} of them at such whose receiver gets other rights; {} plans fresh in both runs and {} stale in both: {wrong} differ, {stopped} not comparable (explained violations)",
+            compared[0], compared[1], seen.long, seen.coverage.requests, seen.there, seen.looks[0], seen.looks[1], seen.plans[0], seen.plans[1]
         ),
     );
     // A comparison that can't fail shows nothing.
@@ -466,7 +502,9 @@ pub fn run(settings: &Settings, subject: &mut dyn Runs, tally: &mut Tally) {
 
 /// Wrong readings that the two runs must tell apart.
 pub fn slips(seed: u64, tally: &mut Tally) {
-    for slip in [Slip::CommitPutsSlotsBackwards, Slip::BusyCountedTwice, Slip::HeldSlotsCountAsFree] {
+    for slip in [
+        Slip::CommitPutsSlotsBackwards, Slip::BusyCountedTwice, Slip::HeldSlotsCountAsFree, Slip::MovedIsBusyToLooks, Slip::LookShowsWhatTheReceiverGets, Slip::LookInTheFirstClaim,
+    ] {
         let settings = Settings { name: "a wrong reading", seed, pairs: 400, covers: false };
         let (compared, wrong, _) = pairs(&settings, &mut Reading::new(slip), Mistake::None, &mut Seen::default(), false);
         tally.line(wrong > 0, &format!("held and plain run on a wrong reading ({slip:?}): {wrong} of {} pairs differ", compared[0] + compared[1]));

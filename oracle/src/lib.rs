@@ -19,6 +19,7 @@ pub mod c_entry;
 pub mod coverage;
 pub mod generate;
 pub mod held;
+pub mod looks;
 pub mod plans;
 pub mod reading;
 pub mod recorded;

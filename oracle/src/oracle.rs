@@ -14,9 +14,15 @@ use crate::words;
 #[derive(Default)]
 pub struct Direct {
     pub(crate) machine: Option<Machine>,
+    /// For times: nothing is remembered of what is moved.
+    forgets: bool,
 }
 
 impl Direct {
+    /// The Rust to be timed: it is asked nothing before a preparation, and a look at a moved value gets its own Busy.
+    pub fn timed() -> Self {
+        Self { machine: None, forgets: true }
+    }
     pub(crate) fn end(&mut self) {
         if let Some(machine) = self.machine.take() {
             machine.discard();
@@ -33,7 +39,9 @@ impl Subject for Direct {
         };
         match state {
             Some(state) => {
-                self.machine = Some(Machine::load(&state));
+                let mut machine = Machine::load(&state);
+                machine.remembers = !self.forgets;
+                self.machine = Some(machine);
                 0
             }
             None => 18,

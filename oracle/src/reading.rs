@@ -1,4 +1,4 @@
-//! Document 01 and the first request of document 02, read directly on plain lists: no links, no tokens, nothing of the Rust. It is compared with the oracle, and the
+//! Document 01 and the first two requests of document 02, read directly on plain lists: no links, no tokens, nothing of the Rust. It is compared with the oracle, and the
 //! recorded lists are replayed against it where there is no Rust. A `Slip` makes it wrong on purpose.
 
 use crate::requests::{self as rq, ANSWER, Request, read_list};
@@ -46,9 +46,18 @@ pub enum Slip {
     StaleByEpochAlone,
     StaleByFreeSlotsAlone,
     HeldSlotsCountAsFree,
+    MovedIsBusyToLooks,
+    LookShowsWhatTheReceiverGets,
+    LookByPlaceAmongMoves,
+    LookInTheFirstClaim,
+    LookAtAnyGeneration,
+    ConsumedIsBusyToLooks,
+    ReservedShowsAHandle,
+    ResolveSeesMoved,
+    DuplicateSeesMoved,
 }
 
-pub const SLIPS: [(Slip, &str); 31] = [
+pub const SLIPS: [(Slip, &str); 40] = [
     (Slip::RollbackByPlaceAmongMoves, "rollback takes a moved handle by its place among the moves"),
     (Slip::ScanStopsAt255, "a scan stops after 255 slots"),
     (Slip::NewPageDownward, "a new page is published downward"),
@@ -80,6 +89,15 @@ pub const SLIPS: [(Slip, &str); 31] = [
     (Slip::StaleByEpochAlone, "a plan is stale by the epoch alone"),
     (Slip::StaleByFreeSlotsAlone, "a plan is stale by the number of free slots alone"),
     (Slip::HeldSlotsCountAsFree, "a snapshot counts the slots of open claims as free"),
+    (Slip::MovedIsBusyToLooks, "get_info on a moved value gives Busy"),
+    (Slip::LookShowsWhatTheReceiverGets, "get_info on a moved value shows the rights that the receiver gets"),
+    (Slip::LookByPlaceAmongMoves, "get_info takes a moved handle by its place among the moves"),
+    (Slip::LookInTheFirstClaim, "get_info looks for a moved handle in the table's first claim"),
+    (Slip::LookAtAnyGeneration, "get_info on a moved slot answers to any generation"),
+    (Slip::ConsumedIsBusyToLooks, "get_info on a value that is being consumed gives Busy"),
+    (Slip::ReservedShowsAHandle, "get_info on a Reserved slot shows a handle of a claim"),
+    (Slip::ResolveSeesMoved, "resolve answers for a moved value"),
+    (Slip::DuplicateSeesMoved, "duplicate answers for a moved value"),
 ];
 
 pub struct Reading {
@@ -380,6 +398,51 @@ impl State {
         Err(18)
     }
 
+    /// The items of each open claim of a table.
+    fn claims_of(&self, number: usize) -> impl Iterator<Item = &[ClaimEntry]> {
+        self.rows.iter().filter_map(move |row| match &row.kind {
+            RowKind::Claim { table, entries } if *table == number as u64 => Some(entries.as_slice()),
+            _ => None,
+        })
+    }
+    /// "Let `get_info` answer for the handle of a TransferReserved slot, consumption included, with the koid, kind, rights and flags it had before": the item of an open claim that
+    /// moves the slot keeps the handle as it was. Any other value names what it names to every request.
+    fn shown(&self, number: usize, value: u64, slip: Slip) -> Result<Handle, u64> {
+        let table = &self.tables[number];
+        let named = decode(table.mask, value).and_then(|(slot, generation)| Some((slot, generation, table.slot(slot)?)));
+        let slot = match named {
+            Some((slot, generation, Slot::Moving(found))) if found == generation || slip == Slip::LookAtAnyGeneration => slot,
+            Some((_, generation, Slot::Reserved(found))) if found == generation && slip == Slip::ReservedShowsAHandle => {
+                return self.claims_of(number).next().map(|entries| entries[0].handle()).ok_or(2);
+            }
+            _ => return table.lookup(value, slip).map(|(_, _, handle)| handle),
+        };
+        for entries in self.claims_of(number) {
+            for (position, entry) in entries.iter().enumerate() {
+                if let ClaimEntry::Move { slot: moved, handle, gets } = entry
+                    && *moved == slot
+                {
+                    return match slip {
+                        Slip::MovedIsBusyToLooks => Err(3),
+                        // A consumption is a claim of one move that keeps its rights.
+                        Slip::ConsumedIsBusyToLooks if entries.len() == 1 && *gets == handle.rights => Err(3),
+                        Slip::LookShowsWhatTheReceiverGets => Ok(Handle { rights: *gets, ..*handle }),
+                        Slip::LookByPlaceAmongMoves => {
+                            let place = entries[..position].iter().filter(|entry| matches!(entry, ClaimEntry::Move { .. })).count();
+                            Ok(entries[place].handle())
+                        }
+                        Slip::LookInTheFirstClaim => {
+                            let first = self.claims_of(number).next().unwrap_or(entries);
+                            Ok(first[position.min(first.len() - 1)].handle())
+                        }
+                        _ => Ok(*handle),
+                    };
+                }
+            }
+        }
+        unreachable!("each TransferReserved slot stands in an open claim")
+    }
+
     /// What a reservation and a plan ask for, in the order of a reservation: 16, 17, 13, 15, 1, 12. The table and the snapshot.
     fn room(&self, request: &Request, slip: Slip) -> Result<(usize, Snapshot), u64> {
         let number = self.table_of(request)?;
@@ -522,7 +585,10 @@ impl State {
                 let table = self.table_of(request)?;
                 self.tables[table].active()?;
                 self.free_row()?;
-                let (_, _, handle) = self.tables[table].lookup(request.get(rq::VALUE), slip)?;
+                let handle = match slip {
+                    Slip::DuplicateSeesMoved => self.shown(table, request.get(rq::VALUE), slip)?,
+                    _ => self.tables[table].lookup(request.get(rq::VALUE), slip)?.2,
+                };
                 let rights = request.get(rq::RIGHTS);
                 if !contains(handle.rights, RIGHT_DUPLICATE) || !contains(handle.rights, rights) {
                     return Err(5);
@@ -665,13 +731,16 @@ impl State {
             rq::GET_INFO => {
                 let table = self.table_of(request)?;
                 self.tables[table].active()?;
-                let (_, _, handle) = self.tables[table].lookup(request.get(rq::VALUE), slip)?;
+                let handle = self.shown(table, request.get(rq::VALUE), slip)?;
                 Ok(self.info(handle).to_vec())
             }
             rq::RESOLVE => {
                 let table = self.table_of(request)?;
                 self.tables[table].active()?;
-                let (_, _, handle) = self.tables[table].lookup(request.get(rq::VALUE), slip)?;
+                let handle = match slip {
+                    Slip::ResolveSeesMoved => self.shown(table, request.get(rq::VALUE), slip)?,
+                    _ => self.tables[table].lookup(request.get(rq::VALUE), slip)?.2,
+                };
                 if !contains(handle.rights, request.get(rq::RIGHTS)) {
                     return Err(5);
                 }

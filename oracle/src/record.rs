@@ -18,6 +18,9 @@ const RANDOM: [(Kind, u64, usize); 4] = [(Kind::Plain, 40, 110), (Kind::Edges, 3
 const MIXED: [(Kind, u64, usize); 3] = [(Kind::Plain, 24, 110), (Kind::Edges, 16, 60), (Kind::Scrambled, 16, 60)];
 /// The same with plans, for plans.txt.
 const PLANS: [(Kind, u64, usize); 4] = [(Kind::Plain, 12, 110), (Kind::Edges, 6, 60), (Kind::Scrambled, 6, 60), (Kind::LastPage, 2, 30)];
+/// The same for looks.txt: lists that look at moved values this often or more.
+const LOOKS: [(Kind, u64, usize); 3] = [(Kind::Plain, 4, 110), (Kind::Edges, 3, 60), (Kind::Scrambled, 3, 60)];
+const OFTEN: u64 = 6;
 const SEED: u64 = 0x5EED_0000;
 
 /// File names and contents.
@@ -45,13 +48,16 @@ pub fn all() -> Vec<(String, String)> {
     changed.extend(states(&mut oracle, "plan-state", 8, small_planned_state));
     files.push(("states.txt".to_string(), write(&changed)));
     for kind in RANDOM {
-        files.push((format!("{}.txt", name_of(kind.0)), write(&random(&mut oracle, "", SEED, Ops::WithoutPlans, kind))));
+        files.push((format!("{}.txt", name_of(kind.0)), write(&random(&mut oracle, "", SEED, Ops::WithoutPlans, kind, 0))));
     }
-    let mixed: Vec<Case> = MIXED.into_iter().flat_map(|kind| random(&mut oracle, "mixed-", SEED + 0x1000, Ops::WithoutPlans, kind)).collect();
+    let mixed: Vec<Case> = MIXED.into_iter().flat_map(|kind| random(&mut oracle, "mixed-", SEED + 0x1000, Ops::WithoutPlans, kind, 0)).collect();
     files.push(("mixed.txt".to_string(), write(&mixed)));
     let mut plans = of_cases(&mut oracle, cases::plans::all());
-    plans.extend(PLANS.into_iter().flat_map(|kind| random(&mut oracle, "plans-", SEED + 0x2000, Ops::All, kind)));
+    plans.extend(PLANS.into_iter().flat_map(|kind| random(&mut oracle, "plans-", SEED + 0x2000, Ops::WithPlans, kind, 0)));
     files.push(("plans.txt".to_string(), write(&plans)));
+    let mut looks = of_cases(&mut oracle, cases::looks::all());
+    looks.extend(LOOKS.into_iter().flat_map(|kind| random(&mut oracle, "looks-", SEED + 0x3000, Ops::All, kind, OFTEN)));
+    files.push(("looks.txt".to_string(), write(&looks)));
     files
 }
 
@@ -59,16 +65,16 @@ fn name_of(kind: Kind) -> &'static str {
     KINDS.iter().find(|(known, _)| *known == kind).map_or("", |(_, name)| name)
 }
 
-/// Random lists of a kind, from a seed on.
-fn random(oracle: &mut Oracle, prefix: &str, from: u64, ops: Ops, (kind, count, length): (Kind, u64, usize)) -> Vec<Case> {
-    let mut cases = Vec::new();
-    for number in 0..count {
-        let seed = from + number;
-        let made = sequence(seed, kind, length, ops);
-        let found = oracle.run(&made.start, &made.calls);
-        cases.push(from_traces(&format!("{prefix}{}-{number}", name_of(kind)), &format!("random, seed {seed:x}"), &made.start, &made.calls, &found, &made.trace));
-    }
-    cases
+/// Random lists of a kind, from a seed on: the first that look at moved values so often or more.
+fn random(oracle: &mut Oracle, prefix: &str, from: u64, ops: Ops, (kind, count, length): (Kind, u64, usize), often: u64) -> Vec<Case> {
+    let made = (from..).map(|seed| (seed, sequence(seed, kind, length, ops))).filter(|(_, made)| made.looks.looks >= often);
+    made.take(count as usize)
+        .enumerate()
+        .map(|(number, (seed, made))| {
+            let found = oracle.run(&made.start, &made.calls);
+            from_traces(&format!("{prefix}{}-{number}", name_of(kind)), &format!("random, seed {seed:x}"), &made.start, &made.calls, &found, &made.trace)
+        })
+        .collect()
 }
 
 /// Small states with one or two words changed, and whether they are still well formed. Decided by the driver's check, not by the Rust.

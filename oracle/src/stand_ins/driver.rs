@@ -24,9 +24,12 @@ struct TableBox {
     teardown: Option<TeardownCursor>,
 }
 
+/// What the Rust's own `get_info` said of each value that a claim moves, in the claim's order, before there was the claim.
+type Before = Vec<(HandleValue, [u64; 4])>;
+
 enum Token {
     Reservation(usize, HandleBatchReservation),
-    Claim(usize, HandleTransferClaim),
+    Claim(usize, HandleTransferClaim, Before),
     Parcel(Vec<PreparedHandle>),
     Plan(Planned),
 }
@@ -61,14 +64,22 @@ pub(crate) struct Machine {
     rows: Vec<Row>,
     /// The Rust's `NEXT_RESERVATION_ID` between calls. DRIVER: a parcel made from a new object or a duplicate moves it one on.
     next: u64,
+    /// DRIVER: whether the Rust is asked what it says of a value before it is moved. Not where it is timed: a look at a moved value then gets the Rust's own Busy.
+    pub(crate) remembers: bool,
 }
 
 type Step = Result<Vec<u64>, u64>;
 
 /// StalePlan. The Rust has no such error.
 const STALE: u64 = 21;
-/// No number of any request: the snapshots of a plan made here differ in the directory chunk alone, which is not expected, and shows as a difference.
+/// No numbers of any request: what is not expected, and shows as a difference. The snapshots of a plan made here differ in the directory chunk alone.
 const CHUNK_ALONE: u64 = 1000;
+/// The Rust gives Busy to a look at a value of which nothing is remembered.
+const NOT_REMEMBERED: u64 = 1001;
+/// After a rollback the Rust says another thing of a value than before the claim.
+const NOT_AS_BEFORE: u64 = 1002;
+/// The Rust gives another thing than Busy to a look at a value that an open claim moves.
+const NOT_BUSY: u64 = 1003;
 
 fn number_of(error: HandleError) -> u64 {
     match error {
@@ -133,6 +144,17 @@ fn closed_info(closed: &ClosedHandle) -> HandleInfo {
     }
 }
 
+/// A slot that holds the handle of a loaded claim is asked about, as the slots of a claim that is made are, and marked.
+fn mark_moved(table: &mut HandleTable, index: usize, generation: u64, transfer: ReservationId) -> (HandleValue, [u64; 4]) {
+    let value = table.codec.encode(index, generation);
+    let (Ok(info), Some(slot)) = (table.get_info(value), table.slots.get_mut(index)) else { crate::violation::invariant_violation() };
+    match core::mem::replace(slot, Slot::TransferReserved { generation, transfer }) {
+        Slot::Occupied { handle, .. } => forget(handle),
+        _ => crate::violation::invariant_violation(),
+    }
+    (value, info_words(info))
+}
+
 impl Machine {
     /// Builds the Rust's structures for a well-formed state.
     pub(crate) fn load(state: &State) -> Self {
@@ -143,8 +165,9 @@ impl Machine {
         };
         let mut tables = Vec::new();
         for (number, table) in state.tables.iter().enumerate() {
-            // Which row each marked slot stands in.
+            // Which row each marked slot stands in, and the handle of each that is moved.
             let mut marks = std::collections::HashMap::new();
+            let mut moved = std::collections::HashMap::new();
             let mut claims = 0;
             for (rank, row) in state.rows.iter().enumerate() {
                 match &row.kind {
@@ -154,8 +177,9 @@ impl Machine {
                     RowKind::Claim { table, entries } if *table == number as u64 => {
                         claims += 1;
                         for entry in entries {
-                            if let ClaimEntry::Move { slot, .. } = entry {
+                            if let ClaimEntry::Move { slot, handle, .. } = entry {
                                 marks.insert(*slot, rank);
+                                moved.insert(*slot, *handle);
                             }
                         }
                     }
@@ -200,7 +224,8 @@ impl Machine {
                                     previous_free: previous_free.get(&index).copied(),
                                 },
                                 st::Slot::Reserved(generation) => Slot::Reserved { generation, reservation: id_of(marks[&index]) },
-                                st::Slot::Moving(generation) => Slot::TransferReserved { generation, transfer: id_of(marks[&index]) },
+                                // As it was before its claim: it is marked below, when the Rust has said what it is.
+                                st::Slot::Moving(generation) => Slot::Occupied { generation, handle: loaded(moved[&index]) },
                                 st::Slot::Occupied(generation, handle) => Slot::Occupied { generation, handle: loaded(handle) },
                             }
                         })
@@ -279,6 +304,15 @@ impl Machine {
                         handles: Some(entries.iter().map(|entry| loaded(entry.handle())).collect()),
                         completed: false,
                     },
+                    entries
+                        .iter()
+                        .filter_map(|entry| match entry {
+                            ClaimEntry::Move { slot, .. } => {
+                                Some(mark_moved(&mut tables[*table as usize].table, *slot as usize, generation_of(*table, *slot), id_of(rank)))
+                            }
+                            ClaimEntry::Copy(_) => None,
+                        })
+                        .collect(),
                 ),
                 RowKind::Parcel(handles) => Token::Parcel(handles.iter().map(|handle| loaded(*handle)).collect()),
                 RowKind::Plan { table, count, kept, frames } => Token::Plan(Planned {
@@ -295,7 +329,7 @@ impl Machine {
         for frame in &state.free_frames {
             free_frames[*frame as usize] = true;
         }
-        Self { tables, free_frames, row_capacity: state.row_capacity as usize, rows, next: state.next }
+        Self { tables, free_frames, row_capacity: state.row_capacity as usize, rows, next: state.next, remembers: true }
     }
 
     /// Ends everything without running any rule of the Rust.
@@ -303,7 +337,7 @@ impl Machine {
         for row in self.rows.drain(..) {
             match row.token {
                 Token::Reservation(_, mut token) => token.completed = true,
-                Token::Claim(_, mut token) => {
+                Token::Claim(_, mut token, _) => {
                     token.completed = true;
                     for handle in token.handles.take().into_iter().flatten() {
                         forget(handle);
@@ -346,11 +380,14 @@ impl Machine {
                         slots: token.slots.iter().map(|slot| slot.index as u64).collect(),
                     }
                 }
-                Token::Claim(table, token) => {
+                Token::Claim(table, token, before) => {
                     let empty = Vec::new();
                     let handles = token.handles.as_ref().unwrap_or(&empty);
                     if handles.len() != token.entries.len() || token.transfer.0.get() != row.id {
                         return Err(format!("row {}: the claim's lengths or id differ", row.id));
+                    }
+                    if self.remembers && !token.values().eq(before.iter().map(|(value, _)| *value)) {
+                        return Err(format!("row {}: other values are moved than are remembered", row.id));
                     }
                     let mut entries = Vec::new();
                     for (entry, handle) in token.entries.iter().zip(handles) {
@@ -488,7 +525,7 @@ impl Machine {
         let mut listed = 0;
         for row in &self.rows {
             match &row.token {
-                Token::Claim(of, token) if *of == number => {
+                Token::Claim(of, token, _) if *of == number => {
                     claims += 1;
                     listed += token.values().count();
                 }
@@ -558,11 +595,36 @@ impl Machine {
             _ => crate::violation::invariant_violation(),
         }
     }
-    fn take_claim(&mut self, at: usize) -> (usize, HandleTransferClaim) {
+    fn take_claim(&mut self, at: usize) -> (usize, HandleTransferClaim, Before) {
         match self.rows.remove(at).token {
-            Token::Claim(table, token) => (table, token),
+            Token::Claim(table, token, before) => (table, token, before),
             _ => crate::violation::invariant_violation(),
         }
+    }
+
+    /// What the Rust says of values that are about to be moved. A value that it refuses is left out: so is its preparation refused.
+    fn ask_before(&self, table: usize, values: impl Iterator<Item = HandleValue>) -> Before {
+        if !self.remembers {
+            return Vec::new();
+        }
+        values.filter_map(|value| self.tables[table].table.get_info(value).ok().map(|info| (value, info_words(info)))).collect()
+    }
+
+    /// What the Rust said of a value, if an open claim of the table moves it.
+    fn before(&self, table: usize, value: HandleValue) -> Option<[u64; 4]> {
+        let mut known = self.rows.iter().filter_map(|row| match &row.token {
+            Token::Claim(of, _, before) if *of == table => before.iter().find(|(moved, _)| *moved == value),
+            _ => None,
+        });
+        known.next().map(|(_, info)| *info)
+    }
+
+    /// The Rust's rollback. What it says of the values then is what it said before the claim.
+    fn roll_back(&mut self, table: usize, claim: HandleTransferClaim, before: &Before) -> Result<(), u64> {
+        let table = &mut self.tables[table].table;
+        drop(claim.rollback_with_storage(table));
+        let same = |(value, info): &(HandleValue, [u64; 4])| table.get_info(*value).is_ok_and(|now| info_words(now) == *info);
+        if before.iter().all(same) { Ok(()) } else { Err(NOT_AS_BEFORE) }
     }
 
     /// DRIVER: 1 for want of a row.
@@ -807,8 +869,14 @@ impl Machine {
             rq::GET_INFO => {
                 let table = self.table(request)?;
                 let value = self.value(table, request.get(rq::VALUE));
-                let info = self.tables[table].table.get_info(value).map_err(refuse)?;
-                Ok(info_words(info).to_vec())
+                let given = self.tables[table].table.get_info(value);
+                // DRIVER: document 02 has the handle of a moved value shown as it was. That it is moved is the Rust's Busy, and how it was the Rust's own answer from before.
+                match (given, self.before(table, value)) {
+                    (Err(HandleError::Busy), Some(info)) => Ok(info.to_vec()),
+                    (Err(HandleError::Busy), None) if self.remembers => Err(NOT_REMEMBERED),
+                    (_, Some(_)) => Err(NOT_BUSY),
+                    (given, None) => Ok(info_words(given.map_err(refuse)?).to_vec()),
+                }
             }
             rq::RESOLVE => {
                 let table = self.table(request)?;
@@ -872,6 +940,8 @@ impl Machine {
                     })
                     .collect();
                 let mut storage = Some(HandleTransferStorage::try_new(items.len()).map_err(refuse)?);
+                let moves = items.iter().filter(|item| item.operation == HandleTransferOperation::Move);
+                let before = self.ask_before(table, moves.map(|item| item.value));
                 let claim = self.tables[table].table.prepare_transfer_with_storage(
                     &items,
                     request.record.option(rq::FORBIDDEN_OBJECT).map(Koid),
@@ -887,7 +957,7 @@ impl Machine {
                 drop(storage);
                 let claim = claim.map_err(refuse)?;
                 let id = claim.transfer.0.get();
-                self.rows.push(Row { id, token: Token::Claim(table, claim) });
+                self.rows.push(Row { id, token: Token::Claim(table, claim, before) });
                 Ok(alloc::vec![id])
             }
             rq::CONSUME => {
@@ -896,6 +966,7 @@ impl Machine {
                 self.free_row()?;
                 let value = self.value(table, request.get(rq::VALUE));
                 let mut storage = Some(HandleTransferStorage::try_new(1).map_err(refuse)?);
+                let before = self.ask_before(table, core::iter::once(value));
                 let claim = self.tables[table]
                     .table
                     .prepare_consumption_with_storage(
@@ -907,19 +978,19 @@ impl Machine {
                     )
                     .map_err(refuse)?;
                 let id = claim.transfer.0.get();
-                self.rows.push(Row { id, token: Token::Claim(table, claim) });
+                self.rows.push(Row { id, token: Token::Claim(table, claim, before) });
                 Ok(alloc::vec![id])
             }
             rq::ROLLBACK => {
                 let at = self.claim_at(request.get(rq::ID))?;
-                let (table, claim) = self.take_claim(at);
-                drop(claim.rollback_with_storage(&mut self.tables[table].table));
+                let (table, claim, before) = self.take_claim(at);
+                self.roll_back(table, claim, &before)?;
                 Ok(Vec::new())
             }
             rq::COMMIT => {
                 let at = self.claim_at(request.get(rq::ID))?;
                 let id = self.rows[at].id;
-                let (table, claim) = self.take_claim(at);
+                let (table, claim, _) = self.take_claim(at);
                 let (batch, retired) = claim.commit_with_storage(&mut self.tables[table].table);
                 drop(retired);
                 // DRIVER: the claim's row becomes a parcel of the same id.
@@ -931,17 +1002,17 @@ impl Machine {
                 let reservation_at = self.reservation_at(request.get(rq::DESTINATION))?;
                 // DRIVER: lengths differ.
                 match (&self.rows[claim_at].token, &self.rows[reservation_at].token) {
-                    (Token::Claim(_, claim), Token::Reservation(_, token)) if claim.len() == token.values().len() => {}
+                    (Token::Claim(_, claim, _), Token::Reservation(_, token)) if claim.len() == token.values().len() => {}
                     _ => return Err(18),
                 }
-                let (source, claim) = self.take_claim(claim_at);
+                let (source, claim, before) = self.take_claim(claim_at);
                 let reservation_at = self.reservation_at(request.get(rq::DESTINATION))?;
                 let (destination, token) = self.take_reservation(reservation_at);
                 if op == rq::DIRECT_ROLLBACK {
                     // DRIVER: the Rust's own direct rollback is for tests and for two tables; its two halves are these.
-                    drop(claim.rollback_with_storage(&mut self.tables[source].table));
+                    let rolled = self.roll_back(source, claim, &before);
                     drop(token.abort(&mut self.tables[destination].table));
-                    return Ok(Vec::new());
+                    return rolled.map(|()| Vec::new());
                 }
                 let direct = DirectHandleTransfer::new(source as u64 + 1, destination as u64 + 1, claim, token);
                 if source == destination {
@@ -1049,10 +1120,19 @@ pub(crate) mod bare {
     pub(crate) fn flags_known(bits: u32) -> bool {
         HandleFlags::from_bits(bits).is_some()
     }
-    /// `get_info` with the value as it is, whatever its prefix.
+    /// `get_info` with the value as it is, whatever its prefix and whether it is moved or not.
     pub(crate) fn get_info_raw(machine: &Machine, table: usize, value: u64) -> Result<[u64; 4], u64> {
         let value = HandleValue(NonZeroU64::new(value).ok_or(2u64)?);
         machine.tables[table].table.get_info(value).map(info_words).map_err(number_of)
+    }
+    /// Of what the open claims move nothing is remembered, or this alone.
+    pub(crate) fn remember_only(machine: &mut Machine, known: Option<(u64, [u64; 4])>) {
+        let known = known.and_then(|(value, info)| Some((HandleValue(NonZeroU64::new(value)?), info)));
+        for row in &mut machine.rows {
+            if let Token::Claim(_, _, before) = &mut row.token {
+                *before = known.into_iter().collect();
+            }
+        }
     }
     /// Moves of these raw values, whatever their prefix.
     pub(crate) fn move_raw(machine: &mut Machine, table: usize, values: &[u64]) -> Result<(), u64> {
