@@ -2,9 +2,10 @@
  *   - it ends with 0, 18, 19 or 20, and where it is not 0 no word has changed;
  *   - after 0 the state is well formed, its sizes and the words past its end are as they were, and so are the words after the last answer;
  *   - each answer's number is one that document 01's orders, or document 02, give to its request, and after a refusal the other 71 words are 0;
- *   - requests that are refused, or only look, change no word of the state, save the next id, one higher for a refused transfer.
+ *   - requests that are refused, or only look, change no word of the state, save the next id, one higher for a refused transfer;
+ *   - get_info of a moved value gives what its claim keeps of the handle, and to the other requests that name one value it is Busy.
  * The words lent stand at the end of a mapping, before a page that can't be touched: a read or write past them ends the program. A request
- * that was never accepted or never refused, or a number that was not seen, is a failure too.
+ * that was never accepted or never refused, a number that was not seen, or no look at a moved value is a failure too.
  *   any_words [SEED [CALLS]] */
 #define _DEFAULT_SOURCE
 #include <inttypes.h>
@@ -57,7 +58,8 @@ enum {
     HEADS = 16,
     ENTRIES = HEADS + 16 * TABLES,
     SLOTS = ENTRIES + 5 * TABLES * PAGES + FRAMES + 3,
-    INDEX = SLOTS + 384 * FRAMES + 8 * OBJECTS,
+    RECORDS = SLOTS + 384 * FRAMES,
+    INDEX = RECORDS + 8 * OBJECTS,
     BOOK = INDEX + 2 * ROWS,
     GOOD = BOOK + 390 * ROWS,
     RESERVATION = 1,
@@ -66,7 +68,7 @@ enum {
     PLAN = 4
 };
 static struct lent state, list, answers;
-static uint64_t results[21], numbers[NUMBERS], accepted[OPS], refused[OPS], long_transfers, calls_that_kept;
+static uint64_t results[21], numbers[NUMBERS], accepted[OPS], refused[OPS], long_transfers, looks, calls_that_kept;
 static uint64_t good_state[GOOD];
 
 static const uint64_t must[OPS] = {
@@ -75,7 +77,7 @@ static const uint64_t must[OPS] = {
     GURTXOZAL_MUST_COMMIT, GURTXOZAL_MUST_DIRECT_COMMIT, GURTXOZAL_MUST_DIRECT_ROLLBACK, GURTXOZAL_MUST_REMOVE_STOPPING_OWNER, GURTXOZAL_MUST_TEARDOWN_START, GURTXOZAL_MUST_TEARDOWN_STEP, GURTXOZAL_MUST_TEARDOWN_FINISH,
     GURTXOZAL_MUST_TAKE_EMPTY_PAGE, GURTXOZAL_MUST_MAKE_PLAN, GURTXOZAL_MUST_USE_PLAN, GURTXOZAL_MUST_DROP_PLAN};
 
-/* The numbers that each request can answer, by document 01's "Orders" and document 02's ticket 1, as bits. */
+/* The numbers that each request can answer, by document 01's "Orders" and document 02's tickets 1 and 2, as bits. */
 #define N(number) (UINT32_C(1) << (number))
 #define ONLY_MISUSE (N(0) | N(18))
 static const uint32_t possible[OPS] = {
@@ -88,7 +90,7 @@ static const uint32_t possible[OPS] = {
     ONLY_MISUSE,
     ONLY_MISUSE,
     ONLY_MISUSE,
-    ONLY_MISUSE | N(2) | N(3) | N(16),
+    ONLY_MISUSE | N(2) | N(16),
     ONLY_MISUSE | N(2) | N(3) | N(4) | N(5) | N(16),
     ONLY_MISUSE | N(2) | N(3) | N(5) | N(16),
     ONLY_MISUSE | N(2) | N(3) | N(16),
@@ -124,10 +126,13 @@ static size_t slots_of(uint64_t table, uint64_t tag, uint64_t *found) {
     }
     return n;
 }
-/* A value of a table: mostly of an occupied slot, else of any marked one, a neighbour's, or any word. */
-static uint64_t value_in(uint64_t table) {
+/* A value of a table: mostly of an occupied slot, for a look as often of a moved one if there is one, else of any marked one, a neighbour's, or any word. */
+static uint64_t value_in(uint64_t table, uint64_t op) {
     uint64_t found[64 * PAGES];
-    size_t n = slots_of(table < TABLES ? table : 0, below(4) ? 3 : below(2) * 2, found);
+    size_t n = op == GURTXOZAL_OP_GET_INFO && below(2) ? slots_of(table < TABLES ? table : 0, 2, found) : 0;
+    if (n == 0) {
+        n = slots_of(table < TABLES ? table : 0, below(4) ? 3 : below(2) * 2, found);
+    }
     if (n == 0 || below(20) == 0) {
         return below(2) ? next() : GURTXOZAL_PREFIX | next() >> 8;
     }
@@ -172,7 +177,7 @@ static uint64_t word_for(int field, uint64_t op, uint64_t table, uint64_t id) {
     case GURTXOZAL_FIELD_TABLE: return table;
     case GURTXOZAL_FIELD_OBJECT: return below(30) ? below(OBJECTS) : next();
     case GURTXOZAL_FIELD_COUNT: return below(8) ? 1 + below(4) : below(3) ? below(70) : below(2) ? next() : UINT64_MAX;
-    case GURTXOZAL_FIELD_VALUE: return value_in(table);
+    case GURTXOZAL_FIELD_VALUE: return value_in(table, op);
     case GURTXOZAL_FIELD_RIGHTS: return op == GURTXOZAL_OP_RESOLVE || op == GURTXOZAL_OP_PREPARE_CONSUMPTION ? below(4) : any_rights();
     case GURTXOZAL_FIELD_FLAGS: return below(6) ? below(4) : below(2) ? below(20) : next();
     case GURTXOZAL_FIELD_ID: return id;
@@ -401,6 +406,31 @@ static size_t record_words(const uint64_t *record, uint64_t *items) {
     return 1 + (size_t)__builtin_popcountll(record[0]);
 }
 
+/* Whether a request names one value, and that value a slot of its generation which a claim has marked, in a state of these words; and what the claim keeps of the handle. */
+static bool names_moved(const uint64_t *words, const uint64_t *record, uint64_t info[4]) {
+    const uint64_t sizes[] = {TABLES, FRAMES, OBJECTS, ROWS}, op = record[1];
+    if (op != GURTXOZAL_OP_DUPLICATE && (op < GURTXOZAL_OP_GET_INFO || op > GURTXOZAL_OP_CLOSE) && op != GURTXOZAL_OP_PREPARE_CONSUMPTION) {
+        return false;
+    }
+    const uint64_t table = record[2], value = record[3];
+    if (memcmp(words + 1, sizes, sizeof sizes) != 0 || table >= TABLES || (value & GURTXOZAL_PREFIX_MASK) != GURTXOZAL_PREFIX) {
+        return false;
+    }
+    const uint64_t *head = words + HEADS + 16 * table;
+    const uint64_t payload = (value & ~GURTXOZAL_PREFIX_MASK) ^ head[1], slot = (payload & 0xFFFFFF) - 1, page = slot / 64;
+    const uint64_t frame = page < head[5] ? words[ENTRIES + 5 * (head[10] + page)] : 0;
+    if (frame == 0) {
+        return false;
+    }
+    const uint64_t *found = words + SLOTS + 384 * (frame - 1) + 6 * (slot % 64);
+    if (found[0] != 2 || found[1] != payload >> 24) {
+        return false;
+    }
+    const uint64_t *item = words + BOOK + 390 * found[2] + 6 * (1 + found[3]), *object = words + RECORDS + 8 * item[2];
+    info[0] = object[0], info[1] = object[1], info[2] = item[3], info[3] = item[4];
+    return true;
+}
+
 /* What is known of a call that gave 0: words n before (state.kept) and now, the list, k answer words. */
 static void check_run(const uint64_t *words, size_t n, const uint64_t *requests, size_t m, const uint64_t *out, size_t k) {
     const uint64_t *old = state.kept;
@@ -408,7 +438,8 @@ static void check_run(const uint64_t *words, size_t n, const uint64_t *requests,
     uint64_t items, may_spend = 0;
     bool quiet = true;
     for (size_t at = 0; at < m; count++) {
-        uint64_t op = requests[at + 1], number = (count + 1) * 72 <= k ? out[72 * count] : UINT64_MAX;
+        uint64_t op = requests[at + 1], number = (count + 1) * 72 <= k ? out[72 * count] : UINT64_MAX, info[4];
+        bool moved = quiet && names_moved(old, requests + at, info); /* while nothing has changed the state */
         at += record_words(requests + at, &items);
         bool many = op == GURTXOZAL_OP_PREPARE_TRANSFER && items >= 60;
         for (uint64_t ignored; items > 0; items--) {
@@ -427,6 +458,14 @@ static void check_run(const uint64_t *words, size_t n, const uint64_t *requests,
         }
         if (number != 0 && others != 0) {
             fault("a refused request has other words than its number");
+        }
+        if (moved && op == GURTXOZAL_OP_GET_INFO) {
+            looks++;
+            if (number != 0 || memcmp(out + 72 * count + 1, info, sizeof info) != 0) {
+                fault("a look at a moved value does not give what its claim keeps");
+            }
+        } else if (moved && number != GURTXOZAL_BUSY && number != GURTXOZAL_ALLOCATION) { /* a row that is lacking comes before the value */
+            fault("a moved value is not Busy");
         }
         may_spend += number != 0 && op == GURTXOZAL_OP_PREPARE_TRANSFER;
         quiet = quiet && (number != 0 || op == GURTXOZAL_OP_GET_INFO || op == GURTXOZAL_OP_RESOLVE || op == GURTXOZAL_OP_SCAN_HANDLES);
@@ -510,12 +549,12 @@ int main(int argc, char **argv) {
     printf("any words: %" PRIu64 " calls: 0 %" PRIu64 " (%" PRIu64 " from a state left by a call; %" PRIu64 " had only refusals and looks, and changed nothing), 18 %" PRIu64 ", 19 %" PRIu64 ", 20 %" PRIu64 "; %" PRIu64 " wrong\n", here,
            results[0], ran, calls_that_kept, results[18], results[19], results[20], wrong);
     printf("accepted and refused, by op:");
-    bool lacking = results[18] == 0 || results[19] == 0 || results[20] == 0 || ran == 0 || calls_that_kept == 0 || long_transfers == 0;
+    bool lacking = results[18] == 0 || results[19] == 0 || results[20] == 0 || ran == 0 || calls_that_kept == 0 || long_transfers == 0 || looks == 0;
     for (int op = 1; op < OPS; op++) {
         printf(" %d: %" PRIu64 "/%" PRIu64, op, accepted[op], refused[op]);
         lacking = lacking || accepted[op] == 0 || refused[op] == 0;
     }
-    printf("; accepted transfers of 60 and more: %" PRIu64 "\nnumbers:", long_transfers);
+    printf("; accepted transfers of 60 and more: %" PRIu64 "; looks at moved values: %" PRIu64 "\nnumbers:", long_transfers, looks);
     for (int number = 0; number < NUMBERS; number++) {
         /* 19 and 20 are results of a call alone */
         if (number != GURTXOZAL_MALFORMED && number != GURTXOZAL_ANSWER_SHORT) {
@@ -525,7 +564,7 @@ int main(int argc, char **argv) {
     }
     printf("\n");
     if (lacking) {
-        printf("a result, a number, or a request accepted or refused was not seen\n");
+        printf("a result, a number, a request accepted or refused, or a look at a moved value was not seen\n");
         return 1;
     }
     return wrong != 0;

@@ -1,5 +1,5 @@
-/* P6, P7 and P9 to P12 of document 01, transfers, teardown, plans and the other requests, through the C calls. Prints a line for each case; the
- * status is 0 only if all hold. */
+/* P6, P7 and P9 to P12 of document 01, transfers, looks at what is moved, teardown, plans and the other requests, through the C calls. Prints a line for
+ * each case; the status is 0 only if all hold. */
 #include <inttypes.h>
 #include <stdbool.h>
 #include <stdio.h>
@@ -10,7 +10,7 @@
 
 enum { TABLES = 2, PAGES = 8, PAGES_THERE = 2, FRAMES = 10, OBJECTS = 4, ROWS = 8 };
 
-static uint64_t *state;
+static uint64_t *state, *before; /* the state, and its words as `keep` found them */
 static size_t state_words;
 static uint64_t list[600];
 static size_t used;
@@ -36,6 +36,13 @@ static void fresh(void) {
     good = true;
     memset(state, 0x5A, state_words * sizeof *state);
     expect("creation", gurtxozal_create(state, state_words, parameters, sizeof parameters / sizeof *parameters), GURTXOZAL_DONE);
+}
+
+static void keep(void) {
+    memcpy(before, state, state_words * sizeof *state);
+}
+static void kept(void) {
+    expect("the state", (uint64_t)(memcmp(before, state, state_words * sizeof *state) != 0), 0);
 }
 
 struct field {
@@ -317,12 +324,25 @@ static uint64_t info(uint64_t table, uint64_t handle) {
     RECORD(GURTXOZAL_MUST_GET_INFO, FIELD(OP, GURTXOZAL_OP_GET_INFO), FIELD(TABLE, table), FIELD(VALUE, handle));
     return run();
 }
-static void has(uint64_t table, uint64_t handle, uint64_t rights) {
+/* A handle of an object: those of object 0 have flags 1 here, the others 2. */
+static void shows(uint64_t table, uint64_t handle, uint64_t object, uint64_t rights) {
     expect("get_info", info(table, handle), GURTXOZAL_DONE);
-    expect("the koid", answer[GURTXOZAL_ANSWER_INFO_KOID], KOID);
-    expect("the kind", answer[GURTXOZAL_ANSWER_INFO_KIND], KIND);
+    expect("the koid", answer[GURTXOZAL_ANSWER_INFO_KOID], KOID + object);
+    expect("the kind", answer[GURTXOZAL_ANSWER_INFO_KIND], KIND + object);
     expect("the rights", answer[GURTXOZAL_ANSWER_INFO_RIGHTS], rights);
-    expect("the flags", answer[GURTXOZAL_ANSWER_INFO_FLAGS], 1);
+    expect("the flags", answer[GURTXOZAL_ANSWER_INFO_FLAGS], object == 0 ? 1 : 2);
+    expect("the word after", answer[GURTXOZAL_ANSWER_INFO_FLAGS + 1], 0);
+}
+static void has(uint64_t table, uint64_t handle, uint64_t rights) {
+    shows(table, handle, 0, rights);
+}
+static uint64_t replace(uint64_t handle, uint64_t rights) {
+    RECORD(GURTXOZAL_MUST_REPLACE, FIELD(OP, GURTXOZAL_OP_REPLACE), FIELD(TABLE, 0), FIELD(VALUE, handle), FIELD(RIGHTS, rights));
+    return run();
+}
+static uint64_t resolve(uint64_t handle, uint64_t rights, uint64_t kind) {
+    RECORD(GURTXOZAL_MUST_RESOLVE, FIELD(OP, GURTXOZAL_OP_RESOLVE), FIELD(TABLE, 0), FIELD(VALUE, handle), FIELD(RIGHTS, rights), FIELD(KIND, kind));
+    return run();
 }
 
 /* The head of a transfer from table 0, and a plain item. */
@@ -358,27 +378,31 @@ static uint64_t direct_rollback(uint64_t claim, uint64_t reservation) {
     return run();
 }
 
-/* A move: Busy while it is held; rolled back, the handle has its own rights, not the receiver's. */
+/* Every call that names a moved value but get_info is Busy. The two transfers spend an id each. */
+static void busy(uint64_t handle, uint64_t object) {
+    expect("resolve while held", resolve(handle, 0, KIND + object), GURTXOZAL_BUSY);
+    expect("duplicate while held", duplicate(handle, 2), GURTXOZAL_BUSY);
+    expect("replace while held", replace(handle, 0), GURTXOZAL_BUSY);
+    expect("close while held", close_value(handle), GURTXOZAL_BUSY);
+    expect("consumption while held", consume(handle, 0, KIND + object, KOID + object), GURTXOZAL_BUSY);
+    expect("a second move while held", prepare(GURTXOZAL_MOVE, handle, 2), GURTXOZAL_BUSY);
+    expect("a copy while held", prepare(GURTXOZAL_COPY, handle, 2), GURTXOZAL_BUSY);
+}
+
+/* A move: while it is held get_info shows the handle, and every other call is Busy; rolled back, it has its own rights, not the receiver's. */
 static void held_and_rolled_back(void) {
     fresh();
     uint64_t first = publish_first();
     expect("prepare transfer", prepare(GURTXOZAL_MOVE, first, 64), GURTXOZAL_DONE);
     uint64_t claim = answer[GURTXOZAL_ANSWER_ID];
     expect("its id", claim, 3);
-    expect("get_info while held", info(0, first), GURTXOZAL_BUSY);
-    expect("duplicate while held", duplicate(first, 64), GURTXOZAL_BUSY);
-    expect("close while held", close_value(first), GURTXOZAL_BUSY);
-    expect("consumption while held", consume(first, 0, KIND, KOID), GURTXOZAL_BUSY);
-    RECORD(GURTXOZAL_MUST_REPLACE, FIELD(OP, GURTXOZAL_OP_REPLACE), FIELD(TABLE, 0), FIELD(VALUE, first), FIELD(RIGHTS, 0));
-    expect("replace while held", run(), GURTXOZAL_BUSY);
-    RECORD(GURTXOZAL_MUST_RESOLVE, FIELD(OP, GURTXOZAL_OP_RESOLVE), FIELD(TABLE, 0), FIELD(VALUE, first), FIELD(RIGHTS, 0), FIELD(KIND, KIND));
-    expect("resolve while held", run(), GURTXOZAL_BUSY);
-    expect("a second transfer while held", prepare(GURTXOZAL_MOVE, first, 64), GURTXOZAL_BUSY);
+    has(0, first, RIGHTS);
+    busy(first, 0);
     scan(0, 0, 0, 0, 64);
     expect("reserve 1", reserve(1), GURTXOZAL_DONE);
-    expect("the id after the refused transfer's", answer[GURTXOZAL_ANSWER_ID], 5);
-    abort_row(5);
-    expect("rollback of another id", rollback(5), GURTXOZAL_MISUSE);
+    expect("the id after the two refused transfers'", answer[GURTXOZAL_ANSWER_ID], 6);
+    abort_row(6);
+    expect("rollback of another id", rollback(6), GURTXOZAL_MISUSE);
     expect("rollback", rollback(claim), GURTXOZAL_DONE);
     has(0, first, RIGHTS);
     expect("rollback again", rollback(claim), GURTXOZAL_MISUSE);
@@ -538,13 +562,114 @@ static void consumption(void) {
     expect("prepare consumption", consume(first, 64, KIND, KOID), GURTXOZAL_DONE);
     uint64_t claim = answer[GURTXOZAL_ANSWER_ID];
     expect("its id: none was spent", claim, 3);
-    expect("get_info while held", info(0, first), GURTXOZAL_BUSY);
+    has(0, first, RIGHTS);
+    busy(first, 0);
     expect("rollback", rollback(claim), GURTXOZAL_DONE);
     has(0, first, RIGHTS);
     expect("prepare consumption", consume(first, 64, KIND, KOID), GURTXOZAL_DONE);
     claim = answer[GURTXOZAL_ANSWER_ID];
     expect("commit", commit(claim), GURTXOZAL_DONE);
+    expect("the value consumed", info(0, first), GURTXOZAL_INVALID_HANDLE);
     has(1, place(1, claim), RIGHTS);
+}
+
+/* Looks at what is being moved (document 02, 2): koid, kind, rights and flags as they were before, by the item's position with copies between, in the claim that has marked the slot. */
+static void looked_at(void) {
+    fresh();
+    uint64_t first = publish_first(), shy = new_handle(2), old = new_handle(1);
+    expect("replace", replace(old, 66), GURTXOZAL_DONE);
+    uint64_t other = answer[GURTXOZAL_ANSWER_NEW_VALUE];
+    expect("its value", other, value(61, 2));
+    expect("reserve 1", reserve(1), GURTXOZAL_DONE);
+    uint64_t row = answer[GURTXOZAL_ANSWER_ID], future = answer[GURTXOZAL_ANSWER_BATCH_VALUES];
+    transfer_of(3, GURTXOZAL_ROUTE_RENDEZVOUS);
+    transfer_item(GURTXOZAL_MOVE, first, 64);
+    transfer_item(GURTXOZAL_COPY, shy, 64);
+    transfer_item(GURTXOZAL_MOVE, other, 2);
+    expect("two moves and a copy", run(), GURTXOZAL_DONE);
+    uint64_t claim = answer[GURTXOZAL_ANSWER_ID];
+    keep();
+    shows(0, first, 0, RIGHTS);
+    shows(0, other, 1, 66);
+    shows(0, shy, 2, RIGHTS); /* copied, and in its slot */
+    expect("an earlier generation", info(0, old), GURTXOZAL_INVALID_HANDLE);
+    expect("a later generation", info(0, value(61, 3)), GURTXOZAL_INVALID_HANDLE);
+    expect("generation 0", info(0, value(61, 0)), GURTXOZAL_INVALID_HANDLE);
+    expect("another prefix", info(0, first ^ GURTXOZAL_PREFIX), GURTXOZAL_INVALID_HANDLE);
+    expect("a Reserved slot's future value", info(0, future), GURTXOZAL_INVALID_HANDLE);
+    expect("the number in another table", info(1, first), GURTXOZAL_INVALID_HANDLE);
+    expect("an unknown table", info(TABLES, first), GURTXOZAL_MISUSE);
+    kept();
+    busy(first, 0);
+    busy(other, 1);
+    /* a consumption takes the place of a row that goes, so that the rows' places and ranks differ */
+    abort_row(row);
+    expect("prepare consumption", consume(shy, 64, KIND + 2, KOID + 2), GURTXOZAL_DONE);
+    uint64_t consumed = answer[GURTXOZAL_ANSWER_ID];
+    RECORD(GURTXOZAL_MUST_RETIRE_OBJECT, FIELD(OP, GURTXOZAL_OP_RETIRE_OBJECT), FIELD(OBJECT, 1));
+    expect("retire object", run(), GURTXOZAL_DONE);
+    keep();
+    shows(0, first, 0, RIGHTS);
+    shows(0, other, 1, 66); /* a retired object's handle */
+    shows(0, shy, 2, RIGHTS);
+    kept();
+    busy(shy, 2);
+    expect("rollback", rollback(claim), GURTXOZAL_DONE);
+    shows(0, first, 0, RIGHTS);
+    shows(0, other, 1, 66);
+    shows(0, shy, 2, RIGHTS);
+    transfer_of(2, GURTXOZAL_ROUTE_BUFFERED);
+    transfer_item(GURTXOZAL_MOVE, other, 0);
+    transfer_item(GURTXOZAL_MOVE, first, 0);
+    expect("two moves", run(), GURTXOZAL_DONE);
+    claim = answer[GURTXOZAL_ANSWER_ID];
+    shows(0, first, 0, RIGHTS);
+    shows(0, other, 1, 66);
+    expect("commit", commit(claim), GURTXOZAL_DONE);
+    expect("the first value moved away", info(0, first), GURTXOZAL_INVALID_HANDLE);
+    expect("the other value moved away", info(0, other), GURTXOZAL_INVALID_HANDLE);
+    shows(0, shy, 2, RIGHTS);
+    expect("commit of the consumption", commit(consumed), GURTXOZAL_DONE);
+    expect("the value consumed", info(0, shy), GURTXOZAL_INVALID_HANDLE);
+}
+
+/* 64 handles of table 0: the first of object 0, duplicates of it with rights 66 and 3 by turns, and last one of object 1. */
+enum { LAST = GURTXOZAL_MAX_BATCH - 1 };
+static void all_shown(const uint64_t *handles) {
+    keep();
+    for (uint64_t i = 0; i < LAST; i++) {
+        has(0, handles[i], i == 0 ? RIGHTS : i % 2 ? 66 : 3);
+    }
+    shows(0, handles[LAST], 1, RIGHTS);
+    kept();
+}
+/* Looks at all 64 items of a claim: every second one a copy, then moves alone. Both times position 63 is a move. */
+static void looked_at_64(void) {
+    fresh();
+    uint64_t handles[GURTXOZAL_MAX_BATCH];
+    handles[0] = publish_first();
+    for (uint64_t i = 1; i < LAST; i++) {
+        expect("duplicate", duplicate(handles[0], i % 2 ? 66 : 3), GURTXOZAL_DONE);
+        handles[i] = place(0, answer[GURTXOZAL_ANSWER_ID]);
+    }
+    handles[LAST] = new_handle(1);
+    for (int copies = 1; copies >= 0; copies--) {
+        transfer_of(GURTXOZAL_MAX_BATCH, GURTXOZAL_ROUTE_BUFFERED);
+        for (uint64_t i = 0; i < GURTXOZAL_MAX_BATCH; i++) {
+            transfer_item(copies && i % 2 == 0 ? GURTXOZAL_COPY : GURTXOZAL_MOVE, handles[i], 2);
+        }
+        expect("64 items", run(), GURTXOZAL_DONE);
+        uint64_t claim = answer[GURTXOZAL_ANSWER_ID];
+        all_shown(handles);
+        busy(handles[LAST], 1);
+        expect("rollback, or commit", copies ? rollback(claim) : commit(claim), GURTXOZAL_DONE);
+        if (copies) {
+            all_shown(handles);
+        }
+    }
+    for (uint64_t i = 0; i < GURTXOZAL_MAX_BATCH; i++) {
+        expect("a value moved away", info(0, handles[i]), GURTXOZAL_INVALID_HANDLE);
+    }
 }
 
 /* Direct commit and rollback, from table 0 to a table. */
@@ -765,11 +890,7 @@ static void plans(void) {
 /* The whole call's numbers, and no word changed by them. */
 static void whole_call(void) {
     fresh();
-    uint64_t *before = malloc(state_words * sizeof *state);
-    if (before == NULL) {
-        exit(2);
-    }
-    memcpy(before, state, state_words * sizeof *state);
+    keep();
     const uint64_t unknown[] = {3, GURTXOZAL_OP_DROP_PLAN + 1, 0}, cut[] = {GURTXOZAL_MUST_RESERVE, GURTXOZAL_OP_RESERVE, 0};
     const uint64_t whole[] = {GURTXOZAL_MUST_RESERVE, GURTXOZAL_OP_RESERVE, 0, 1};
     memset(answer, 0xA5, sizeof answer);
@@ -778,11 +899,10 @@ static void whole_call(void) {
     expect("a short answer", gurtxozal_run(state, state_words, whole, 4, answer, 71), GURTXOZAL_ANSWER_SHORT);
     expect("a state cut off", gurtxozal_run(state, state_words - 1, whole, 4, answer, 72), GURTXOZAL_MISUSE);
     expect("an empty list", gurtxozal_run(state, state_words, NULL, 0, NULL, 0), GURTXOZAL_DONE);
-    expect("the state", (uint64_t)memcmp(before, state, state_words * sizeof *state), 0);
+    kept();
     for (size_t i = 0; i < GURTXOZAL_ANSWER_WORDS + 1; i++) {
         expect("an answer word", answer[i], UINT64_C(0xA5A5A5A5A5A5A5A5));
     }
-    free(before);
 }
 
 static void shown(const char *name) {
@@ -793,7 +913,8 @@ static void shown(const char *name) {
 int main(void) {
     state_words = GURTXOZAL_STATE_WORDS(TABLES, PAGES + PAGES_THERE, FRAMES, OBJECTS, ROWS);
     state = malloc(state_words * sizeof *state);
-    if (state == NULL) {
+    before = malloc(state_words * sizeof *before);
+    if (state == NULL || before == NULL) {
         return 2;
     }
     p6(), shown("P6 fresh, reserve 3: slots 63, 62, 61, generation 1");
@@ -804,11 +925,13 @@ int main(void) {
     p12(), shown("P12 fresh: publish in 63, close, take the page, reserve 1: slot 63, generation 3");
     others(), shown("the other requests, and refusals by their numbers");
     ends(), shown("a table without a page left, and the last id");
-    held_and_rolled_back(), shown("a move is Busy while held, and rolled back has its own rights");
+    held_and_rolled_back(), shown("a move is shown to get_info and Busy to every other call while held, and rolled back has its own rights");
     committed(), shown("a move committed is a parcel with the receiver's rights, published in another table");
     copies(), shown("copies raise the count and a rollback releases them; a refused fifth copy leaves the counts and spends one id");
     refused_transfers(), shown("a transfer's refusals, and a rollback with a copy between two moves");
     consumption(), shown("consumption");
+    looked_at(), shown("looks at what is moved: its own rights, with a copy between, a consumption, two claims, refusals, after a rollback and a commit");
+    looked_at_64(), shown("looks at all 64 items of a claim, with copies between and moves alone; after a rollback and a commit");
     direct(0), shown("direct commit and rollback in one table");
     direct(1), shown("direct commit and rollback between two tables");
     stopping_owner(), shown("remove_stopping_owner and its cursor");
@@ -817,5 +940,6 @@ int main(void) {
     plans(), shown("a plan's refusals, fresh again, a held transfer, teardown, no row and no id left");
     whole_call(), shown("18, 19 and 20 change no word; an empty list is accepted");
     free(state);
+    free(before);
     return failed != 0;
 }

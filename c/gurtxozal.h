@@ -141,7 +141,8 @@ enum {
     /* reserve, use plan */
     GURTXOZAL_ANSWER_BATCH_COUNT = 2,
     GURTXOZAL_ANSWER_BATCH_VALUES = 3,
-    /* get_info, close */
+    /* get_info, close. While a transfer or a consumption holds a handle, get_info gives what it had before, its own rights included;
+     * every other request that looks its value up gives GURTXOZAL_BUSY. */
     GURTXOZAL_ANSWER_INFO_KOID = 1,
     GURTXOZAL_ANSWER_INFO_KIND = 2,
     GURTXOZAL_ANSWER_INFO_RIGHTS = 3,

@@ -148,6 +148,7 @@ int main(void) {
     claim = transfer("prepare transfer of 64 copies", 0, GURTXOZAL_COPY);
     REQUEST("rollback of 64 copies", ROLLBACK, claim);
     claim = transfer("prepare transfer of 64 moves", 0, GURTXOZAL_MOVE);
+    REQUEST("get_info of the last of 64 moves", GET_INFO, 0, values[BATCH - 1]);
     REQUEST("rollback of 64 moves", ROLLBACK, claim);
     claim = transfer(NULL, 0, GURTXOZAL_MOVE);
     REQUEST("commit of 64 moves", COMMIT, claim);
@@ -170,6 +171,7 @@ int main(void) {
     REQUEST("release of a parcel of 64", RELEASE_PARCEL, claim);
     REQUEST("prepare consumption", PREPARE_CONSUMPTION, 0, first, 15, 7, 1);
     claim = answers[GURTXOZAL_ANSWER_ID];
+    REQUEST("get_info of a consumption", GET_INFO, 0, first);
     REQUEST("rollback of a consumption", ROLLBACK, claim);
     row = reserve(NULL, 1, false);
     REQUEST("trim of 64 to 1", TRIM, 1, row);

@@ -140,7 +140,9 @@ int main(void) {
     PUT(transfer_item, GURTXOZAL_MOVE, scales_weight, DUPLICATE | TRANSFER | READ, NULL);
     const struct gurtxozal_prepare_transfer_answer claim = gurtxozal_read_prepare_transfer(run());
     done("prepare transfer", claim.number);
-    look(SCALE, scales_weight); /* held: busy */
+    look(SCALE, scales_weight); /* held: shown as it was */
+    PUT(resolve, SCALE, scales_weight, READ, SENSOR);
+    printf("    scale opens it: %s\n", word_of(gurtxozal_read_resolve(run()).number)); /* to look is not to use */
 
     printf("It is committed, the till uses its plan, and the parcel is published there.\n");
     PUT(use_plan, plan.id);
