@@ -14,8 +14,8 @@ value of the answer to request N, or `@N.K`, an id as `@N`, the id in the answer
 
 For --held a line `hold` stands before the prepare_transfer that is held, and the last line is `end rollback` or `end commit`. What comes before `hold` both runs
 share; then run H prepares the transfer, runs the list and ends the transfer, and run P runs the list alone (after a commit in H it closes the moved values). Ids
-in the file are those of run H. The status is 1 if the runs differ although no condition of document 01, "Runs H and P", is broken;
-a list that cannot be read or run gives 2.
+in the file are those of run H. The list may look at moved values with get_info (document 02, 2), and name them in no other request. The status is 1 if the runs differ
+although no condition of document 01, "Runs H and P", is broken; a list that cannot be read or run gives 2.
 """
 import signal
 import sys

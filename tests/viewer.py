@@ -102,9 +102,14 @@ prepare_transfer table=scale route=0
 """
 # a list after HEAD's transfer (request 5, id 3), its ending, and what must be said of it
 BROKEN = [
-    ("get_info table=scale value=@2", "names a moved value in table 1 scale"),
+    ("resolve table=scale value=@2 rights=1 kind=3", "names a moved value in table 1 scale, which only get_info may"),
+    ("duplicate table=scale value=@2 rights=1", "names a moved value"),
+    ("replace table=scale value=@2 rights=1", "names a moved value"),
     ("close table=1 value=@2", "names a moved value"),
+    ("prepare_transfer table=scale route=0\n- move value=@2 rights=1", "names a moved value"),
     ("prepare_transfer table=scale route=0\n- copy value=@2 rights=1", "names a moved value"),
+    ("prepare_consumption table=scale value=@2 rights=1 kind=3 koid=70", "names a moved value"),
+    ("get_info table=scale value=@2\nresolve table=scale value=@2 rights=16 kind=4", "names a moved value"),  # refused in P too
     ("release_parcel id=3", "names the transfer's id, 3"),
     ("direct_commit id=9 destination=3", "names the transfer's id, 3"),
     ("reserve table=till count=1\npublish id=@6\n- parcel id=3", "names the transfer's id, 3"),
@@ -119,6 +124,9 @@ BROKEN = [
 ]
 KEPT = [
     "get_info table=till value=@2",  # the same number in another table
+    "get_info table=scale value=@2",  # a look at the moved value
+    "get_info table=1 value=0x4800000001000045",  # the same by numbers
+    "get_info table=scale value=@2\nreserve table=scale count=1\nget_info table=scale value=@7\nretire_object object=0\nget_info table=scale value=@2.1\nget_info table=scale value=@2",  # refused ones between
     "scan_handles table=till cursor=0\nteardown_start table=till\nteardown_step table=till",
     "reserve table=scale count=64",  # wants pages, of which the table may have no more
     "reserve table=till count=64\nreserve table=till count=1\nabort id=@6\nreserve table=till count=3\nabort id=4",
@@ -187,12 +195,13 @@ def two_runs(oracle):
             expect(requests, held(oracle, requests, ending), True, agree)
     expect("a copy", held(oracle, "", "rollback", "copy"), True, 'not "of moves only"')
     expect("a refused transfer", held(oracle, "", "rollback", "move offered_kind=9 expected_kind=9"), True, 'not "accepted": it gives 4 WrongObjectType')
-    # an engine that gives a difference: in an answer's last word, in a table, in an object, in the next id, in a plan
+    # an engine that gives a difference: in an answer's last word, in the rights that a look shows, in a table, in an object, in the next id, in a plan
     flip = lambda at: lambda words: words[:at] + [words[at] ^ 1] + words[at + 1 :]
     head, objects = 16 + 16, 16 + 2 * 16 + 5 * 2 + 2 + 3 + 2 * 384
     row, plan = objects + 8 + 2 * 3, "make_plan table=till count=1"
     for what, requests, changes, endings in (
         ("an answer's last word", KEPT[0], {"answer": flip(71)}, ("rollback", "commit")),
+        ("the rights of a moved handle", KEPT[1], {"answer": flip(3)}, ("rollback", "commit")),
         ("an epoch", KEPT[0], {"words": flip(head + 4)}, ("rollback", "commit")),
         ("a limit", KEPT[0], {"words": flip(objects + 7)}, ("rollback",)),
         ("the next id", KEPT[0], {"words": flip(5)}, ("rollback",)),
@@ -201,7 +210,7 @@ def two_runs(oracle):
     ):
         for ending in endings:
             expect(what, held(oracle, requests, ending, **changes), False, contradict)
-    print(f"{2 * len(BROKEN) + 2} broken conditions, {2 * len(KEPT)} pairs of runs that agree and 8 that are made to differ")
+    print(f"{2 * len(BROKEN) + 2} broken conditions, {2 * len(KEPT)} pairs of runs that agree and 10 that are made to differ")
 
 
 RT = """#!/bin/sh

@@ -1,5 +1,6 @@
-"""The held and the plain run (document 00, demand 3; document 01, "Runs H and P") of a list, side by side. Run H prepares the transfer after `hold`, runs the list
-and ends the transfer; run P runs the same list without it, with ids above the transfer's one lower, and where H commits closes the moved values."""
+"""The held and the plain run (document 00, demand 3; document 01, "Runs H and P"; document 02, 2) of a list, side by side. Run H prepares the transfer after `hold`, runs the
+list and ends the transfer; run P runs the same list without it, with ids above the transfer's one lower, and where H commits closes the moved values. The list may look at
+the moved values with get_info, and names them in no other request."""
 import textwrap
 
 from viewer import state as states
@@ -7,6 +8,7 @@ from viewer.answers import NUMBERS, told
 from viewer.lists import ID_AT, IDS, Fault, Request
 
 WIDTH = 58
+LOOK = "get_info"  # the request that may name a moved value
 WALKS = {"scan_handles": "scans", "teardown_start": "starts tearing down", "remove_stopping_owner": "removes for a stopping owner in"}
 
 
@@ -87,8 +89,8 @@ class Held:
         number = lambda fields, name: self.list.number(name, fields[name], self.answers) if name in fields else None
         records = [request.fields] + [item for _, _, item in request.items]
         there = number(request.fields, "table") == self.b
-        if there and any(number(fields, "value") in self.values for fields in records if "value" in fields):
-            yield f"names a moved value in {self.list.named('table', self.b)}"
+        if there and request.op != LOOK and any(number(fields, "value") in self.values for fields in records if "value" in fields):
+            yield f"names a moved value in {self.list.named('table', self.b)}, which only {LOOK} may"
         if any(number(fields, name) == self.t for fields in records for name in IDS):
             yield f"names the transfer's id, {self.t}"
         if there and request.op in WALKS:
