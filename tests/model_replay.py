@@ -2,7 +2,7 @@
 """Replays recorded lists on the model: the checker computes every answer and the whole end state from the definitions, and each is held to what the
 Rust gave (recorded/, see docs/oracle.md). Writes a crate `computed` with a table of cases for each recorded list, and has it proved.
 
-  model_replay.py [FILE..]     recorded files (default: cases.txt, plain.txt, edges.txt, scrambled.txt and plans.txt)
+  model_replay.py [FILE..]     recorded files (default: cases.txt, plain.txt, edges.txt, scrambled.txt, plans.txt and looks.txt)
 """
 import re
 import subprocess
@@ -319,7 +319,7 @@ ROW, BLOCK = 390, 6
 
 
 def main():
-    names = sys.argv[1:] or ["cases.txt", "plain.txt", "edges.txt", "scrambled.txt", "plans.txt"]
+    names = sys.argv[1:] or ["cases.txt", "plain.txt", "edges.txt", "scrambled.txt", "plans.txt", "looks.txt"]
     modules, requests, lists, calls, refused = [], 0, 0, 0, []
     left = Counter()
     made = {}

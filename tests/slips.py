@@ -134,6 +134,11 @@ SLIPS = {
         "  is_stale t n w = not (still_is (snapshot_for t n) w)\n",
         "  is_stale t n w = not (still_is (snapshot_for t n) w && is_occupied (t.slots 63))\n",
     ),
+    "a look that shows the rights that the receiver gets": (
+        "model Lookup",
+        "kept_for k (moved j h r ∷ es) = pick (eqb k j) (some h) (kept_for k es)\n",
+        "kept_for k (moved j h r ∷ es) = pick (eqb k j) (some (record { object = h.object; rights = r; flags = h.flags })) (kept_for k es)\n",
+    ),
     "a plan that is dropped and keeps its frames": (
         "model Step",
         "      setting_frames insert_all fs s.frames\n",
@@ -143,7 +148,7 @@ SLIPS = {
 
 
 # the modules of computed cases, on which no theorem rests
-TABLES = {"model": ("Cases", "Effects", "PlanCases", "WordCases"), "noninterference": ("Examples", "Exclusions")}
+TABLES = {"model": ("Cases", "Effects", "PlanCases", "LookCases", "WordCases"), "noninterference": ("Examples", "Exclusions")}
 UNFIT = re.compile(r"not in scope|cannot be parsed|cannot be read|can be named from here|expected .* found|has no field|has no `|is no name|cannot continue")
 
 
