@@ -705,7 +705,7 @@ WRONG = [
     ("crates/format/src/lib.rt", "maps::MAY.get(op as usize)", "maps::MAY.get(6)", "e", "6"),
     ("crates/format/src/lib.rt", "word <= size::ROUTE_LAST", "word <= 2", "e", "2"),
     ("crates/close/src/lib.rt", "op::OP_CLOSE, [FIELD_TABLE, FIELD_VALUE]", "op::OP_CLOSE, [FIELD_TABLE, 4]", "a", "4"),
-    ("crates/lookup/src/lib.rt", "op::OP_GET_INFO, [FIELD_TABLE, FIELD_VALUE]", "op::OP_GET_INFO, [FIELD_TABLE, Rights::NONE]", "a", "Rights"),
+    ("crates/lookup/src/lib.rt", "op::OP_SCAN_HANDLES, [FIELD_TABLE, FIELD_CURSOR]", "op::OP_SCAN_HANDLES, [FIELD_TABLE, Rights::NONE]", "a", "Rights"),
     ("crates/plan/src/lib.rt", "let id = rq.field(FIELD_ID);\n    use_plan", "let id = rq.field(op::OP_CLOSE);\n    use_plan", "a", "op"),
     ("crates/detach/src/lib.rt", "use format::field::FIELD_TABLE;", "const FIELD_TABLE: u64 = op::OP_CLOSE;", "a", "FIELD_TABLE"),
     ("crates/request/src/lib.rt", "self.find(bit).is_some()", "self.find(3).is_some()", "a", "3"),
