@@ -84,8 +84,8 @@ FUNCTIONS, METHODS = functions()
 def calls(at):
     """The functions that a function calls, each once, in their order."""
     out = []
-    for before, name in re.findall(r"(?:(\w+)(?:::|\.))?\b(\w+)\(", FUNCTIONS[at][1]):
-        if before in DEPS:
+    for before, of, name in re.findall(r"(?:(\w+)(::|\.))?\b(\w+)\(", FUNCTIONS[at][1]):
+        if before in DEPS and of == "::":
             to = [(before, name)]
         elif before:
             to = [(crate, name) for crate in DEPS if crate in below(at[0]) and (crate, name) in METHODS]

@@ -32,7 +32,7 @@ PROMISES = [
     ("promises", "Demand2", ["Steps", "demand_2", "demand_2_lists", "demand_2_calls", "Cut", "demand_2_cut", "Makes", "demand_2_creation"]),
     ("promises", "Demand3", ["TwoRuns", "Same", "demand_3"]),
     ("promises", "Plans", ["Served", "plan_serves", "as_reserved", "drop_accepted"]),
-    ("promises", "Looks", ["Unnamed", "Shown", "transfer_shows", "consumption_shows", "permitted_unnamed", "never_busy"]),
+    ("promises", "Looks", ["Unnamed", "BusyToOthers", "Shown", "transfer_shows", "consumption_shows", "permitted_unnamed", "look_refusals"]),
     ("promises", "Lower", ["reads_lowered", "op_word", "answer_lowered"]),
     ("promises", "Transfers", ["SameOrders", "ClosingsLeave", "transfer_keeps_orders", "consumption_keeps_orders", "rollback_keeps_orders", "commit_done", "commit_vacates", "commit_is_closing", "transfer_is_closing", "consumption_is_closing", "direct_rollback_is", "direct_commit_is"]),
     ("promises", "Batches", ["MostPages", "new_pages", "reserve_takes", "pages_of_64", "pages_of_32", "pages_of_16"]),

@@ -238,7 +238,11 @@ fn middle(passes: &[Vec<Row>]) -> Vec<Row> {
     rows
 }
 
-/// Prints a table as text or as docs/performance.md has it, then of both ratios least, geometric mean and greatest, and the rows above the bounds.
+/// The end of a row's name in which the Rust refuses what the port does, so that its ratios compare no like work.
+const RUST_REFUSES: &str = "(the Rust: Busy)";
+
+/// Prints a table as text or as docs/performance.md has it, then of both ratios least, geometric mean and greatest, and the rows above the bounds; rows in which the Rust refuses are left out
+/// of these.
 fn print_table(markdown: bool, what: &str, sum: &str, rows: &[Row]) {
     if markdown {
         println!("\n| slots | {what} | port | Rust | less words | ratio | ratio, less words |\n|---|---|---|---|---|---|---|");
@@ -253,15 +257,16 @@ fn print_table(markdown: bool, what: &str, sum: &str, rows: &[Row]) {
             println!("{slots:>9} {name:48} {port:>10.0} {rust:>10.0} {less:>10.0} {ratio:>7.2} {ratio_less:>7.2}");
         }
     }
+    let (refused, alike): (Vec<&Row>, Vec<&Row>) = rows.iter().partition(|row| row.name.ends_with(RUST_REFUSES));
     let told = |bound: f64, ratio: fn(&Row) -> f64| {
-        let all: Vec<f64> = rows.iter().map(ratio).collect();
+        let all: Vec<f64> = alike.iter().map(|row| ratio(row)).collect();
         let mean = (all.iter().map(|ratio| ratio.ln()).sum::<f64>() / all.len() as f64).exp();
         let ends = all.iter().fold((f64::INFINITY, 0.0f64), |(low, high), ratio| (low.min(*ratio), high.max(*ratio)));
         let above = all.iter().filter(|ratio| **ratio > bound).count();
         format!("least {:.2}, geometric mean {mean:.2}, greatest {:.2}; above {bound:.1}: {above} of {}", ends.0, ends.1, all.len())
     };
-    println!("\n{sum}: {} rows", rows.len());
-    if !rows.is_empty() {
+    println!("\n{sum}: {} rows{}", alike.len(), if refused.is_empty() { String::new() } else { format!(", and {} in which the Rust refuses", refused.len()) });
+    if !alike.is_empty() {
         println!("- with the driver: {}", told(1.0, |row| row.port / row.rust));
         println!("- less words: {}", told(1.5, |row| row.port / row.less));
     }
@@ -557,7 +562,7 @@ fn pass(settings: Settings) -> Pass {
         for (at, count) in [1, 64.min(handles.len())].into_iter().enumerate() {
             let claim: Make = &|_, _| transfer(0, 0, handles[..count].iter().map(|value| item(0, *value, 1)).collect());
             let which = if count == 1 { "a moved value".to_string() } else { format!("the last of {count} moved values") };
-            lists.insert(1 + at, (format!("get_info of {which} (the Rust: Busy)"), 1.0, cycle_of(&start, long, &[claim], 1, &|_, _| get_info(0, handles[count - 1]))));
+            lists.insert(1 + at, (format!("get_info of {which} {RUST_REFUSES}"), 1.0, cycle_of(&start, long, &[claim], 1, &|_, _| get_info(0, handles[count - 1]))));
         }
         // Plans of 1 and of 64 slots. Of the 16 free slots one does and 64 do not, which need a page then; with the 16 reserved before, one slot needs a page too, and with an
         // empty page more, 64 need none.

@@ -27,7 +27,7 @@ use Rattle.lookup.specs.View.{View, View.Invalid, View.Busy, View.Holds, Opened,
 use Rattle.lookup.specs.View.{handle_at, slot_view, decoded_view, view_of, table_refusal, view_opened, open_of, handle_of, named}
 use Rattle.lookup.specs.Named.{Active, active_on, table_open, table_refused, view_is, view_found}
 use Rattle.lookup.specs.Read.{on_opened, info_at, info_list, object_known, info_is}
-use Rattle.info.specs.Info.{kept_at, kept_decoded, moved_of, shown_by, shown_of, get_info_r}
+use Rattle.info.specs.Info.{kept_words, kept_decoded, moving_of, shown_by, shown_of, get_info_r}
 use Rattle.info.proofs.Kept.{slot_moving, Keeps, keeps}
 
 -- an unknown table gives 18, one that is not active 16: never 3
@@ -100,20 +100,20 @@ module _ (ws : List ℕ) (sh : Shape) (s : State) (i : Rep ws sh s) (b v : ℕ) 
     -- a slot that is being moved shows the handle that its claim keeps
     record Moved : Type 0 where
       pub handle : PreparedHandle
-      pub opens : moved_of m b v ≡ Found handle
+      pub opens : moving_of m b v ≡ Found handle
       pub looked : look_at s t v ≡ some (handle_of handle)
       pub known : handle.object < s.object_count
 
     looked_moved : view_of m b v ≡ Busy → Moved
-    unfolding view_of moved_of
+    unfolding view_of moving_of
     looked_moved e =
         let p = busy_decoded m b (decode_of (m (head b head_mask)) v) e in
         let k : ℕ = p.slot in
         let there : t.slots k ≡ transfer_reserved (slot_word m b k slot_generation) (m (row (slot_word m b k slot_place) row_id)) = sym (table_is.slots k) ∙ slot_moving m b k p.there.tag in
-        let c : Keeps m s b k (m (row (slot_word m b k slot_place) row_id)) = keeps sh m s i.reps.memory i.well_formed b k _ _ a.known there refl in
+        let c : Keeps m s b k = keeps sh m s i.reps.memory i.well_formed b k _ a.known there in
         let q : slot_named t.mask v ≡ k = same_slot k p.generation (ap (λ (x : ℕ). decode_of x v) (sym table_is.mask) ∙ p.decoded) in
         record {
-          handle = kept_at m b k;
+          handle = kept_words m b k;
           opens = ap (kept_decoded m b) p.decoded;
           looked = rw (sym (view_is m b t table_is v) ∙ ap named e, q, there) c.kept;
           known = c.known;
@@ -145,7 +145,7 @@ module _ (ws : List ℕ) (sh : Shape) (s : State) (i : Rep ws sh s) (b v : ℕ) 
         (λ p. rw (p, table_never_busy m sh b) (does_refused os sh base s (get_info b v) ws (table_refusal m sh b) i.reps
         (table_refused sh m s i.reps.memory b (table_refusal m sh b) refl (λ q. clash (eq-eqb (table_refusal m sh b) 0 q) p) (λ x. given look_at s x v refuse 2 then λ h. accept s (info_of (info_for s h))))))
       where
-        go : (a : Active s b) (x : View) → view_of m b v ≡ x → Does_it (shown_by (moved_of m b v) (view_opened x))
+        go : (a : Active s b) (x : View) → view_of m b v ≡ x → Does_it (shown_by (moving_of m b v) (view_opened x))
         go a Invalid e = does_refused os sh base s (get_info b v) ws 2 i.reps (refused a (looked_none a e))
         go a Busy e = let p = looked_moved a e in rw p.opens (says p.handle p.known (decided a (handle_of p.handle) p.looked))
         go a (Holds h) e = says h

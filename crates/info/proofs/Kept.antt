@@ -22,7 +22,7 @@ use Rattle.book.specs.Places.{ranked, item_of}
 use Rattle.book.specs.Find.{fits_of, RowAt, indexed, row_at, at_find}
 use Rattle.book.specs.Marks.{moved_occurs, named_claim}
 use Rattle.lookup.specs.View.{handle_of}
-use Rattle.info.specs.Info.{kept_at}
+use Rattle.info.specs.Info.{kept_words}
 
 -- a slot with the tag of one that is being moved carries the id of the row whose place it names
 tagged_moving : (m : Mem) (t g x y w : ℕ) → t ≡ tag_transfer_reserved → tagged m t g x y w ≡ transfer_reserved g (m (row x row_id))
@@ -51,24 +51,28 @@ entry_range s [] j k h g e a = apart (cc)
 entry_range s (x ∷ es) zero k h g e a = let p : EntryRange s (moved k h g) = rw (some_same x (moved k h g) e) at a.0 in p.0.object
 entry_range s (x ∷ es) (suc j) k h g e a = entry_range s es j k h g e a.1
 
--- what the words of a moved slot say of its handle
-pub record Keeps (m : Mem) (s : State) (b k i : ℕ) : Type 0 where
-  pub kept : kept_by k (find i s.book.rows) ≡ some (handle_of (kept_at m b k))
-  pub known : (kept_at m b k).object < s.object_count
+-- what the words of slot k say of the handle that the row of its mark keeps
+pub record Keeps (m : Mem) (s : State) (b k : ℕ) : Type 0 where
+  pub kept : kept_by k (find (m (row (slot_word m b k slot_place) row_id)) s.book.rows) ≡ some (handle_of (kept_words m b k))
+  pub known : (kept_words m b k).object < s.object_count
 
-module _ (sh : Shape) (m : Mem) (s : State) (r : Represents sh m s) (w : WellFormed till s) (b k g i : ℕ) (l : b < s.table_count)
-    (there : (s.tables b).slots k ≡ transfer_reserved g i) (id : i ≡ m (row (slot_word m b k slot_place) row_id)) where
+module _ (sh : Shape) (m : Mem) (s : State) (r : Represents sh m s) (w : WellFormed till s) (b k g : ℕ) (l : b < s.table_count)
+    (there : (s.tables b).slots k ≡ transfer_reserved g (m (row (slot_word m b k slot_place) row_id))) where
   abbrev x : ℕ
   x = slot_word m b k slot_place
 
   abbrev j : ℕ
   j = slot_word m b k slot_position
 
+  -- the id of its mark
+  abbrev i : ℕ
+  i = m (row x row_id)
+
   marked : is_marked ((s.tables b).slots k) ≡ true
   marked = rw there
 
-  -- its row's items, if it is a claim
-  by_claim : (c : ℕ) (es : List Entry) → RowAt m s x i (claim c es) → in_claim b k (some (claim c es)) ≡ 1 → Keeps m s b k i
+  -- the row at the mark's place is a claim: the item at the mark's position is the slot's, and no other is
+  by_claim : (c : ℕ) (es : List Entry) → RowAt m s x i (claim c es) → in_claim b k (some (claim c es)) ≡ 1 → Keeps m s b k
   by_claim c es a o =
       let p = named_claim sh m s r (fits_of s w) w.marks x i c es a b k l marked refl in
       let f : find i s.book.rows ≡ some (claim c es) = at_find sh m s r (fits_of s w) x i (claim c es) a in
@@ -87,18 +91,18 @@ module _ (sh : Shape) (m : Mem) (s : State) (r : Represents sh m s) (w : WellFor
       same_handle h v = rw (v.0, v.1, v.2)
 
   -- THE HANDLE THAT IS KEPT is the model's
-  pub keeps : Keeps m s b k i
+  pub keeps : Keeps m s b k
   keeps =
       let c = r.book.marks b k l marked in
       let g = ranked m s.book.capacity (indexed sh m s r) x c.0 in
       let q = nth_some s.book.rows (m (rank x)) c.1 in
       let at_rank : RowAt m s (m (index (m (rank x)))) q.0.id q.0.body = row_at sh m s r (fits_of s w) (m (rank x)) q.0.id q.0.body q.1 in
       let at_place : RowAt m s x q.0.id q.0.body = rw g.1 at at_rank in
-      let a : RowAt m s x i q.0.body = rw (sym at_place.id ∙ sym id) at at_place in
+      let a : RowAt m s x i q.0.body = rw (sym at_place.id) at at_place in
       let f : find i s.book.rows ≡ some q.0.body = at_find sh m s r (fits_of s w) x i q.0.body a in
       go q.0.body a (ap (in_claim b k) (sym f) ∙ w.marks.transfer_reserved i b k ∙ ap (λ (y : Slot). bit (is_moving_by i y)) there ∙ ap bit (eq-eqb i i refl))
     where
-      go : (y : Body) → RowAt m s x i y → in_claim b k (some y) ≡ 1 → Keeps m s b k i
+      go : (y : Body) → RowAt m s x i y → in_claim b k (some y) ≡ 1 → Keeps m s b k
       go (reservation c ks) a o = absurd (omega arith)
       go (claim c es) a o = by_claim c es a o
       go (parcel hs) a o = absurd (omega arith)

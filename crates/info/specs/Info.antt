@@ -17,16 +17,17 @@ abbrev pub kept_in : Mem → (slot generation place position : ℕ) → Prepared
 kept_in m k g x j = record { slot = k; generation = g; object = m (item x j item_object); rights = m (item x j item_rights); flags = m (item x j item_flags) }
 
 -- the handle that slot k of table b had before the claim that moves it: the slot's mark tells the row's place and the item's position
-abbrev pub kept_at : Mem → ℕ → ℕ → PreparedHandle
-kept_at m b k = kept_in m k (slot_word m b k slot_generation) (slot_word m b k slot_place) (slot_word m b k slot_position)
+abbrev pub kept_words : Mem → ℕ → ℕ → PreparedHandle
+kept_words m b k = kept_in m k (slot_word m b k slot_generation) (slot_word m b k slot_place) (slot_word m b k slot_position)
 
+-- of a value that decodes, that of its slot
 abbrev pub kept_decoded : Mem → ℕ → Option Decoded → Opened
-kept_decoded m b (Some d) = Found (kept_at m b d.slot)
+kept_decoded m b (Some d) = Found (kept_words m b d.slot)
 kept_decoded m b None = Refused 2
 
--- of the slot that a value names
-unfoldable pub moved_of : Mem → ℕ → ℕ → Opened
-moved_of m b v = kept_decoded m b (decode_of (m (head b head_mask)) v)
+-- the handle that a value names which is Busy to every other request
+unfoldable pub moving_of : Mem → ℕ → ℕ → Opened
+moving_of m b v = kept_decoded m b (decode_of (m (head b head_mask)) v)
 
 -- "3 Busy" is the number of a handle that is being moved
 abbrev pub shown_by : Opened → Opened → Opened
@@ -35,7 +36,7 @@ shown_by moved (Found h) = Found h
 
 -- the handle that `get_info` shows to a value, or the number of the refusal
 unfoldable pub shown_of : Mem → Shape → ℕ → ℕ → Opened
-shown_of m sh b v = shown_by (moved_of m b v) (open_of m sh b v)
+shown_of m sh b v = shown_by (moving_of m b v) (open_of m sh b v)
 
 -- "get_info, close: 1 koid, 2 kind, 3 rights, 4 flags"
 unfoldable pub get_info_r : List ℕ → List ℕ → Shape → ℕ → ℕ → ℕ → Both

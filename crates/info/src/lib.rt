@@ -12,9 +12,9 @@ ghost use Rattle.request.specs.Place.{word_of};
 ghost use Rattle.answer.specs.Does.{both, reply, Gives};
 ghost use Rattle.lookup.specs.View.{opened};
 ghost use Rattle.lookup.specs.Read.{info_list};
-ghost use Rattle.info.specs.Info.{kept_at, moved_of, shown_of, get_info_r};
+ghost use Rattle.info.specs.Info.{kept_words, moving_of, shown_of, get_info_r};
 
-use codec::{Decoded, HandleCodec, HandleValue};
+use codec::{HandleCodec, HandleValue};
 use format::field::{FIELD_TABLE, FIELD_VALUE};
 use format::op;
 use format::refusal::Refusal;
@@ -22,9 +22,10 @@ use layout::{Shape, field, size};
 use lookup::{HandleInfo, PreparedHandle};
 use request::Record;
 
-// The handle that slot k of table b had before the claim that moves it, with its own rights: the slot's mark tells the place of the claim's row and the position of its item there.
+// The handle that slot k of table b, which is TransferReserved, had before its claim, with its own rights: the slot's mark tells the place of the claim's row and the position of the item there.
+// Of another slot this is what the words at those places say.
 fn kept_handle(s: &[u64], sh: Shape, b: u64, k: u64) -> PreparedHandle
-    ensures { result ≡ kept_at (loadAt s.now sh) b k }
+    ensures { result ≡ kept_words (loadAt s.now sh) b k }
 {
     let fr = storage::frame_link(s, sh, b, k);
     let j = k % size::PAGE_SIZE;
@@ -39,19 +40,19 @@ fn kept_handle(s: &[u64], sh: Shape, b: u64, k: u64) -> PreparedHandle
     }
 }
 
-// The handle that a value names in table b where it is Busy to every other request.
-#[tactic(auto, unfolding(crate::specs::Info::moved_of))]
+// The handle of the slot that a value names in table b, for a value that is Busy to every other request. Such a value decodes, as `open_handle` has found; it is decoded again here alone.
+#[tactic(auto, unfolding(crate::specs::Info::moving_of))]
 fn moved_handle(s: &[u64], sh: Shape, b: u64, v: HandleValue) -> Result<PreparedHandle, Refusal>
-    ensures { opened result ≡ moved_of (loadAt s.now sh) b v.0 }
+    ensures { opened result ≡ moving_of (loadAt s.now sh) b v.0 }
 {
     let codec = HandleCodec {
         mask: layout::head_word(s, sh, b, field::HEAD_MASK),
     };
-    let Decoded { slot, generation: _ } = codec.decode(v).ok_or(Refusal::InvalidHandle)?;
+    let slot = codec.decode(v).ok_or(Refusal::InvalidHandle)?.slot;
     Ok(kept_handle(s, sh, b, slot))
 }
 
-// The handle that `get_info` shows: "Let `get_info` answer for the handle of a TransferReserved slot".
+// The handle that `get_info` shows: "Let `get_info` answer for the handle of a TransferReserved slot, consumption included".
 #[tactic(auto, unfolding(crate::specs::Info::shown_of))]
 fn shown_handle(s: &[u64], sh: Shape, b: u64, v: HandleValue) -> Result<PreparedHandle, Refusal>
     ensures { opened result ≡ shown_of (loadAt s.now sh) sh b v.0 }

@@ -72,7 +72,7 @@ abbrev pub opened : Result PreparedHandle Refusal → Opened
 opened (Ok h) = Handle h
 opened (Err e) = Refused (number e)
 
--- a handle of an active table by its value, or the number of the refusal: "`get_info`, close, `replace`: 16, 2 or 3"
+-- a handle of an active table by its value, or the number of the refusal: "`get_info`, close, `replace`: 16, 2 or 3", "Resolve: 16, 2 or 3" (what `get_info` answers where this says 3 is in crate info)
 unfoldable pub open_of : Mem → Shape → ℕ → ℕ → Opened
 open_of m sh b v = pick (eqb (table_refusal m sh b) 0) (view_opened (view_of m b v)) (Refused (table_refusal m sh b))
 

@@ -27,7 +27,7 @@ use format::refusal::Refusal;
 use layout::{CellWords, Shape, field, size, value};
 use request::Record;
 
-// A handle in its slot, by value.
+// A handle by value, with its slot and the slot's generation. While a claim moves it, the slot is the one that it came from (crate info).
 #[derive(Clone, Copy)]
 pub struct PreparedHandle {
     pub slot: u64,

@@ -5,13 +5,13 @@ use Rattle.std.proofs.Math.Option.{some}
 use Rattle.authority.specs.Rights.{contains}
 use Rattle.codec.specs.Codec.{encode, payload, decodes, payload_in, number_in, slot_in, generation_in, next_generation, mask_of}
 use Rattle.model.specs.Base.{nth}
-use Rattle.model.specs.State.{State, max_batch, max_slots, known_flags, last_id}
+use Rattle.model.specs.State.{max_batch, max_slots, known_flags, last_id}
 use Rattle.model.specs.Storage.{place, vacate, take_free, pages_for, attach, detach}
 use Rattle.model.specs.Request.{Operation.as_move, Operation.as_copy}
-use Rattle.model.specs.Request.{Request, Request.new_object, Request.duplicate, Request.reserve, Request.publish, Request.get_info, Request.resolve, Request.replace, Request.close, Request.prepare_transfer, Request.prepare_consumption, Request.rollback, Request.commit, Request.direct_commit, Request.direct_rollback, Request.retire_object}
+use Rattle.model.specs.Request.{Request, Request.new_object, Request.duplicate, Request.reserve, Request.publish, Request.get_info, Request.resolve, Request.replace, Request.close, Request.prepare_consumption, Request.rollback, Request.commit, Request.direct_commit, Request.direct_rollback, Request.retire_object}
 use Rattle.model.specs.Step.{decide, step, new_object_of, duplicate_of, retire_object_of, reserve_of, publish_of, get_info_of, resolve_of, replace_of, close_of, prepare_transfer_of, prepare_consumption_of, rollback_of, commit_of, direct_commit_of, direct_rollback_of}
 use Rattle.model.specs.Words.{used_words}
-use Rattle.model.proofs.Cases.{Case, ◌is◌, line, fresh, at0, end, last, numbers, first, three, v63, item, offered, transfer}
+use Rattle.model.proofs.Cases.{Case, ◌is◌, line, fresh, at0, end, last, numbers, three, v63, item, offered, transfer}
 
 abbrev v62 : ℕ
 v62 = encode 0 62 1
@@ -24,8 +24,8 @@ abbrev held : List Request
 held = three ++ (transfer (item as_move v63 1 ∷ item as_copy v62 1 ∷ item as_move v61 2 ∷ []) ∷ [])
 
 -- a handle with flags 3 is consumed: the claim 3
-abbrev eaten : List Request
-eaten = new_object 0 15 3 ∷ reserve 0 1 ∷ publish 2 (1 ∷ []) ∷ prepare_consumption 0 v63 4 3 70 ∷ []
+abbrev consumed : List Request
+consumed = new_object 0 15 3 ∷ reserve 0 1 ∷ publish 2 (1 ∷ []) ∷ prepare_consumption 0 v63 4 3 70 ∷ []
 
 pub looks : List Case
 unfolding fresh encode payload decodes payload_in number_in slot_in generation_in mask_of next_generation contains max_batch max_slots known_flags last_id
@@ -41,10 +41,10 @@ looks =
     -- a handle that is only copied is not moved: it stands in its slot
     ∷ last (end fresh held) (get_info 0 v62 ∷ []) is (0 ∷ 70 ∷ 3 ∷ 7 ∷ 0 ∷ [])
     -- "consumption included"
-    ∷ last (end fresh eaten) (get_info 0 v63 ∷ []) is (0 ∷ 70 ∷ 3 ∷ 15 ∷ 3 ∷ [])
+    ∷ last (end fresh consumed) (get_info 0 v63 ∷ []) is (0 ∷ 70 ∷ 3 ∷ 15 ∷ 3 ∷ [])
     -- "Every other call answers on it as before"
     ∷ numbers (end fresh held) (resolve 0 v63 0 3 ∷ duplicate 0 v63 0 ∷ replace 0 v63 0 ∷ close 0 v63 ∷ transfer (item as_move v63 0 ∷ []) ∷ transfer (item as_copy v63 0 ∷ []) ∷ prepare_consumption 0 v63 0 3 70 ∷ get_info 0 v63 ∷ []) is (3 ∷ 3 ∷ 3 ∷ 3 ∷ 3 ∷ 3 ∷ 3 ∷ 0 ∷ [])
-    ∷ numbers (end fresh eaten) (resolve 0 v63 0 3 ∷ close 0 v63 ∷ get_info 0 v63 ∷ []) is (3 ∷ 3 ∷ 0 ∷ [])
+    ∷ numbers (end fresh consumed) (resolve 0 v63 0 3 ∷ close 0 v63 ∷ get_info 0 v63 ∷ []) is (3 ∷ 3 ∷ 0 ∷ [])
     -- the refusals that stay: an unknown table, another generation, another prefix, a Reserved slot
     ∷ numbers (end fresh held) (get_info 2 v63 ∷ get_info 0 (at0 63 2) ∷ get_info 0 0x4900000001000040 ∷ get_info 1 v63 ∷ reserve 0 1 ∷ get_info 0 (at0 60 1) ∷ []) is (18 ∷ 2 ∷ 2 ∷ 2 ∷ 0 ∷ 2 ∷ [])
     -- two open claims of one table, each with its own handle
@@ -54,9 +54,9 @@ looks =
     ∷ last (end fresh held) (retire_object 0 ∷ get_info 0 v61 ∷ []) is (0 ∷ 70 ∷ 3 ∷ 3 ∷ 0 ∷ [])
     -- after a rollback the same again; after a commit, of a transfer or of a consumption, the value names nothing
     ∷ last (end fresh held) (rollback 6 ∷ get_info 0 v61 ∷ []) is (0 ∷ 70 ∷ 3 ∷ 3 ∷ 0 ∷ [])
-    ∷ last (end fresh eaten) (rollback 3 ∷ get_info 0 v63 ∷ []) is (0 ∷ 70 ∷ 3 ∷ 15 ∷ 3 ∷ [])
+    ∷ last (end fresh consumed) (rollback 3 ∷ get_info 0 v63 ∷ []) is (0 ∷ 70 ∷ 3 ∷ 15 ∷ 3 ∷ [])
     ∷ numbers (end fresh held) (commit 6 ∷ get_info 0 v63 ∷ get_info 0 v61 ∷ get_info 0 v62 ∷ []) is (0 ∷ 2 ∷ 2 ∷ 0 ∷ [])
-    ∷ numbers (end fresh eaten) (commit 3 ∷ get_info 0 v63 ∷ []) is (0 ∷ 2 ∷ [])
+    ∷ numbers (end fresh consumed) (commit 3 ∷ get_info 0 v63 ∷ []) is (0 ∷ 2 ∷ [])
     ∷ numbers (end fresh held) (reserve 1 3 ∷ direct_commit 6 7 ∷ get_info 0 v61 ∷ get_info 1 (encode 5 61 1) ∷ []) is (0 ∷ 0 ∷ 2 ∷ 0 ∷ [])
     ∷ last (end fresh held) (reserve 1 3 ∷ direct_rollback 6 7 ∷ get_info 0 v61 ∷ []) is (0 ∷ 70 ∷ 3 ∷ 3 ∷ 0 ∷ [])
     ∷ []

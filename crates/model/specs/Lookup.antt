@@ -4,7 +4,7 @@ use Rattle.std.proofs.Math.Option.{Option, none, some}
 use Rattle.codec.specs.Codec.{encode, decodes, slot_in, generation_in}
 use Rattle.model.specs.Base.{pick}
 use Rattle.model.specs.State.{Handle, Slot, Slot.absent, Slot.vacant, Slot.reserved, Slot.transfer_reserved, Slot.occupied, Table, Entry, Entry.moved, Entry.copied, Body, Body.reservation, Body.claim, Body.parcel, Body.plan, Row, State}
-use Rattle.model.specs.State.{generation, is_active, max_objects}
+use Rattle.model.specs.State.{generation, max_objects}
 use Rattle.model.specs.Request.{Snapshot}
 use Rattle.model.specs.Objects.{info_for}
 use Rattle.model.specs.Book.{find}
@@ -45,7 +45,7 @@ kept_for k [] = none
 kept_for k (moved j h r ∷ es) = pick (eqb k j) (some h) (kept_for k es)
 kept_for k (copied h ∷ es) = kept_for k es
 
--- by the row of an id, which only a claim's can be
+-- what the row of an id keeps for a slot: a handle only if it is a claim
 abbrev pub kept_by : ℕ → Option Body → Option Handle
 kept_by k none = none
 kept_by k (some (reservation b ks)) = none
@@ -53,7 +53,7 @@ kept_by k (some (claim b es)) = kept_for k es
 kept_by k (some (parcel hs)) = none
 kept_by k (some (plan b n w fs)) = none
 
--- by the slot's mark, which carries the id
+-- what is kept for a slot: the mark of a TransferReserved one carries the claim's id
 abbrev pub kept_at : List Row → ℕ → Slot → Option Handle
 kept_at rs k absent = none
 kept_at rs k (vacant g) = none

@@ -17,7 +17,7 @@ use Rattle.noninterference.specs.Runs.{lowered, lower_answer, lower_slot}
 use Rattle.noninterference.specs.Erase.{handle_at, erase_slot, erase_table, erase_rows, erase}
 use Rattle.model.proofs.Tests.{bool, clash}
 use Rattle.noninterference.proofs.Basics.{lowered_above, lowered_next}
-use Rattle.noninterference.proofs.Marks.{marked}
+use Rattle.noninterference.proofs.Marks.{marked, entry_marks}
 use Rattle.noninterference.proofs.Rows.{find_erase, length_erase, rise_below, claim_open}
 
 -- the entries are moves of these values, whose slots are marked with t
@@ -137,7 +137,7 @@ module _ (x : Case) where
 
   -- how often a slot of it stands among the entries
   pub counted : (k : ℕ) → occurs k (moved_of es) ≡ bit (is_moving_by t ((s.tables b).slots k))
-  counted k = rw (o.row, eq-eqb b b refl) at (o.wf.marks.transfer_reserved t b k)
+  counted k = entry_marks s o.wf t b es o.row k
 
   -- "a table not active has no open reservation or claim"
   pub is_active_law : is_active (s.tables b).life ≡ true
@@ -187,15 +187,12 @@ module _ (x : Case) where
   wants e (refusal_after_id n) = false
   wants e (accept u a) = false
 
-  pub record Twin (d d₀ : Decision) : Type 0 where
-    pub same : d₀ ≡ erase_decision t es d
-
-  -- d is decided here, d₀ in the state without the claim
+  -- d is decided here, d₀ in the state without the claim: that is d with the claim erased, where d is no refusal for want of a row or an id
   pub record Alike (e : Bool) (d d₀ : Decision) : Type 0 where
-    pub twin : wants e d ≡ false → Twin d d₀
+    pub twin : wants e d ≡ false → d₀ ≡ erase_decision t es d
 
   pub refuses : (e : Bool) (n : ℕ) → Alike e (refusal n) (refusal n)
-  refuses e n = record { twin = λ w. record { same = refl } }
+  refuses e n = record { twin = λ w. refl }
 
   -- a check that comes out alike
   pub check : {e : Bool} (c : Bool) (n : ℕ) {d d₀ : Decision} → (c ≡ true → Alike e d d₀)
@@ -279,4 +276,4 @@ module _ (x : Case) where
     where
       go : (w : Option ℕ) → a ≡ w → Alike e (refuse_after_id w then d) (refuse_after_id w then d₀)
       go none q = k q
-      go (some n) q = record { twin = λ w. record { same = refl } }
+      go (some n) q = record { twin = λ w. refl }

@@ -28,7 +28,7 @@ module _ (x : Case) where
   abbrev T₀ : Table → Table
   T₀ = erase_table x.t x.es
 
-  -- a table has become y here and y₀ there
+  -- a table has become y here and y₀ there: a record, so that a use need not write the tables (of an equation they are not read off)
   pub record TableTwin (y y₀ : Table) : Type 0 where
     pub same : y₀ ≡ T₀ y
 
@@ -89,7 +89,7 @@ module _ (x : Case) where
     same = take_free_erase x.t x.es x.z n _ _ (λ k g. refl) w;
   }
 
-  -- the book has become k here and k₀ there
+  -- the book has become k here and k₀ there, a record for the same reason
   pub record BookTwin (k k₀ : Book) : Type 0 where
     pub same : k₀ ≡ erase_book x.t k
 
@@ -138,9 +138,7 @@ module _ (x : Case) where
       → ((c : ℕ) → TableTwin (f c) (f₀ c)) → BookTwin k k₀ → o₀ ≡ o → a₀ ≡ lower_answer x.t a
       → Alike x e (accept (Becomes f o fs k) a) (accept (Becomes f₀ o₀ fs k₀) a₀)
   accepts {fs = fs} p q r l = record {
-    twin = λ w. record {
-      same = λ i. accept (Becomes (λ c. (p c).same i) (r i) fs (q.same i)) (l i);
-    };
+    twin = λ w. λ i. accept (Becomes (λ c. (p c).same i) (r i) fs (q.same i)) (l i);
   }
 
   -- nothing changes

@@ -46,7 +46,7 @@ module _ (z : Sizes) where
   unfolding vacate place
   vacate_mask y k = refl
 
-  vacate_other : (y : Table) (k j : ℕ) → eqb j k ≡ false → (vacate z y k).slots j ≡ y.slots j
+  pub vacate_other : (y : Table) (k j : ℕ) → eqb j k ≡ false → (vacate z y k).slots j ≡ y.slots j
   unfolding vacate place
   vacate_other y k j e = rw e
 

@@ -24,7 +24,7 @@ module _ (s : State) (t : ℕ) (items : List Item) (rs : List Request) where
   abbrev plain : List (List ℕ)
   plain = map used_words (ran s (map (lower_request t) rs)).1
 
-  -- which conditions are met: moves only; the id not named; no moved value named but by a look; no walk there; nothing wanted
+  -- which conditions are met: moves only; the id not named; no moved value named but by `get_info`; no walk there; nothing wanted
   abbrev met : List Bool
   met =
       every is_move items
@@ -34,8 +34,8 @@ module _ (s : State) (t : ℕ) (items : List Item) (rs : List Request) where
       ∷ not (wanting little held_state rs)
       ∷ []
 
-  abbrev Differ : List Bool → List (List ℕ) → List (List ℕ) → Type 0
-  Differ m h p = (met ≡ m) × (held ≡ h) × (plain ≡ p)
+  abbrev Gives : List Bool → List (List ℕ) → List (List ℕ) → Type 0
+  Gives m h p = (met ≡ m) × (held ≡ h) × (plain ≡ p)
 
 -- the objects 0 and 2 are moved out of the slots 3 and 1 of table 0, under the id 7
 abbrev items : List Item
@@ -43,7 +43,7 @@ items = item as_move (v0 3 1) 3 ∷ item as_move (v0 1 1) 2 ∷ []
 
 -- a moved value named by any request but `get_info`: Busy against done
 abbrev Named : Request → List ℕ → Type 0
-Named r p = Differ shop 7 items (r ∷ []) (true ∷ true ∷ false ∷ true ∷ true ∷ []) ((3 ∷ []) ∷ []) (p ∷ [])
+Named r p = Gives shop 7 items (r ∷ []) (true ∷ true ∷ false ∷ true ∷ true ∷ []) ((3 ∷ []) ∷ []) (p ∷ [])
 
 value_resolved : Named (resolve 0 (v0 3 1) 1 1) (0 ∷ 0 ∷ 100 ∷ 7 ∷ [])
 unfolding ran
@@ -65,41 +65,45 @@ value_moved : Named (prepare_transfer 0 rendezvous none none (item as_move (v0 3
 unfolding ran
 value_moved = (refl, refl, refl)
 
+value_copied : Named (prepare_transfer 0 rendezvous none none (item as_copy (v0 3 1) 1 ∷ [])) (0 ∷ 7 ∷ [])
+unfolding ran
+value_copied = (refl, refl, refl)
+
 value_consumed : Named (prepare_consumption 0 (v0 3 1) 1 1 100) (0 ∷ 7 ∷ [])
 unfolding ran
 value_consumed = (refl, refl, refl)
 
--- a look at it is the same in both, and is let in: the handle's own rights, 7, where the receiver gets 3
-looked_at : (every (permitted 7 0 (map value_of items)) (get_info 0 (v0 3 1) ∷ []) ≡ true) × Differ shop 7 items (get_info 0 (v0 3 1) ∷ []) (true ∷ true ∷ true ∷ true ∷ true ∷ []) ((0 ∷ 100 ∷ 1 ∷ 7 ∷ 0 ∷ []) ∷ []) ((0 ∷ 100 ∷ 1 ∷ 7 ∷ 0 ∷ []) ∷ [])
+-- `get_info` on it is permitted, and gives the same in both: the handle's own rights, 7, where the receiver gets 3
+looked_at : (every (permitted 7 0 (map value_of items)) (get_info 0 (v0 3 1) ∷ []) ≡ true) × Gives shop 7 items (get_info 0 (v0 3 1) ∷ []) (true ∷ true ∷ true ∷ true ∷ true ∷ []) ((0 ∷ 100 ∷ 1 ∷ 7 ∷ 0 ∷ []) ∷ []) ((0 ∷ 100 ∷ 1 ∷ 7 ∷ 0 ∷ []) ∷ [])
 unfolding ran
 looked_at = (refl, (refl, refl, refl))
 
 -- the transfer's id: done against Misuse
-id_named : Differ shop 7 items (rollback 7 ∷ []) (true ∷ false ∷ true ∷ true ∷ true ∷ []) ((0 ∷ []) ∷ []) ((18 ∷ []) ∷ [])
+id_named : Gives shop 7 items (rollback 7 ∷ []) (true ∷ false ∷ true ∷ true ∷ true ∷ []) ((0 ∷ []) ∷ []) ((18 ∷ []) ∷ [])
 unfolding ran
 id_named = (refl, refl, refl)
 
 -- the same by a use: the plan made after the transfer is 7 in the plain run
-id_used : Differ shop 7 items (make_plan 0 1 ∷ use_plan 7 ∷ []) (true ∷ false ∷ true ∷ true ∷ true ∷ [])
+id_used : Gives shop 7 items (make_plan 0 1 ∷ use_plan 7 ∷ []) (true ∷ false ∷ true ∷ true ∷ true ∷ [])
     ((0 ∷ 7 ∷ 1 ∷ 0 ∷ []) ∷ (18 ∷ []) ∷ [])
     ((0 ∷ 7 ∷ 1 ∷ 0 ∷ []) ∷ (0 ∷ 8 ∷ 1 ∷ v0 0 1 ∷ []) ∷ [])
 unfolding ran
 id_used = (refl, refl, refl)
 
 -- a scan of that table: one entry and the end against two entries and a next cursor
-scanned_there : Differ shop 7 items (scan_handles 0 0 ∷ []) (true ∷ true ∷ true ∷ false ∷ true ∷ [])
+scanned_there : Gives shop 7 items (scan_handles 0 0 ∷ []) (true ∷ true ∷ true ∷ false ∷ true ∷ [])
     ((0 ∷ 1 ∷ 0 ∷ 0 ∷ 4 ∷ v0 2 1 ∷ 101 ∷ 2 ∷ 3 ∷ 1 ∷ []) ∷ [])
     ((0 ∷ 2 ∷ 1 ∷ 3 ∷ 3 ∷ v0 1 1 ∷ 102 ∷ 1 ∷ 3 ∷ 0 ∷ v0 2 1 ∷ 101 ∷ 2 ∷ 3 ∷ 1 ∷ []) ∷ [])
 unfolding ran
 scanned_there = (refl, refl, refl)
 
 -- a teardown's start there: OutstandingReservation against done
-torn_down : Differ shop 7 items (teardown_start 0 ∷ []) (true ∷ true ∷ true ∷ false ∷ true ∷ []) ((14 ∷ []) ∷ []) ((0 ∷ []) ∷ [])
+torn_down : Gives shop 7 items (teardown_start 0 ∷ []) (true ∷ true ∷ true ∷ false ∷ true ∷ []) ((14 ∷ []) ∷ []) ((0 ∷ []) ∷ [])
 unfolding ran
 torn_down = (refl, refl, refl)
 
 -- a stopping owner's handle removed there: of slot 2 against slot 1
-owner_removed : Differ shop 7 items (remove_stopping_owner 0 0 ∷ []) (true ∷ true ∷ true ∷ false ∷ true ∷ [])
+owner_removed : Gives shop 7 items (remove_stopping_owner 0 0 ∷ []) (true ∷ true ∷ true ∷ false ∷ true ∷ [])
     ((0 ∷ 1 ∷ 3 ∷ v0 2 1 ∷ 101 ∷ 2 ∷ 3 ∷ 1 ∷ []) ∷ [])
     ((0 ∷ 1 ∷ 2 ∷ v0 1 1 ∷ 102 ∷ 1 ∷ 3 ∷ 0 ∷ []) ∷ [])
 unfolding ran
@@ -110,13 +114,13 @@ abbrev two_rows : State
 two_rows = (ran (created (record { tables = parameters.tables; frames = 3; rows = 2; objects = parameters.objects }))
     (new_object 0 7 0 ∷ reserve 0 1 ∷ publish 2 (1 ∷ []) ∷ [])).0
 
-row_wanted : Differ two_rows 3 (item as_move (v0 3 1) 3 ∷ []) (new_object 1 3 0 ∷ new_object 2 3 0 ∷ []) (true ∷ true ∷ true ∷ true ∷ false ∷ [])
+row_wanted : Gives two_rows 3 (item as_move (v0 3 1) 3 ∷ []) (new_object 1 3 0 ∷ new_object 2 3 0 ∷ []) (true ∷ true ∷ true ∷ true ∷ false ∷ [])
     ((0 ∷ 3 ∷ []) ∷ (1 ∷ []) ∷ [])
     ((0 ∷ 3 ∷ []) ∷ (0 ∷ 4 ∷ []) ∷ [])
 unfolding ran
 row_wanted = (refl, refl, refl)
 
-row_wanted_by_plan : Differ two_rows 3 (item as_move (v0 3 1) 3 ∷ []) (make_plan 0 1 ∷ make_plan 0 1 ∷ []) (true ∷ true ∷ true ∷ true ∷ false ∷ [])
+row_wanted_by_plan : Gives two_rows 3 (item as_move (v0 3 1) 3 ∷ []) (make_plan 0 1 ∷ make_plan 0 1 ∷ []) (true ∷ true ∷ true ∷ true ∷ false ∷ [])
     ((0 ∷ 3 ∷ 1 ∷ 0 ∷ []) ∷ (1 ∷ []) ∷ [])
     ((0 ∷ 3 ∷ 1 ∷ 0 ∷ []) ∷ (0 ∷ 4 ∷ 1 ∷ 0 ∷ []) ∷ [])
 unfolding ran
@@ -126,7 +130,7 @@ row_wanted_by_plan = (refl, refl, refl)
 abbrev last_id_law : State
 last_id_law = with_book shop (record { rows = []; capacity = 6; next = last_id - 1 })
 
-id_wanted : Differ last_id_law (last_id - 1) items (duplicate 0 (v0 2 1) 1 ∷ []) (true ∷ true ∷ true ∷ true ∷ false ∷ []) ((12 ∷ []) ∷ [])
+id_wanted : Gives last_id_law (last_id - 1) items (duplicate 0 (v0 2 1) 1 ∷ []) (true ∷ true ∷ true ∷ true ∷ false ∷ []) ((12 ∷ []) ∷ [])
     ((0 ∷ (last_id - 1) ∷ []) ∷ [])
 unfolding ran
 id_wanted = (refl, refl, refl)
@@ -135,13 +139,13 @@ id_wanted = (refl, refl, refl)
 abbrev last_id_planned : State
 last_id_planned = let s : State = (ran shop (make_plan 0 1 ∷ [])).0 in with_book s (record { rows = s.book.rows; capacity = 6; next = last_id - 1 })
 
-id_wanted_by_use : Differ last_id_planned (last_id - 1) items (use_plan 7 ∷ []) (true ∷ true ∷ true ∷ true ∷ false ∷ []) ((12 ∷ []) ∷ [])
+id_wanted_by_use : Gives last_id_planned (last_id - 1) items (use_plan 7 ∷ []) (true ∷ true ∷ true ∷ true ∷ false ∷ []) ((12 ∷ []) ∷ [])
     ((0 ∷ (last_id - 1) ∷ 1 ∷ v0 0 1 ∷ []) ∷ [])
 unfolding ran
 id_wanted_by_use = (refl, refl, refl)
 
 -- a copy among the moves: it counts as a handle of object 0, whose limit is 5
-copy_among : Differ shop 7 (item as_move (v0 1 1) 2 ∷ item as_copy (v0 3 1) 2 ∷ [])
+copy_among : Gives shop 7 (item as_move (v0 1 1) 2 ∷ item as_copy (v0 3 1) 2 ∷ [])
     (duplicate 1 (v1 3 1) 1 ∷ duplicate 1 (v1 3 1) 1 ∷ duplicate 1 (v1 3 1) 1 ∷ [])
     (false ∷ true ∷ true ∷ true ∷ true ∷ [])
     ((0 ∷ 7 ∷ []) ∷ (0 ∷ 8 ∷ []) ∷ (11 ∷ []) ∷ [])

@@ -18,9 +18,9 @@ use Rattle.model.specs.WellFormed.{WellFormed, is_moving_by}
 use Rattle.noninterference.specs.Runs.{names_id, uses_value, walks, permitted, gives, pages_needed, wants_row, wants_id, wanting, lower_request, lower_answer}
 use Rattle.noninterference.specs.Erase.{erase}
 use Rattle.model.proofs.Tests.{bool, clash, and_left, and_right, or_left, or_right}
-use Rattle.noninterference.proofs.Marks.{Stems}
+use Rattle.noninterference.proofs.Marks.{Stems, entry_marked}
 use Rattle.noninterference.proofs.Stays.{other, head_apart, only, tail_apart, Stays, step_stays}
-use Rattle.noninterference.proofs.Alike.{Held, Open, Case, wants, Twin, Alike, spend_erase}
+use Rattle.noninterference.proofs.Alike.{Held, Open, Case, wants, Alike, erase_decision, spend_erase}
 use Rattle.noninterference.proofs.Effects.{fresh}
 use Rattle.noninterference.proofs.Values.{alike_new_object, alike_duplicate, alike_release_parcel, alike_retire_object, alike_get_info, alike_resolve, alike_replace, alike_close}
 use Rattle.noninterference.proofs.Batches.{alike_reserve, alike_make_plan, alike_use_plan, alike_drop_plan, alike_trim, alike_abort, alike_publish}
@@ -109,10 +109,10 @@ module _ (x : Case) where
   abbrev Same : State × Answer → State × Answer → Type 0
   Same o o₀ = o₀ ≡ (erase x.t x.es o.0, lower_answer x.t o.1)
 
-  carried : (d d₀ : Decision) → Twin x d d₀ → Same (carry x.z s d) (carry x.z s₀ d₀)
-  carried (refusal n) d₀ w = rw w.same
-  carried (refusal_after_id n) d₀ w = rw w.same (ap (λ (u : State). (u, refused n)) (sym (spend_erase x)))
-  carried (accept u a) d₀ w = rw w.same
+  carried : (d d₀ : Decision) → d₀ ≡ erase_decision x.t x.es d → Same (carry x.z s d) (carry x.z s₀ d₀)
+  carried (refusal n) d₀ w = rw w
+  carried (refusal_after_id n) d₀ w = rw w (ap (λ (u : State). (u, refused n)) (sym (spend_erase x)))
+  carried (accept u a) d₀ w = rw w
 
   no_want : (e : Bool) (d : Decision) → (gives 1 (carry x.z s d).1 && e) ≡ false → gives 12 (carry x.z s d).1 ≡ false → wants x e d ≡ false
   no_want e (refusal n) p q = rw (p, q)
@@ -154,9 +154,7 @@ module _ (z : Sizes) (kept : (s : State) → WellFormed z s → (r : Request) �
     still s u o w p = let r : find t u.book.rows ≡ some (claim b es) = p.row ∙ o.row in record {
       wf = w;
       row = r;
-      held = held_stays t (s.tables b) (u.tables b) (p.tables b) es (λ k c.
-          let m : occurs k (moved_of es) ≡ bit (is_moving_by t ((u.tables b).slots k)) = rw (r, eq-eqb b b refl) at (w.marks.transfer_reserved t b k) in
-          bool (is_moving_by t ((u.tables b).slots k)) (λ e. e) (λ e. absurd (omega (arith, m ∙ ap bit e)))) vs o.held;
+      held = held_stays t (s.tables b) (u.tables b) (p.tables b) es (entry_marked u w t b es r) vs o.held;
     }
 
     -- a list of permitted requests that wants nothing: the same answers, the same state without the claim, which is still open

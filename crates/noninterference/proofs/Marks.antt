@@ -1,15 +1,17 @@
--- What requests do to a table leaves its mask, and a slot that is marked with the claim afterwards was so marked before, with its generation.
-use Rattle.std.specs.Prelude.{◌≡◌, true, false, List, [], ◌∷◌, ℕ, take, drop, eqb}
+-- What requests do to a table leaves its mask, and a slot that is marked with the claim afterwards was so marked before, with its generation. An open claim's entries and its marks.
+use Rattle.std.specs.Prelude.{◌≡◌, true, false, List, [], ◌∷◌, ℕ, ◌≤◌, take, drop, eqb}
 use Rattle.std.proofs.Math.Path.{refl}
-use Rattle.std.proofs.Common.{◌∙◌, eq-eqb}
+use Rattle.std.proofs.Common.{◌∙◌, arith, ap, eq-eqb}
+use Rattle.std.proofs.Math.Option.{some}
 use Rattle.codec.specs.Codec.{next_generation}
-use Rattle.model.specs.Base.{pick}
-use Rattle.model.specs.State.{Sizes, Handle, Slot, Slot.absent, Slot.vacant, Slot.transfer_reserved, Slot.occupied, Lifecycle, Table, Entry, Entry.moved, Entry.copied}
+use Rattle.model.specs.Base.{pick, bit, occurs}
+use Rattle.model.specs.State.{Sizes, Handle, Slot, Slot.absent, Slot.vacant, Slot.transfer_reserved, Slot.occupied, Lifecycle, Table, Entry, Entry.moved, Entry.copied, Body.claim, State}
 use Rattle.model.specs.State.{generation}
 use Rattle.model.specs.Change.{with_life}
 use Rattle.model.specs.Storage.{with_free, on_page, place, keep, keep_all, vacate, vacate_all, take_free, attach, attach_all, grow, detach}
 use Rattle.model.specs.Step.{fill_all, restore_all}
-use Rattle.model.specs.WellFormed.{is_moving_by}
+use Rattle.model.specs.Book.{find, moved_of}
+use Rattle.model.specs.WellFormed.{WellFormed, is_moving_by}
 use Rattle.model.proofs.Tests.{bool, clash}
 
 -- from table x to table y
@@ -95,3 +97,17 @@ module _ (t : ℕ) where
 
   pub stems_life : (x y : Table) (l : Lifecycle) → Stems t x y → Stems t x (with_life y l)
   stems_life x y l p = record { mask = p.mask; marks = p.marks }
+
+-- an open claim t of table b with the entries es
+module _ {z : Sizes} (s : State) (w : WellFormed z s) (t b : ℕ) (es : List Entry) (row : find t s.book.rows ≡ some (claim b es)) where
+  -- how often a slot stands among them
+  pub entry_marks : (k : ℕ) → occurs k (moved_of es) ≡ bit (is_moving_by t ((s.tables b).slots k))
+  entry_marks k = rw (row, eq-eqb b b refl) at (w.marks.transfer_reserved t b k)
+
+  -- none stands there twice
+  pub entry_once : (k : ℕ) → occurs k (moved_of es) ≤ 1
+  entry_once k = bool (is_moving_by t ((s.tables b).slots k)) (λ e. omega (arith, entry_marks k ∙ ap bit e)) (λ e. omega (arith, entry_marks k ∙ ap bit e))
+
+  -- each has the claim's mark
+  pub entry_marked : (k : ℕ) → 1 ≤ occurs k (moved_of es) → is_moving_by t ((s.tables b).slots k) ≡ true
+  entry_marked k o = bool (is_moving_by t ((s.tables b).slots k)) (λ e. e) (λ e. absurd (omega (arith, entry_marks k ∙ ap bit e)))

@@ -12,7 +12,7 @@ use Rattle.model.specs.State.{generation, is_active, max_batch}
 use Rattle.model.specs.Storage.{place, keep, keep_all}
 use Rattle.model.specs.Change.{with_table, with_objects}
 use Rattle.model.specs.Objects.{raise, change_all}
-use Rattle.model.specs.Request.{Route, Operation, Operation.as_move, Operation.as_copy, Item, Request.prepare_transfer, Answer.opened}
+use Rattle.model.specs.Request.{Route, Operation, Operation.as_move, Operation.as_copy, Item, Request.prepare_transfer, Answer, Answer.opened}
 use Rattle.model.specs.Book.{find, add_row, free_row, id_left, moved_of, copies_of}
 use Rattle.model.specs.Decision.{Decision, Decision.refusal, Decision.refusal_after_id, Decision.accept}
 use Rattle.model.specs.Lookup.{handle_or}
@@ -20,12 +20,13 @@ use Rattle.model.specs.Transfer.{is_copy, items_fault, copies_fault, entry_by, e
 use Rattle.model.specs.Step.{restore_all, prepare_transfer_of, decide, carry, step}
 use Rattle.model.specs.WellFormed.{WellFormed, is_moving_by}
 use Rattle.noninterference.specs.Names.{value_of}
-use Rattle.noninterference.specs.Runs.{is_move, lowered, with_slots}
+use Rattle.noninterference.specs.Runs.{is_move, accepted, lowered, with_slots}
 use Rattle.noninterference.specs.Erase.{erase_slot, erase_table, erase}
 use Rattle.model.proofs.Tests.{bool, clash, and_left, and_right}
 use Rattle.model.proofs.Decided.{Decided, Any, accepts, checked, after_id}
 use Rattle.invariant.proofs.BookLemmas.{ids_none}
 use Rattle.noninterference.proofs.Basics.{lowered_above, lowered_below}
+use Rattle.noninterference.proofs.Marks.{entry_marked, entry_once}
 use Rattle.noninterference.proofs.Rows.{erase_new, find_new}
 use Rattle.noninterference.proofs.Items.{AllName, all_name}
 use Rattle.noninterference.proofs.Alike.{Held, Open}
@@ -58,14 +59,23 @@ module _ (z : Sizes) where
   marks_mask t [] x = refl
   marks_mask t (k ∷ ks) x = marks_mask t ks (keep z (λ g. transfer_reserved g t) x k) ∙ place_mask x k (transfer_reserved (generation (x.slots k)) t)
 
--- what a decision leaves that opens t
-pub opened_leaves : (z : Sizes) (s : State) (t : ℕ) (P : State → Type 0) {d : Decision} → Decided Any Any (λ v a. a ≡ opened t → P v) d → (carry z s d).1 ≡ opened t → P (carry z s d).0
-opened_leaves z s t P {d} r = go d r
+-- what a decision leaves whose answer is that of an accepted request
+pub accepted_leaves : (z : Sizes) (s : State) (answer : Answer) (P : State → Type 0) → accepted answer ≡ true → {d : Decision} → Decided Any Any (λ v a. a ≡ answer → P v) d
+    → (carry z s d).1 ≡ answer → P (carry z s d).0
+accepted_leaves z s answer P p {d} r = go d r
   where
-    go : (d : Decision) → Decided Any Any (λ v a. a ≡ opened t → P v) d → (carry z s d).1 ≡ opened t → P (carry z s d).0
-    go (refusal m) r e = let f : ◌≡◌ {A = ℕ} 0 1 = cc in absurd (omega arith)
-    go (refusal_after_id m) r e = let f : ◌≡◌ {A = ℕ} 0 1 = cc in absurd (omega arith)
+    go : (d : Decision) → Decided Any Any (λ v a. a ≡ answer → P v) d → (carry z s d).1 ≡ answer → P (carry z s d).0
+    go (refusal m) r e = clash p (sym (ap accepted e))
+    go (refusal_after_id m) r e = clash p (sym (ap accepted e))
     go (accept v a) r e = r.leaves e
+
+-- what a new claim of table b with these entries leaves
+module _ (z : Sizes) (s : State) (b : ℕ) (es : List Entry) where
+  abbrev pub marked : Table
+  marked = keep_all z (λ g. transfer_reserved g s.book.next) (moved_of es) (s.tables b)
+
+  abbrev pub claimed : State
+  claimed = add_row (claim b es) (with_objects (with_table s b marked) (change_all raise (copies_of es) s.objects))
 
 module _ (z : Sizes) (s : State) (w : WellFormed z s) where
   abbrev n : ℕ
@@ -90,19 +100,9 @@ module _ (z : Sizes) (s : State) (w : WellFormed z s) where
   low_table : (es : List Entry) (c : ℕ) → erase_table n es (s.tables c) ≡ s.tables c
   low_table es c = λ i. with_slots (s.tables c) (λ k. low_slot c k ((s.tables c).slots k) refl es i)
 
-  -- what a new claim of table b with these entries leaves
-  module _ (b : ℕ) (es : List Entry) where
-    abbrev pub marked : Table
-    marked = keep_all z (λ g. transfer_reserved g n) (moved_of es) (s.tables b)
-
-    abbrev pub claimed : State
-    claimed = add_row (claim b es) (with_objects (with_table s b marked) (change_all raise (copies_of es) s.objects))
-
-    pub row : find n claimed.book.rows ≡ some (claim b es)
-    row = find_new n (claim b es) s.book.rows (none_from n (omega arith))
-
-    pub marks : WellFormed z claimed → (k : ℕ) → occurs k (moved_of es) ≡ bit (is_moving_by n (marked.slots k))
-    marks f k = rw (row, eq-eqb b b refl) at (f.marks.transfer_reserved n b k)
+  -- a new claim's row
+  pub row : (b : ℕ) (es : List Entry) → find n (claimed z s b es).book.rows ≡ some (claim b es)
+  row b es = find_new n (claim b es) s.book.rows (none_from n (omega arith))
 
   module _ (b : ℕ) (route : Route) (bo bk : Option ℕ) where
     abbrev y : Table
@@ -161,22 +161,22 @@ module _ (z : Sizes) (s : State) (w : WellFormed z s) where
 
     -- the accepted transfer, of moves only
     module _ (qs : List Item) (m : every is_move qs ≡ true) (a : AllName s y route bo bk qs) where
-      open_now : WellFormed z (claimed b (entries qs)) → Open z n b (entries qs) (map value_of qs) (claimed b (entries qs))
+      open_now : WellFormed z (claimed z s b (entries qs)) → Open z n b (entries qs) (map value_of qs) (claimed z s b (entries qs))
       open_now f = record {
         wf = f;
         row = row b (entries qs);
-        held = rw (eq-eqb b b refl) (held (marked b (entries qs)) (marks_mask z n (moved_of (entries qs)) y) (marks_gen z n (moved_of (entries qs)) y) qs m a
-            (λ k c. bool (is_moving_by n ((marked b (entries qs)).slots k)) (λ e. e) (λ e. absurd (omega (arith, marks b (entries qs) f k ∙ ap bit e)))));
+        held = rw (eq-eqb b b refl) (held (marked z s b (entries qs)) (marks_mask z n (moved_of (entries qs)) y) (marks_gen z n (moved_of (entries qs)) y) qs m a
+            (λ k c. let e = entry_marked (claimed z s b (entries qs)) f n b (entries qs) (row b (entries qs)) k c in rw (eq-eqb b b refl) at e));
       }
 
-      erased : WellFormed z (claimed b (entries qs)) → erase_table n (entries qs) (marked b (entries qs)) ≡ y
+      erased : WellFormed z (claimed z s b (entries qs)) → erase_table n (entries qs) (marked z s b (entries qs)) ≡ y
       erased f =
           mark_restored z n (entries qs) (entries qs)
-          (agrees_own (entries qs) (λ k. bool (is_moving_by n ((marked b (entries qs)).slots k)) (λ e. omega (arith, marks b (entries qs) f k ∙ ap bit e)) (λ e. omega (arith, marks b (entries qs) f k ∙ ap bit e)))) y
+          (agrees_own (entries qs) (entry_once (claimed z s b (entries qs)) f n b (entries qs) (row b (entries qs)))) y
           ∙ ap (restore_all z (entries qs)) (low_table (entries qs) b)
           ∙ restore_idle z y (entries qs) (stand qs a)
 
-      same_tables : WellFormed z (claimed b (entries qs)) → (c : ℕ) → erase_table n (entries qs) (put s.tables b (marked b (entries qs)) c) ≡ s.tables c
+      same_tables : WellFormed z (claimed z s b (entries qs)) → (c : ℕ) → erase_table n (entries qs) (put s.tables b (marked z s b (entries qs)) c) ≡ s.tables c
       same_tables f c = bool (eqb c b) (λ e. rw (e, eqb-true c b e) (erased f)) (λ e. rw e (low_table (entries qs) c))
 
       same_next : lowered n (n + 1) ≡ n
@@ -185,7 +185,7 @@ module _ (z : Sizes) (s : State) (w : WellFormed z s) where
       same_objects : change_all raise (copies_of (entries qs)) s.objects ≡ s.objects
       same_objects = rw (no_copies qs m)
 
-      begun : WellFormed z (claimed b (entries qs)) → Begun z s n b (map value_of qs) (claimed b (entries qs))
+      begun : WellFormed z (claimed z s b (entries qs)) → Begun z s n b (map value_of qs) (claimed z s b (entries qs))
       begun f = record {
         es = entries qs;
         claimed = open_now f;
@@ -200,14 +200,14 @@ module _ (z : Sizes) (s : State) (w : WellFormed z s) where
         };
       }
 
-      begun_as : (t : ℕ) → n ≡ t → WellFormed z (claimed b (entries qs)) → Begun z s t b (map value_of qs) (claimed b (entries qs))
-      begun_as t i f = subst (λ (j : ℕ). Begun z s j b (map value_of qs) (claimed b (entries qs))) i (begun f)
+      begun_as : (t : ℕ) → n ≡ t → WellFormed z (claimed z s b (entries qs)) → Begun z s t b (map value_of qs) (claimed z s b (entries qs))
+      begun_as t i f = subst (λ (j : ℕ). Begun z s j b (map value_of qs) (claimed z s b (entries qs))) i (begun f)
 
     -- an accepted transfer has passed its checks: what holds of what it leaves, holds after the step
-    pub opens_to : (qs : List Item) (t : ℕ) (P : State → Type 0) → (b < s.table_count → is_active y.life ≡ true → AllName s y route bo bk qs → n ≡ t → P (claimed b (entries qs)))
+    pub opens_to : (qs : List Item) (t : ℕ) (P : State → Type 0) → (b < s.table_count → is_active y.life ≡ true → AllName s y route bo bk qs → n ≡ t → P (claimed z s b (entries qs)))
         → (step z s (prepare_transfer b route bo bk qs)).1 ≡ opened t → P (step z s (prepare_transfer b route bo bk qs)).0
     unfolding step decide prepare_transfer_of
-    opens_to qs t P f = opened_leaves z s t P (
+    opens_to qs t P f = accepted_leaves z s (opened t) P refl (
         checked (ltb b s.table_count) 18 tt λ l.
         checked (is_active y.life) 16 tt λ a.
         checked (ltb 0 (length qs)) 17 tt λ q.

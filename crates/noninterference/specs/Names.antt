@@ -12,7 +12,7 @@ pub record Names (r : Request) : Type 0 where
   -- handle values, in a table (0 where it names none: then `values` is empty, so that nothing is named in table 0)
   pub table : ℕ
   pub values : List ℕ
-  -- document 02, 2: whether it looks at them and does nothing else
+  -- document 02, 2: whether it may name a value that is being moved, since it answers on one as it did before: `get_info` alone
   pub looks : Bool
   -- a table that it scans, starts to tear down or removes from for a stopping owner
   pub walked : Option ℕ

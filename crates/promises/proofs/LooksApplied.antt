@@ -1,4 +1,4 @@
--- That the promises on looks say something: each is put to use on the shop, and on its words. Assumes nothing.
+-- That the promises on looks say something: each is put to use on the shop, every field of it; and the looks are shown on the shop's words. Assumes nothing.
 use Rattle.std.specs.Prelude.{◌≡◌, true, ℕ, length, drop}
 use Rattle.std.proofs.Math.Path.{refl, ap}
 use Rattle.std.proofs.Common.{sym, ◌∙◌, arith}
@@ -7,11 +7,11 @@ use Rattle.std.proofs.Math.Option.{none, some}
 use Rattle.std.proofs.Math.ListN.{get_or, take}
 use Rattle.model.specs.Base.{every}
 use Rattle.model.specs.State.{till, State}
-use Rattle.model.specs.Request.{Info, Route.buffered, Operation.as_copy, Item, Request, Request.reserve, Request.get_info, Request.resolve, Request.prepare_transfer, Request.prepare_consumption, Request.rollback, Answer.refused, Answer.done, Answer.info_of}
+use Rattle.model.specs.Request.{Info, Route.buffered, Operation.as_copy, Item, Request, Request.duplicate, Request.reserve, Request.get_info, Request.resolve, Request.replace, Request.close, Request.prepare_transfer, Request.prepare_consumption, Request.rollback, Request.direct_rollback, Answer.refused, Answer.done, Answer.info_of}
 use Rattle.model.specs.Step.{step, run}
 use Rattle.model.specs.WellFormed.{WellFormed}
 use Rattle.model.specs.Words.{read_list, padded, all_words}
-use Rattle.model.proofs.Tests.{same_list_equal}
+use Rattle.model.proofs.Tests.{clash, same_list_equal}
 use Rattle.invariant.proofs.Pages.{till_sane}
 use Rattle.noninterference.specs.Runs.{permitted, lowered}
 use Rattle.contract.specs.Meets.{Called, Meets}
@@ -21,8 +21,8 @@ use Rattle.promises.proofs.Held.{held_words}
 use Rattle.promises.proofs.Demand2.{demand_2}
 use Rattle.promises.specs.Demand3.{TwoRuns}
 use Rattle.promises.proofs.Demand3.{demand_3}
-use Rattle.promises.specs.Looks.{Shown}
-use Rattle.promises.proofs.Looks.{transfer_shows, consumption_shows, permitted_unnamed, never_busy}
+use Rattle.promises.specs.Looks.{BusyToOthers, Shown}
+use Rattle.promises.proofs.Looks.{transfer_shows, consumption_shows, permitted_unnamed, look_refusals}
 use Rattle.promises.proofs.ShopRuns.{held_leaves, runs_of}
 use Rattle.promises.proofs.Shop.{ran, read_by, sh, shop, Begun, rep_shop, v63, v62, v61, prepare_words, item, items, transfer, list}
 
@@ -31,14 +31,16 @@ info koid kind rights = record { koid = koid; kind = kind; rights = rights; flag
 
 -- ---- on the definitions
 
--- what is shown is what the handle was before: koid 70, kind 3 and its own rights 15, where the receiver gets 3
+-- what is shown is what the handle was before, and again after a rollback, which is accepted; closing it is refused with 3 meanwhile
 abbrev Stays : State → (t value : ℕ) → List Request → Info → Type 0
-Stays u t v rs i = ((step till (run till u rs).0 (get_info 0 v)).1 ≡ info_of i) × ((step till (step till (run till u rs).0 (rollback t)).0 (get_info 0 v)).1 ≡ info_of i)
+Stays u t v rs i = let end : State = (run till u rs).0 in
+    ((step till end (get_info 0 v)).1 ≡ info_of i) × ((step till end (close 0 v)).1 ≡ refused 3) × ((step till end (rollback t)).1 ≡ done)
+    × ((step till (step till end (rollback t)).0 (get_info 0 v)).1 ≡ info_of i)
 
 stays : (u : State) (t v : ℕ) (rs : List Request) (i : Info) → Shown till shop u t 0 v rs → (step till shop (get_info 0 v)).1 ≡ info_of i → Stays u t v rs i
-stays u t v rs i p e = let same : info_of p.info ≡ info_of i = sym p.before ∙ e in (p.meanwhile ∙ same, p.again ∙ same)
+stays u t v rs i p e = let same : info_of p.info ≡ info_of i = sym p.before ∙ e in (p.meanwhile ∙ same, p.others.closes, p.rolled_back, p.again ∙ same)
 
--- the shop's transfer, through the list of its two runs
+-- the shop's transfer, through the list of its two runs: koid 70, kind 3 and its own rights 15, where the receiver gets 3
 permits : every (permitted 6 0 (v61 ∷ v63 ∷ [])) list ≡ true
 unfolding ran
 permits = refl
@@ -48,34 +50,53 @@ unfolding ran
 moved_63 w = stays (step till shop transfer).0 6 v63 list (info 70 3 15)
     (transfer_shows till till_sane shop w 0 buffered none none items 6 refl 1 (item v63 3) refl refl list (permitted_unnamed 6 0 (v61 ∷ v63 ∷ []) list permits)) refl
 
--- a copy stands between: the third item is looked at, of koid 71 in slot 62 only a copy is sent
+-- a transfer of two moves, of koid 71 and of koid 70, and a copy between them
 abbrev copied : ℕ → ℕ → Item
 copied v r = record { operation = as_copy; value = v; rights = r; offered_rights = none; offered_kind = none; expected_kind = none }
 
+abbrev mixed_items : List Item
+mixed_items = item v62 15 ∷ copied v61 1 ∷ item v63 3 ∷ []
+
 abbrev mixed : Request
-mixed = prepare_transfer 0 buffered none none (item v61 15 ∷ copied v62 1 ∷ item v63 3 ∷ [])
+mixed = prepare_transfer 0 buffered none none mixed_items
+
+moved_before_a_copy : WellFormed till shop → Stays (step till shop mixed).0 6 v62 [] (info 71 4 15)
+unfolding ran
+moved_before_a_copy w = stays (step till shop mixed).0 6 v62 [] (info 71 4 15) (transfer_shows till till_sane shop w 0 buffered none none mixed_items 6 refl 0 (item v62 15) refl refl [] refl) refl
 
 moved_behind_a_copy : WellFormed till shop → Stays (step till shop mixed).0 6 v63 [] (info 70 3 15)
 unfolding ran
-moved_behind_a_copy w = stays (step till shop mixed).0 6 v63 [] (info 70 3 15)
-    (transfer_shows till till_sane shop w 0 buffered none none (item v61 15 ∷ copied v62 1 ∷ item v63 3 ∷ []) 6 refl 2 (item v63 3) refl refl [] refl) refl
+moved_behind_a_copy w = stays (step till shop mixed).0 6 v63 [] (info 70 3 15) (transfer_shows till till_sane shop w 0 buffered none none mixed_items 6 refl 2 (item v63 3) refl refl [] refl) refl
 
--- a consumption
-abbrev eats : Request
-eats = prepare_consumption 0 v62 1 4 71
-
-eaten : WellFormed till shop → Stays (step till shop eats).0 6 v62 (reserve 1 1 ∷ []) (info 71 4 15)
+-- meanwhile every other request that names it gives 3
+refused_there : WellFormed till shop → let u : State = (step till shop mixed).0 in
+    ((step till u (resolve 0 v63 1 3)).1 ≡ refused 3) × ((step till u (replace 0 v63 1)).1 ≡ refused 3) × ((step till u (duplicate 0 v63 1)).1 ≡ refused 3)
+    × ((step till u (prepare_consumption 0 v63 1 3 70)).1 ≡ refused 3) × ((step till u (prepare_transfer 0 buffered none none (copied v63 1 ∷ []))).1 ≡ refused 3)
 unfolding ran
-eaten w = stays (step till shop eats).0 6 v62 (reserve 1 1 ∷ []) (info 71 4 15) (consumption_shows till till_sane shop w 0 v62 1 4 71 6 refl (reserve 1 1 ∷ []) refl) refl
+refused_there w =
+    let o : BusyToOthers till (step till shop mixed).0 0 v63 = (transfer_shows till till_sane shop w 0 buffered none none mixed_items 6 refl 2 (item v63 3) refl refl [] refl).others in
+    (o.resolves 1 3, o.replaces 1, o.duplicates 1 refl, o.consumes 1 3 70 refl, o.transfers buffered none none (copied v63 1) [] refl refl refl refl)
 
--- each rollback is accepted
-back : WellFormed till shop → (step till (run till (step till shop eats).0 (reserve 1 1 ∷ [])).0 (rollback 6)).1 ≡ done
+-- a consumption, and a reservation with which it is rolled back directly
+abbrev consumption : Request
+consumption = prepare_consumption 0 v62 1 4 71
+
+abbrev consumed : WellFormed till shop → Shown till shop (step till shop consumption).0 6 0 v62 (reserve 1 1 ∷ [])
 unfolding ran
-back w = (consumption_shows till till_sane shop w 0 v62 1 4 71 6 refl (reserve 1 1 ∷ []) refl).rolled_back
+consumed w = consumption_shows till till_sane shop w 0 v62 1 4 71 6 refl (reserve 1 1 ∷ []) refl
 
--- whatever the state and the value: not 3
-not_busy : (s : State) (v : ℕ) → (step till s (get_info 0 v)).1 ≡ refused 3 → ⊥
-not_busy s v = never_busy till s 0 v
+consumed_62 : WellFormed till shop → Stays (step till shop consumption).0 6 v62 (reserve 1 1 ∷ []) (info 71 4 15)
+unfolding ran
+consumed_62 w = stays (step till shop consumption).0 6 v62 (reserve 1 1 ∷ []) (info 71 4 15) (consumed w) refl
+
+back_directly : WellFormed till shop
+    → (step till (step till (run till (step till shop consumption).0 (reserve 1 1 ∷ [])).0 (direct_rollback 6 7)).0 (get_info 0 v62)).1 ≡ info_of (info 71 4 15)
+unfolding ran
+back_directly w = let p = consumed w in p.again_directly 7 refl ∙ (sym p.before ∙ refl)
+
+-- whatever the state, the table and the value: not 3
+not_busy : (s : State) (b v : ℕ) → (step till s (get_info b v)).1 ≡ refused 3 → ⊥
+not_busy s b v e = clash (look_refusals till s b v 3 e) refl
 
 -- ---- over words
 
@@ -83,8 +104,8 @@ not_busy s v = never_busy till s 0 v
 abbrev screen_words : List ℕ
 screen_words =
     19 ∷ 9 ∷ 0 ∷ v63
-    ∷ 4107 ∷ 14 ∷ 0 ∷ 3 ∷ 0 ∷ 49 ∷ 0 ∷ v61 ∷ 15 ∷ 49 ∷ 1 ∷ v62 ∷ 1 ∷ 49 ∷ 0 ∷ v63 ∷ 3
-    ∷ 19 ∷ 9 ∷ 0 ∷ v61
+    ∷ 4107 ∷ 14 ∷ 0 ∷ 3 ∷ 0 ∷ 49 ∷ 0 ∷ v62 ∷ 15 ∷ 49 ∷ 1 ∷ v61 ∷ 1 ∷ 49 ∷ 0 ∷ v63 ∷ 3
+    ∷ 19 ∷ 9 ∷ 0 ∷ v62
     ∷ 19 ∷ 9 ∷ 0 ∷ v63
     ∷ 563 ∷ 10 ∷ 0 ∷ v63 ∷ 1 ∷ 3
     ∷ 129 ∷ 16 ∷ 6
@@ -92,17 +113,21 @@ screen_words =
     ∷ []
 
 abbrev screen : List Request
-screen = get_info 0 v63 ∷ mixed ∷ get_info 0 v61 ∷ get_info 0 v63 ∷ resolve 0 v63 1 3 ∷ rollback 6 ∷ get_info 0 v63 ∷ []
+screen = get_info 0 v63 ∷ mixed ∷ get_info 0 v62 ∷ get_info 0 v63 ∷ resolve 0 v63 1 3 ∷ rollback 6 ∷ get_info 0 v63 ∷ []
 
 reads_screen : read_list screen_words ≡ some screen
 unfolding read_by
 reads_screen = refl
 
+-- of the handle of slot 63; of that of slot 62
 abbrev seen : List ℕ
 seen = padded 72 (0 ∷ 70 ∷ 3 ∷ 15 ∷ 0 ∷ [])
 
+abbrev seen_62 : List ℕ
+seen_62 = padded 72 (0 ∷ 71 ∷ 4 ∷ 15 ∷ 0 ∷ [])
+
 abbrev shown_there : List ℕ
-shown_there = seen ++ (padded 72 (0 ∷ 6 ∷ []) ++ (seen ++ (seen ++ (padded 72 (3 ∷ []) ++ (padded 72 [] ++ seen)))))
+shown_there = seen ++ (padded 72 (0 ∷ 6 ∷ []) ++ (seen_62 ++ (seen ++ (padded 72 (3 ∷ []) ++ (padded 72 [] ++ seen)))))
 
 screen_answers : all_words (run till shop screen).1 ≡ shown_there
 unfolding ran
