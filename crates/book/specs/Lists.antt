@@ -38,11 +38,6 @@ module _ {A : Type 0} where
   nth_take (suc n) (x ∷ l) zero h = refl
   nth_take (suc n) (x ∷ l) (suc j) h = nth_take n l j (omega arith)
 
-  pub nth_drop : (i : ℕ) (l : List A) (j : ℕ) → nth (drop i l) j ≡ nth l (i + j)
-  nth_drop zero l j = let z : 0 + j ≡ j = omega arith in rw z
-  nth_drop (suc i) [] j = refl
-  nth_drop (suc i) (x ∷ l) j = let z : suc i + j ≡ suc (i + j) = omega arith in rw z (nth_drop i l j)
-
   pub take_more : (n : ℕ) (l : List A) (a : A) → nth l n ≡ some a → take (suc n) l ≡ take n l ++ (a ∷ [])
   take_more n [] a e = nothing a e
   take_more zero (x ∷ l) a e = rw (some_same x a e)

@@ -13,6 +13,8 @@ use Rattle.model.specs.Book.{drop_row, swap_row}
 use Rattle.model.specs.WellFormed.{WellFormed}
 use Rattle.model.proofs.Sums.{member_in}
 use Rattle.model.proofs.Counting.{nth_occurs}
+use Rattle.model.proofs.Tests.{nth_drop}
+use Rattle.model.proofs.Changed.{with_table_at}
 use Rattle.invariant.proofs.BookLemmas.{found_range}
 use Rattle.invariant.proofs.Marks.{mark_busy}
 use Rattle.invariant.proofs.Pointwise.{vacate_all_slots}
@@ -21,14 +23,14 @@ use Rattle.layout.specs.Layout.{load}
 use Rattle.layout.specs.Fields.{slot_position}
 use Rattle.representation.specs.Represents.{slot_word, is_marked}
 use Rattle.storage.specs.Reps.{Held}
-use Rattle.book.specs.Lists.{nth_drop, occurs_drop}
+use Rattle.book.specs.Lists.{occurs_drop}
 use Rattle.book.specs.Ops.{close_w, shrink_w, vacate_items_w}
 use Rattle.book.specs.Find.{Fits, fits_of, RowAt, at_find}
 use Rattle.book.specs.Close.{close_held}
 use Rattle.book.specs.Shrink.{shrink_held}
 use Rattle.book.specs.Marks.{NamedBy, named_reservation, reserved_once, reserved_at, unnamed}
 use Rattle.book.specs.Fades.{named_fades, fits_table}
-use Rattle.book.specs.Vacated.{Follows, part, items_vacated, with_table_at}
+use Rattle.book.specs.Vacated.{Follows, part, items_vacated}
 
 -- a slot that fell vacant has no mark
 vacated_bare : (z : Sizes) (ks : List ℕ) (t : Table) (k : ℕ) → occurs k ks ≤ 1 → 0 < occurs k ks → is_marked ((vacate_all z ks t).slots k) ≡ false

@@ -1,7 +1,7 @@
 -- A reservation's slots fall vacant one after the other, and then the row leaves or shrinks: abort and trim. Assumes nothing.
 use Rattle.std.specs.Prelude.{◌≡◌, refl, true, length, take, drop, eqb}
-use Rattle.std.proofs.Common.{sym, ap, ◌∙◌, arith, eq-eqb, eqb-true}
-use Rattle.std.proofs.Math.Path.{fun_ext, subst}
+use Rattle.std.proofs.Common.{sym, ap, ◌∙◌, arith}
+use Rattle.std.proofs.Math.Path.{subst}
 use mathlib.Core.List.{List}
 use Rattle.std.proofs.Math.Option.{some}
 use Prim.Native.Nat.{ℕ, zero, suc, ◌+◌, ◌≤◌, ◌<◌}
@@ -10,7 +10,8 @@ use Rattle.model.specs.Base.{put, nth, occurs}
 use Rattle.model.specs.State.{Sizes, till, Table, Body, Body.reservation, State, is_busy}
 use Rattle.model.specs.Storage.{vacate, vacate_all}
 use Rattle.model.specs.Change.{with_table}
-use Rattle.model.proofs.Tests.{nth_some, put_put}
+use Rattle.model.proofs.Tests.{nth_some, nth_drop}
+use Rattle.model.proofs.Changed.{with_own, with_over, with_table_at}
 use Rattle.invariant.proofs.Pointwise.{vacate_all_more, vacate_all_out}
 use Rattle.layout.specs.declared.Shape.{Shape}
 use Rattle.layout.specs.Layout.{Mem, item, load}
@@ -18,24 +19,11 @@ use Rattle.layout.specs.Fields.{item_slot}
 use Rattle.storage.specs.Ops.{vacate_w}
 use Rattle.storage.specs.Turns.{vacate_turns}
 use Rattle.storage.specs.Reps.{Held, ready_of, vacate_held}
-use Rattle.book.specs.Lists.{nth_drop, take_more, occurs_drop, occurs_before}
+use Rattle.book.specs.Lists.{take_more, occurs_drop, occurs_before}
 use Rattle.book.specs.Places.{item_of}
 use Rattle.book.specs.Ops.{vacate_items_w}
 use Rattle.book.specs.Find.{RowAt}
 use Rattle.book.specs.Fades.{Fades, fades_none, fades_then, vacate_fades, row_turned}
-
--- a table put where it stands, and one put over another
-put_own : (f : ℕ → Table) (b : ℕ) → put f b (f b) ≡ f
-put_own f b = fun_ext λ c. bool (eqb c b) (λ e. rw (e, eqb-true c b e)) (λ e. rw e)
-
-pub with_own : (s : State) (b : ℕ) → with_table s b (s.tables b) ≡ s
-with_own s b = ap (λ (f : ℕ → Table). record { table_count = s.table_count; tables = f; object_count = s.object_count; objects = s.objects; frame_count = s.frame_count; frames = s.frames; book = s.book }) (put_own s.tables b)
-
-pub with_over : (s : State) (b : ℕ) (t u : Table) → with_table (with_table s b t) b u ≡ with_table s b u
-with_over s b t u = ap (λ (f : ℕ → Table). record { table_count = s.table_count; tables = f; object_count = s.object_count; objects = s.objects; frame_count = s.frame_count; frames = s.frames; book = s.book }) (put_put s.tables b u t)
-
-pub with_table_at : (s : State) (b : ℕ) (t : Table) → (with_table s b t).tables b ≡ t
-with_table_at s b t = rw (eq-eqb b b refl)
 
 -- words that represent s, where the row stands in place x and no mark is new since m and u
 pub record Follows (m : Mem) (u : State) (ws : List ℕ) (sh : Shape) (s : State) (x i : ℕ) (y : Body) : Type 0 where

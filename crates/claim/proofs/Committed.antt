@@ -11,6 +11,7 @@ use Rattle.model.specs.Book.{swap_row, moved_of, sent_of}
 use Rattle.model.proofs.Sums.{member_in}
 use Rattle.model.specs.Step.{commit_of, decide}
 use Rattle.model.specs.Request.{Request.commit}
+use Rattle.model.proofs.Changed.{with_table_at as table_at_law}
 use Rattle.invariant.proofs.Pointwise.{vacate_all_slots}
 use Rattle.layout.specs.declared.Shape.{Shape}
 use Rattle.layout.specs.Layout.{total, row, item, in_row, load, save, load_save}
@@ -24,7 +25,6 @@ use Rattle.book.specs.Ops.{Fills, fills_then, fills_row}
 use Rattle.book.specs.Find.{fits_of, RowAt}
 use Rattle.book.specs.Marks.{Unnamed}
 use Rattle.book.specs.Swap.{swap_held}
-use Rattle.book.specs.Vacated.{with_table_at as table_at_law}
 use Rattle.answer.specs.Does.{Does, does_on_row}
 use Rattle.book.specs.Keeps.{Keeps}
 use Rattle.claim.specs.Ops.{claim_link, left_w, sent_w, committed_w, commit_r}

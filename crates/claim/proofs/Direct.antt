@@ -30,12 +30,12 @@ use Rattle.layout.specs.Layout.{load}
 use Rattle.representation.specs.Represents.{is_marked, Rep}
 use Rattle.storage.specs.Reps.{Held}
 use Rattle.model.proofs.Counting.{nth_occurs}
+use Rattle.model.proofs.Changed.{with_table_at as table_at_law}
 use Rattle.book.specs.Ops.{close_w}
 use Rattle.book.specs.Find.{Fits, fits_of, RowAt}
 use Rattle.book.specs.Marks.{Unnamed, unnamed, named_reservation}
 use Rattle.book.specs.Fades.{named_fades, unnamed_fades, close_fades, fits_drop}
 use Rattle.book.specs.Close.{close_held, close_other, ids_places}
-use Rattle.book.specs.Vacated.{with_table_at as table_at_law}
 use Rattle.answer.specs.Does.{Both, Does, does_refused, does_accepted}
 use Rattle.book.specs.Found.{Open}
 use Rattle.claim.proofs.Ends.{abort_does}

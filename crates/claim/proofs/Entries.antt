@@ -10,6 +10,7 @@ use Rattle.model.specs.Objects.{lower, change, release}
 use Rattle.model.specs.Book.{moved_of, copies_of, sent_of}
 use Rattle.model.specs.Step.{fill_all, restore_all}
 use Rattle.model.proofs.Counting.{bit_same}
+use Rattle.model.proofs.Changed.{with_table_at as table_at_law, with_own as table_same, with_over as table_twice}
 use Rattle.invariant.proofs.Pointwise.{keep_busy, vacate_all_out}
 use Rattle.invariant.proofs.StorageState.{InRange}
 use Rattle.layout.specs.declared.Shape.{Shape}
@@ -27,7 +28,6 @@ use Rattle.object.specs.Record.{lowered_by}
 use Rattle.object.specs.Words.{lower_w}
 use Rattle.object.specs.Reps.{step_only, step_stays, step_rows, lower_held}
 use Rattle.book.specs.Fades.{vacate_fades, row_turned}
-use Rattle.book.specs.Vacated.{with_table_at as table_at_law, with_own as table_same, with_over as table_twice}
 use Rattle.book.specs.Keeps.{Keeps, keeps_none, keeps_then, objects_keep, occupy_keeps}
 use Rattle.claim.specs.Ops.{each, undo_w, sent_rights, leave_w, fill_w}
 

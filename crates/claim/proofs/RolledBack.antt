@@ -7,6 +7,7 @@ use Rattle.model.specs.Book.{drop_row, moved_of}
 use Rattle.model.specs.Step.{restore_all, rollback_of, decide}
 use Rattle.model.specs.Request.{Request.rollback, Answer.done}
 use Rattle.model.specs.Decision.{Decision.accept}
+use Rattle.model.proofs.Changed.{with_table_at as table_at_law}
 use Rattle.invariant.proofs.Parcels.{moved_length}
 use Rattle.invariant.proofs.Pointwise.{moved_handles, restore_all_is, fill_all_slots}
 use Rattle.invariant.proofs.StorageState.{copies_range}
@@ -16,7 +17,6 @@ use Rattle.representation.specs.Represents.{is_marked, Rep}
 use Rattle.storage.specs.Reps.{Held, held_of}
 use Rattle.book.specs.Find.{fits_of}
 use Rattle.book.specs.Close.{close_held}
-use Rattle.book.specs.Vacated.{with_table_at as table_at_law}
 use Rattle.answer.specs.Does.{Does, does_on_row}
 use Rattle.book.specs.Keeps.{Keeps, bare_given}
 use Rattle.claim.specs.Ops.{claim_link, undone_w, rolled_w, rollback_r}

@@ -1,4 +1,5 @@
 pub mod Tests
+pub mod Changed
 pub mod Sums
 pub mod Counting
 pub mod Bounds

@@ -1,5 +1,5 @@
 -- Splits on tests, what tests say, and stores at one number.
-use Rattle.std.specs.Prelude.{◌≡◌, refl, Bool, true, false, ◌||◌, List, [], ◌∷◌, ℕ, zero, suc, ◌≤◌, ◌<◌, length, eqb, ltb}
+use Rattle.std.specs.Prelude.{◌≡◌, refl, Bool, true, false, ◌||◌, List, [], ◌∷◌, ℕ, zero, suc, ◌+◌, ◌≤◌, ◌<◌, length, drop, eqb, ltb}
 use Rattle.std.proofs.Math.Path.{fun_ext}
 pub use Rattle.std.proofs.Math.Bool.{and-false}
 use Rattle.std.proofs.Math.Option.{Option, none, some}
@@ -73,6 +73,10 @@ module _ {ℓ} {A : Type ℓ} (f : ℕ → A) (k : ℕ) (x : A) where
   pub put_at : (C : A → Type 0) (j : ℕ) → (j ≡ k → C x) → ((j ≡ k → ⊥) → C (f j)) → C (put f k x j)
   put_at C j y n = bool (eqb j k) (λ e. rw e (y (eqb-true j k e))) (λ e. rw e (n (eqb-false j k e)))
 
+-- what stands there, put there
+pub put_own {ℓ} : {A : Type ℓ} (f : ℕ → A) (k : ℕ) → put f k (f k) ≡ f
+put_own f k = fun_ext λ j. bool (eqb j k) (λ e. rw (e, eqb-true j k e)) (λ e. rw e)
+
 pub some_same {ℓ} : {A : Type ℓ} (a b : A) → some a ≡ some b → a ≡ b
 some_same a b e = cc
 
@@ -93,6 +97,11 @@ module _ {ℓ} {A : Type ℓ} where
   nth_past [] k h = refl
   nth_past (x ∷ xs) zero h = absurd (omega arith)
   nth_past (x ∷ xs) (suc k) h = nth_past xs k (omega arith)
+
+  pub nth_drop : (i : ℕ) (l : List A) (j : ℕ) → nth (drop i l) j ≡ nth l (i + j)
+  nth_drop zero l j = let z : 0 + j ≡ j = omega arith in rw z
+  nth_drop (suc i) [] j = refl
+  nth_drop (suc i) (x ∷ l) j = let z : suc i + j ≡ suc (i + j) = omega arith in rw z (nth_drop i l j)
 
   pub nth_passes : (p : A → Bool) (l : List A) → every p l ≡ true → (k : ℕ) (a : A) → nth l k ≡ some a → p a ≡ true
   nth_passes p [] e k a h = apart (cc)

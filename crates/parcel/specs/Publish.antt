@@ -18,6 +18,7 @@ use Rattle.model.specs.Decision.{as_parcel, joined, handles_of}
 use Rattle.model.specs.Step.{fill_all}
 use Rattle.model.proofs.Sums.{occurs_split}
 use Rattle.model.proofs.Tests.{apart, some_same}
+use Rattle.model.proofs.Changed.{with_table_at as table_at_law, with_own as table_same, with_over as table_twice}
 use Rattle.invariant.proofs.Parcels.{parts}
 use Rattle.invariant.proofs.Pointwise.{fill_all_none, fill_all_append, keep_busy}
 use Rattle.invariant.proofs.StorageViews.{fill_all_busy}
@@ -31,7 +32,6 @@ use Rattle.storage.specs.Ops.{occupy_w}
 use Rattle.storage.specs.Kept.{handles_kept, slots_kept}
 use Rattle.storage.specs.Reps.{Held}
 use Rattle.book.specs.Find.{Fits, RowAt}
-use Rattle.book.specs.Vacated.{with_table_at as table_at_law, with_own as table_same, with_over as table_twice}
 use Rattle.parcel.specs.Ops.{parcel_link}
 use Rattle.parcel.specs.Found.{parcel_none, parcel_some}
 use Rattle.book.specs.Keeps.{Keeps, keeps_none, keeps_then, occupy_keeps}

@@ -32,12 +32,12 @@ use Rattle.representation.specs.Represents.{is_marked, Rep}
 use Rattle.storage.specs.Reps.{Held, held_of}
 use Rattle.book.specs.Ops.{row_link, reservation_link, close_w}
 use Rattle.model.proofs.Counting.{nth_occurs}
+use Rattle.model.proofs.Changed.{with_table_at as table_at_law}
 use Rattle.book.specs.Find.{Fits, fits_of, RowAt}
 use Rattle.book.specs.Marks.{Unnamed, unnamed, named_reservation, named_parcel}
 use Rattle.book.specs.Fades.{Fades, fades_rows, named_fades, unnamed_fades, fits_drop}
 use Rattle.book.specs.Close.{close_held, close_other, close_slots, ids_places}
 use Rattle.answer.specs.Does.{Both, both, answered, refuse_r, Does, does_refused, does_accepted}
-use Rattle.book.specs.Vacated.{with_table_at as table_at_law}
 use Rattle.book.specs.Found.{Open, reservation_none, reservation_some}
 use Rattle.parcel.specs.Ops.{parcel_link}
 use Rattle.parcel.specs.Found.{parcel_none, parcel_some, row_link_law}

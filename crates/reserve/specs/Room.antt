@@ -20,13 +20,13 @@ use Rattle.model.proofs.Decided.{Room}
 use Rattle.model.specs.Step.{with_room, reserve_in, decide}
 use Rattle.model.specs.Words.{used_words}
 use Rattle.model.proofs.Bounds.{batch_max_law}
+use Rattle.model.proofs.Changed.{with_table_at as table_at_law}
 use Rattle.layout.specs.declared.Shape.{Shape}
 use Rattle.layout.specs.Layout.{root, load}
 use Rattle.layout.specs.Fields.{root_next_id, root_used_rows, root_free_frames}
 use Rattle.layout.specs.Sizes.{batch_max}
 use Rattle.representation.specs.Represents.{Rep}
 use Rattle.storage.specs.Reps.{Held, held_of}
-use Rattle.book.specs.Vacated.{with_table_at as table_at_law}
 use Rattle.growth.specs.Words.{pages_needed, no_plan}
 use Rattle.growth.specs.Plan.{needed_some, needed_none, plan_short}
 use Rattle.lookup.specs.View.{table_refusal}

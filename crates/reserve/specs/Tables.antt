@@ -4,7 +4,7 @@ use Rattle.std.proofs.Common.{ap}
 use Rattle.model.specs.State.{Table, Body, State}
 use Rattle.model.specs.Change.{with_table}
 use Rattle.model.specs.Book.{add_row}
-use Rattle.book.specs.Vacated.{with_over}
+use Rattle.model.proofs.Changed.{with_over}
 
 -- tables and rows are different fields
 pub table_last : (s : State) (b : ℕ) (u v : Table) (y : Body) → with_table (add_row y (with_table s b u)) b v ≡ add_row y (with_table s b v)

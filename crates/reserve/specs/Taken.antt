@@ -13,6 +13,7 @@ use Rattle.model.specs.State.{till, Slot.reserved, Table, Body.reservation, Stat
 use Rattle.model.specs.Storage.{with_free, take_free}
 use Rattle.model.specs.Change.{with_table}
 use Rattle.model.specs.Lookup.{value_at}
+use Rattle.model.proofs.Changed.{with_table_at as table_at_law, with_own as table_same, with_over as table_twice}
 use Rattle.invariant.proofs.Pointwise.{place_free, take_free_none, take_free_more}
 use Rattle.layout.specs.declared.Shape.{Shape}
 use Rattle.layout.specs.Layout.{Mem, head, item, load}
@@ -30,7 +31,6 @@ use Rattle.book.specs.Find.{RowAt}
 use Rattle.book.specs.Marks.{names_reservation}
 use Rattle.book.specs.Fades.{row_turned}
 use Rattle.reserve.specs.Ops.{taken_w, values_at}
-use Rattle.book.specs.Vacated.{with_table_at as table_at_law, with_own as table_same, with_over as table_twice}
 
 -- the head of the free order, by its words
 head_is : (m : Mem) (b : ℕ) (t : Table) → TableIs m b t → (k : ℕ) (l : List ℕ) → t.free ≡ k ∷ l → look m b (hd head_first_free) - 1 ≡ k

@@ -12,6 +12,7 @@ use Rattle.model.specs.State.{till, Slot.transfer_reserved, Table, Entry, Entry.
 use Rattle.model.specs.Storage.{keep, keep_all}
 use Rattle.model.specs.Change.{with_table}
 use Rattle.model.specs.Book.{add_row, moved_of}
+use Rattle.model.proofs.Changed.{with_table_at as table_at_law, with_own as table_same, with_over as table_twice}
 use Rattle.invariant.proofs.Pointwise.{keep_busy}
 use Rattle.layout.specs.declared.Shape.{Shape}
 use Rattle.layout.specs.Layout.{Addr, Addr.reg, total, root, index, item, load, save, same, same_is, is_in, in_item, length_save, load_save_any, Write, Write.at, writes, load_writes}
@@ -31,7 +32,6 @@ use Rattle.book.specs.Marks.{names_claim}
 use Rattle.book.specs.Fades.{row_turned}
 use Rattle.book.specs.Swap.{spare_held}
 use Rattle.book.specs.Open.{Opens, open_held, open_row}
-use Rattle.book.specs.Vacated.{with_table_at as table_at_law, with_own as table_same, with_over as table_twice}
 use Rattle.lookup.specs.declared.PreparedHandle.{PreparedHandle}
 use Rattle.lookup.specs.View.{handle_of}
 use Rattle.transfer.specs.Ops.{moved_p, moved_w, mark_item_w, marked_w, claim_w}
