@@ -9,14 +9,14 @@ use borrow.Author.Tests.{ne_eqb}
 use Rattle.words.specs.Pick.{pick}
 use Rattle.model.specs.State.{till, State}
 use Rattle.model.specs.Request.{Request, Answer, Answer.done}
-use Rattle.model.specs.Decision.{Decision.refusal, Decision.refusal_after_id, Decision.accept}
+use Rattle.model.specs.Decision.{Decision, Decision.refusal, Decision.refusal_after_id, Decision.accept}
 use Rattle.model.specs.Book.{spend_id}
-use Rattle.model.specs.Step.{decide, step}
+use Rattle.model.specs.Step.{decide, carry, step}
 use Rattle.model.specs.Words.{used_words}
 use Rattle.layout.specs.declared.Shape.{Shape}
 use Rattle.codec.specs.declared.ReservationId.{ReservationId}
 use Rattle.layout.specs.Fields.{root_next_id}
-use Rattle.representation.specs.Represents.{Reps}
+use Rattle.representation.specs.Represents.{Reps, Rep}
 use Rattle.format.specs.declared.refusal.Refusal.{Refusal}
 use Rattle.format.specs.Refusals.{number}
 use Rattle.request.specs.Answers.{puts}
@@ -100,6 +100,28 @@ module _ (os : List ℕ) (sh : Shape) (base : ℕ) (s : State) (r : Request) whe
   does_on_row ws f zero i none_there there = does_refused ws 18 i (none_there refl)
   does_on_row ws f (suc x) i none_there there = let p = there x refl in let z : suc x - 1 ≡ x = omega arith in
       rw (z, ne_eqb (suc x) 0 (λ q. omega arith)) (does_accepted (f x) p.0 done p.1 p.2)
+
+-- ---- by a definition that decides
+
+-- as `Does`, by the decision d: for a contract that names a definition of a request
+pub record Done (ws os : List ℕ) (sh : Shape) (base : ℕ) (s : State) (d : Decision) (x : Both) : Type 0 where
+  pub state : Reps x.state sh (carry till s d).0
+  pub answers : x.answers ≡ answered os base (used_words (carry till s d).1)
+  pub kept : (n : ℕ) → d ≡ refusal n → x.state ≡ ws
+  pub spent : (n : ℕ) → d ≡ refusal_after_id n → x.state ≡ id_spent ws
+
+-- so of every well-formed state that the words represent
+pub record Takes (ws os : List ℕ) (sh : Shape) (base : ℕ) (decides : State → Decision) (x : Both) : Type 0 where
+  pub done : (s : State) → Rep ws sh s → Done ws os sh base s (decides s) x
+
+-- a definition that decides a request as document 01 does
+pub takes : (ws os : List ℕ) (sh : Shape) (base : ℕ) (r : Request) (decides : State → Decision) (x : Both) → ((s : State) → decides s ≡ decide till s r)
+    → ((s : State) → Rep ws sh s → Does ws os sh base s r x) → Takes ws os sh base decides x
+unfolding step
+takes ws os sh base r decides x same does = record {
+  done = λ s i. let d = does s i in
+      record { state = rw (same s) d.state; answers = rw (same s) d.answers; kept = λ n e. d.kept n (sym (same s) ∙ e); spent = λ n e. d.spent n (sym (same s) ∙ e) };
+}
 
 -- ---- answers of many words
 

@@ -7,3 +7,4 @@ pub mod Sent
 pub mod Committed
 pub mod Pairs
 pub mod Direct
+pub mod Takes

@@ -9,7 +9,10 @@ ghost use Rattle.std.specs.Prelude.{◌≡◌, eqb};
 ghost use Rattle.layout.specs.Layout.{load as loadAt, item};
 ghost use Rattle.layout.specs.Fields.{item_operation};
 ghost use Rattle.layout.specs.Values.{operation_move};
-ghost use Rattle.answer.specs.Does.{both, Gives, reply, no_words};
+ghost use Rattle.model.specs.State.{till};
+ghost use Rattle.model.specs.Step.{direct_commit_of};
+ghost use Rattle.straight.specs.Straight.{direct_commit_straight};
+ghost use Rattle.answer.specs.Does.{both, Gives, Takes, reply, no_words};
 ghost use Rattle.claim.specs.EndsOps.{aborted_w, trimmed_w, abort_r, trim_r};
 ghost use Rattle.claim.specs.Ops.{undo_w, undone_w, rolled_w, rollback_r, sent_rights, leave_w, left_w, send_w, sent_w, committed_w, commit_r};
 ghost use Rattle.claim.specs.Ops.{pair_of, filled_w, direct_w, direct_commit_r, direct_rollback_r};
@@ -295,6 +298,22 @@ pub fn direct_rollback(
     abort(s, sh, destination)
 }
 
+// Direct commit with its answer, by both of its definitions, as parcel's `answer_publish`: document 01's step, and the one straight from the rows (document 02, 3), which goes as `fill_slots` does.
+fn answer_direct_commit(
+    s: &mut [u64],
+    sh: Shape,
+    id: ReservationId,
+    destination: ReservationId,
+    out: &mut [u64],
+    base: usize,
+)
+    ensures words { both s.new out.new ≡ direct_commit_r s.old out.old sh base id.0 destination.0 }
+    ensures batch { Takes s.old out.old sh base (λ st. direct_commit_of till st id.0 destination.0) (both s.new out.new) }
+    ensures straight { Takes s.old out.old sh base (λ st. direct_commit_straight till st id.0 destination.0) (both s.new out.new) }
+{
+    answer::outcome(out, base, direct_commit(s, sh, id, destination));
+}
+
 // The request of a list at a place: its fields are read.
 pub fn serve_trim(s: &mut [u64], sh: Shape, rq: &Record, out: &mut [u64], base: usize)
     ensures { both s.new out.new ≡ trim_r s.old out.old sh base (word_of rq.now id_field) (word_of rq.now count_field) }
@@ -328,8 +347,7 @@ pub fn serve_direct_commit(s: &mut [u64], sh: Shape, rq: &Record, out: &mut [u64
     ensures { both s.new out.new ≡ direct_commit_r s.old out.old sh base (word_of rq.now id_field) (word_of rq.now destination_field) }
 {
     let [id, destination] = rq.fields(op::OP_DIRECT_COMMIT, [FIELD_ID, FIELD_DESTINATION]);
-    let outcome = direct_commit(s, sh, ReservationId(id), ReservationId(destination));
-    answer::outcome(out, base, outcome);
+    answer_direct_commit(s, sh, ReservationId(id), ReservationId(destination), out, base);
 }
 
 pub fn serve_direct_rollback(s: &mut [u64], sh: Shape, rq: &Record, out: &mut [u64], base: usize)

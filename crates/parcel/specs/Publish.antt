@@ -1,20 +1,20 @@
 -- Publish: its function takes the model's step. Assumes nothing.
-use Rattle.std.specs.Prelude.{◌≡◌, Bool, true, false, drop, eqb, ltb}
+use Rattle.std.specs.Prelude.{◌≡◌, true, drop, ltb}
 use Rattle.std.proofs.Math.Path.{refl, ap}
 use Rattle.std.proofs.Common.{sym, ◌∙◌, length-append}
 use mathlib.Core.List.{List, [], ◌∷◌, ◌++◌}
-use Rattle.std.proofs.Math.Option.{Option, none, some}
+use Rattle.std.proofs.Math.Option.{some}
 use Prim.Native.Nat.{ℕ, zero, suc, ◌+◌, ◌-◌, ◌≤◌, ◌<◌}
 use native.Mathlib.Omega.{arith}
 use Rattle.std.proofs.Math.ListN.{length, length-drop}
-use borrow.Author.Tests.{eqb-true, eqb-false, eq-eqb, ne_eqb, ltb-true, ltb-false}
-use Rattle.words.specs.Pick.{pick, bool}
+use borrow.Author.Tests.{ne_eqb}
+use Rattle.words.specs.Pick.{bool}
 use Rattle.model.specs.Base.{occurs}
 use Rattle.model.specs.State.{till, Handle, Slot.occupied, Table, Body.parcel, State, is_busy}
 use Rattle.model.specs.Storage.{keep}
 use Rattle.model.specs.Change.{with_table}
 use Rattle.model.specs.Book.{find}
-use Rattle.model.specs.Decision.{as_parcel, joined, handles_of}
+use Rattle.model.specs.Decision.{as_parcel, handles_of}
 use Rattle.model.specs.Step.{fill_all}
 use Rattle.model.proofs.Sums.{occurs_split}
 use Rattle.model.proofs.Tests.{apart, some_same}
@@ -22,6 +22,7 @@ use Rattle.model.proofs.Changed.{with_table_at as table_at_law, with_own as tabl
 use Rattle.invariant.proofs.Parcels.{parts}
 use Rattle.invariant.proofs.Pointwise.{fill_all_none, fill_all_append, keep_busy}
 use Rattle.invariant.proofs.StorageViews.{fill_all_busy}
+use Rattle.straight.specs.Straight.{parcels_fit}
 use Rattle.layout.specs.declared.Shape.{Shape}
 use Rattle.layout.specs.Layout.{Mem, row, item, load}
 use Rattle.layout.specs.Fields.{row_length, item_slot}
@@ -39,37 +40,20 @@ use Rattle.parcel.specs.Publishing.{plus, fits, filled_w, published_w}
 
 -- ---- the lengths
 
-abbrev pub agreed : Option (List Handle) → ℕ → Bool
-agreed none n = false
-agreed (some hs) n = eqb n (length hs)
-
-pick_none : (b : Bool) → pick b false false ≡ false
-pick_none true = refl
-pick_none false = refl
-
-agreed_more : (gs : List Handle) (r : Option (List Handle)) (n : ℕ) → pick (ltb n (length gs)) false (agreed r (n - length gs)) ≡ agreed (joined (some gs) r) n
-agreed_more gs none n = pick_none (ltb n (length gs))
-agreed_more gs (some hs) n = bool (ltb n (length gs))
-    (λ e. rw e (sym (ne_eqb n (length (gs ++ hs)) (λ q. omega (arith, length-append gs hs, ltb-true n (length gs) e)))))
-    (λ e. rw e (bool (eqb (n - length gs) (length hs))
-    (λ q. q ∙ sym (eq-eqb n (length (gs ++ hs)) (omega (arith, length-append gs hs, ltb-false n (length gs) e, eqb-true (n - length gs) (length hs) q))))
-    (λ q. q ∙ sym (ne_eqb n (length (gs ++ hs)) (λ z. eqb-false (n - length gs) (length hs) q (omega (arith, length-append gs hs)))))))
-
 module _ (ws : List ℕ) (sh : Shape) (s : State) (h : Held ws sh s) (f : Fits s) where
-  -- THE TEST is the model's
-  pub fits_is : (is : List ℕ) (n : ℕ) → fits (load ws sh) sh is n ≡ agreed (handles_of is s.book.rows) n
+  -- THE TEST, row by row, is that of publishing straight from the rows
+  pub fits_is : (is : List ℕ) (n : ℕ) → fits (load ws sh) sh is n ≡ parcels_fit s.book.rows is n
   unfolding fits
   fits_is [] n = refl
   fits_is (i ∷ is) n = go (parcel_link (load ws sh) sh i) refl (λ k. fits_is is k)
     where
-      go : (l : ℕ) → parcel_link (load ws sh) sh i ≡ l → ((k : ℕ) → fits (load ws sh) sh is k ≡ agreed (handles_of is s.book.rows) k)
-          → fits (load ws sh) sh (i ∷ is) n ≡ agreed (handles_of (i ∷ is) s.book.rows) n
+      go : (l : ℕ) → parcel_link (load ws sh) sh i ≡ l → ((k : ℕ) → fits (load ws sh) sh is k ≡ parcels_fit s.book.rows is k) → fits (load ws sh) sh (i ∷ is) n ≡ parcels_fit s.book.rows (i ∷ is) n
       go zero e rest = rw (e, parcel_none ws sh s h f i e)
       go (suc y) e rest =
           let p = parcel_some ws sh s h f i y e in
           let z : suc y - 1 ≡ y = omega arith in
           let g : as_parcel (find i s.book.rows) ≡ some p.0 = ap as_parcel p.1.found in
-          rw (e, z, ne_eqb (suc y) 0 (λ q. omega arith), p.1.row.body.1, rest (n - length p.0), g) (agreed_more p.0 (handles_of is s.book.rows) n)
+          rw (e, z, ne_eqb (suc y) 0 (λ q. omega arith), p.1.row.body.1, g) (bool (ltb n (length p.0)) (λ q. rw q) (λ q. rw q (rest (n - length p.0))))
 
 -- ---- the slots are filled
 

@@ -25,6 +25,7 @@ use Rattle.invariant.proofs.Parcels.{not_parcel, parts}
 use Rattle.invariant.proofs.Marks.{Owns}
 use Rattle.invariant.proofs.BookLemmas.{found_range}
 use Rattle.invariant.proofs.StorageDecisions.{reservation_owns}
+use Rattle.straight.proofs.Same.{agreed, parcels_fit_law}
 use Rattle.layout.specs.declared.Shape.{Shape}
 use Rattle.layout.specs.Layout.{Mem, load}
 use Rattle.layout.specs.Sizes.{batch_max}
@@ -43,7 +44,7 @@ use Rattle.parcel.specs.Ops.{parcel_link}
 use Rattle.parcel.specs.Found.{parcel_none, parcel_some, row_link_law}
 use Rattle.book.specs.Keeps.{Keeps, bare_given}
 use Rattle.parcel.specs.Publishing.{published_w, dropped_w, spent_w, publish_r}
-use Rattle.parcel.specs.Publish.{agreed, fits_is, published_keeps}
+use Rattle.parcel.specs.Publish.{fits_is, published_keeps}
 
 -- each id names a parcel whose place no marked slot names
 abbrev Parcels : Mem → State → List ℕ → Type 0
@@ -180,5 +181,5 @@ module _ (ws : List ℕ) (sh : Shape) (s : State) (r : Rep ws sh s) where
         go (suc x) e =
             let p = reservation_some ws sh s r i x e in let b : ℕ = p.0 in let ks : List ℕ = p.1 in let o = p.2 in
             let z : suc x - 1 ≡ x = omega arith in
-            rw (e, z, ne_eqb (suc x) 0 (λ q. omega arith), o.row.body.2, fits_is ws sh s h f is (length ks))
+            rw (e, z, ne_eqb (suc x) 0 (λ q. omega arith), o.row.body.2, fits_is ws sh s h f is (length ks) ∙ parcels_fit_law s.book.rows is (length ks))
             (tests x b ks o (handles_of is s.book.rows) refl)

@@ -8,12 +8,15 @@
 ghost use Rattle.std.specs.Prelude.{◌≡◌, [], ◌∷◌};
 ghost use Rattle.std.specs.Iterator.{YieldsFirstBy, at_most};
 ghost use Rattle.model.specs.Base.{member};
+ghost use Rattle.model.specs.State.{till};
 ghost use Rattle.model.specs.Decision.{distinct};
+ghost use Rattle.model.specs.Step.{publish_of};
+ghost use Rattle.straight.specs.Straight.{publish_straight};
 ghost use Rattle.format.specs.Fields.{id_field, table_field, object_field, value_field, rights_field, flags_field};
 ghost use Rattle.format.specs.Refusals.{number_of};
 ghost use Rattle.request.specs.Place.{parcel_at, end_at, count_at, word_of};
 ghost use Rattle.layout.specs.Layout.{load as loadAt};
-ghost use Rattle.answer.specs.Does.{both, reply, no_words, id_words, Gives};
+ghost use Rattle.answer.specs.Does.{both, reply, no_words, id_words, Gives, Takes};
 ghost use Rattle.parcel.specs.Ops.{retire_r, parcel_w, activation_refusal, new_refusal, new_object_r};
 ghost use Rattle.parcel.specs.Ops.{copy_refusal, copied_r, duplicate_r, lowered_w, released_w, release_r};
 ghost use Rattle.parcel.specs.Publishing.{ids_at, ids_left, fits, filled_w, published_w, dropped_w, spent_w, publish_r};
@@ -355,6 +358,23 @@ pub fn publish(
     Ok(())
 }
 
+// Publish with its answer, by both of its definitions: document 01's step, which gathers a batch of handles and lays it, and the one straight from the rows (document 02, 3), which goes as `fill_slots`
+// does. These clauses follow from what the one call of `publish` ensures; `publish` itself has several ends, and each would have to show them.
+fn answer_publish(
+    s: &mut [u64],
+    sh: Shape,
+    id: ReservationId,
+    parcels: ParcelIds,
+    out: &mut [u64],
+    base: usize,
+)
+    ensures words { both s.new out.new ≡ publish_r s.old out.old sh base id.0 (ids_left parcels.entry) }
+    ensures batch { Takes s.old out.old sh base (λ st. publish_of till st id.0 (ids_left parcels.entry)) (both s.new out.new) }
+    ensures straight { Takes s.old out.old sh base (λ st. publish_straight till st id.0 (ids_left parcels.entry)) (both s.new out.new) }
+{
+    answer::outcome(out, base, publish(s, sh, id, parcels));
+}
+
 // The request of a list at a place: its fields are read.
 pub fn serve_new_object(s: &mut [u64], sh: Shape, rq: &Record, out: &mut [u64], base: usize)
     ensures { both s.new out.new ≡ new_object_r s.old out.old sh base (word_of rq.now object_field) (word_of rq.now rights_field) (word_of rq.now flags_field) }
@@ -407,5 +427,5 @@ pub fn serve_publish(s: &mut [u64], sh: Shape, rq: &Record, out: &mut [u64], bas
         },
         count,
     };
-    answer::outcome(out, base, publish(s, sh, ReservationId(id), parcels));
+    answer_publish(s, sh, ReservationId(id), parcels, out, base);
 }

@@ -7,6 +7,7 @@ pub mod ShopRuns
 pub mod Applied
 pub mod PlansApplied
 pub mod LooksApplied
+pub mod StraightApplied
 pub mod BatchesLemmas
 pub mod TransfersLemmas
 pub mod Ids
@@ -17,5 +18,6 @@ pub mod Demand2
 pub mod Demand3
 pub mod Plans
 pub mod Looks
+pub mod Straight
 pub mod Transfers
 pub mod Batches

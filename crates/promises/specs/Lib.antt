@@ -7,5 +7,6 @@ pub mod Demand2
 pub mod Demand3
 pub mod Plans
 pub mod Looks
+pub mod Straight
 pub mod Batches
 pub mod Transfers
