@@ -33,6 +33,7 @@ PROMISES = [
     ("promises", "Demand3", ["TwoRuns", "Same", "demand_3"]),
     ("promises", "Plans", ["Served", "plan_serves", "as_reserved", "drop_accepted"]),
     ("promises", "Looks", ["Unnamed", "BusyToOthers", "Shown", "transfer_shows", "consumption_shows", "permitted_unnamed", "look_refusals"]),
+    ("promises", "Straight", ["NothingChanges", "GoesStraight", "nothing_changes", "straight_calls"]),
     ("promises", "Lower", ["reads_lowered", "op_word", "answer_lowered"]),
     ("promises", "Transfers", ["SameOrders", "ClosingsLeave", "transfer_keeps_orders", "consumption_keeps_orders", "rollback_keeps_orders", "commit_done", "commit_vacates", "commit_is_closing", "transfer_is_closing", "consumption_is_closing", "direct_rollback_is", "direct_commit_is"]),
     ("promises", "Batches", ["MostPages", "new_pages", "reserve_takes", "pages_of_64", "pages_of_32", "pages_of_16"]),

@@ -1,30 +1,29 @@
 -- Direct commit and direct rollback: their functions take the model's steps. Assumes nothing.
-use Rattle.std.specs.Prelude.{◌≡◌, true, false, List, map, length, eqb}
-use Rattle.std.proofs.Common.{ap, ◌∙◌, eqb-true}
+use Rattle.std.specs.Prelude.{◌≡◌, true, false, List, map, length}
+use Rattle.std.proofs.Common.{ap, ◌∙◌}
 use Rattle.std.proofs.Math.Logic.{⊎_elim}
 use Rattle.std.proofs.Math.Option.{some}
 use Prim.Native.Nat.{ℕ, suc, ◌-◌, ◌<◌}
 use native.Mathlib.Omega.{arith}
 use Rattle.std.proofs.lemmas.List.{length-map}
-use Rattle.words.specs.Pick.{bool}
-use Rattle.model.specs.Base.{nth, occurs}
-use Rattle.model.specs.State.{till, Table, Entry, Body.reservation, Body.claim, State, is_busy}
+use Rattle.model.specs.Base.{nth}
+use Rattle.model.specs.State.{till, Table, Entry, Body.reservation, Body.claim, State}
 use Rattle.model.specs.Storage.{vacate_all}
 use Rattle.model.specs.Change.{with_table}
-use Rattle.model.specs.Book.{drop_row, moved_of, sent_of}
+use Rattle.model.specs.Book.{drop_row, sent_of}
 use Rattle.model.specs.Step.{fill_all, direct_commit_of, direct_rollback_of, abort_of, decide, step}
 use Rattle.model.specs.Request.{Request, Request.abort, Request.rollback, Request.direct_commit, Request.direct_rollback, Answer, Answer.done}
 use Rattle.model.specs.Decision.{Decision.accept}
-use Rattle.model.proofs.Tests.{zero_or}
 use Rattle.model.specs.Words.{used_words}
 use Rattle.model.specs.WellFormed.{WellFormed}
 use Rattle.invariant.proofs.BookLemmas.{found_range, find_drop_other}
 use Rattle.invariant.proofs.Kept.{kept}
-use Rattle.invariant.proofs.Marks.{Owns, not_both}
+use Rattle.invariant.proofs.Marks.{Owns}
 use Rattle.invariant.proofs.Pages.{till_sane}
-use Rattle.invariant.proofs.Pointwise.{vacate_all_out, fill_all_slots}
+use Rattle.invariant.proofs.Pointwise.{fill_all_slots}
 use Rattle.invariant.proofs.StorageDecisions.{reservation_owns}
 use Rattle.invariant.proofs.RowsClosed.{two_rows}
+use Rattle.straight.proofs.FromEnd.{Busy, busy_still}
 use Rattle.layout.specs.declared.Shape.{Shape}
 use Rattle.layout.specs.Layout.{load}
 use Rattle.representation.specs.Represents.{is_marked, Rep}
@@ -41,8 +40,8 @@ use Rattle.book.specs.Found.{Open}
 use Rattle.claim.proofs.Ends.{abort_does}
 use Rattle.book.specs.Keeps.{Keeps, keeps_then, bare_given}
 use Rattle.claim.specs.Ops.{rolled_w, left_w, filled_w, direct_w, direct_commit_r, direct_rollback_r}
-use Rattle.claim.proofs.Found.{Claimed, own}
-use Rattle.claim.proofs.Entries.{Busy, undone, filled_keeps}
+use Rattle.claim.proofs.Found.{Claimed}
+use Rattle.claim.proofs.Entries.{undone, filled_keeps}
 use Rattle.claim.proofs.RolledBack.{rolled_held, rolls}
 use Rattle.claim.proofs.Committed.{left, left_kept, left_free}
 use Rattle.claim.proofs.Pairs.{Pair, on_pair_law, pairs}
@@ -67,15 +66,8 @@ module _ (ws : List ℕ) (sh : Shape) (s : State) (r : Rep ws sh s) where
     known : c < s.table_count
     known = (found_range s r.well_formed j (reservation c ks) p.found).0
 
-    -- no slot is both reserved and moved, so that the reserved ones are busy still
     busy : Busy ((left s b es).tables c) ks
-    busy k h = bool (eqb c b)
-        (λ e. let z : c ≡ b = eqb-true c b e in
-        let on : is_busy ((s.tables b).slots k) ≡ true = rw z at (res.busy k h) in
-        let out : occurs k (moved_of es) ≡ 0 = zero_or (occurs k (moved_of es)) (λ q. q)
-        (λ q. absurd (not_both j i ((s.tables b).slots k) (rw z at (res.on k h)) ((own ws sh s r x i b es o).on k q))) in
-        rw (e, vacate_all_out till (moved_of es) (s.tables b) k out) on)
-        (λ e. rw e (res.busy k h))
+    busy = busy_still till s r.well_formed i j b c es ks o.found p.found
 
     first : Keeps sh ws s ws₁ (left s b es)
     first = left_kept ws sh s r x i b es o

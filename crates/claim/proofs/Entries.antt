@@ -11,8 +11,9 @@ use Rattle.model.specs.Book.{moved_of, copies_of, sent_of}
 use Rattle.model.specs.Step.{fill_all, restore_all}
 use Rattle.model.proofs.Counting.{bit_same}
 use Rattle.model.proofs.Changed.{with_table_at as table_at_law, with_own as table_same, with_over as table_twice}
-use Rattle.invariant.proofs.Pointwise.{keep_busy, vacate_all_out}
+use Rattle.invariant.proofs.Pointwise.{vacate_all_out}
 use Rattle.invariant.proofs.StorageState.{InRange}
+use Rattle.straight.proofs.FromEnd.{Busy, busy_kept}
 use Rattle.layout.specs.declared.Shape.{Shape}
 use Rattle.layout.specs.Layout.{Mem, item, load}
 use Rattle.layout.specs.Fields.{item_slot, item_object, item_flags}
@@ -87,15 +88,7 @@ vacate_keeps sh ws s h b l k was =
       fits = λ f. record { room = f.room; rise = f.rise };
     }
 
--- slots that are busy, each of a list
-abbrev pub Busy : Table → List ℕ → Type 0
-Busy t ks = (k : ℕ) → 0 < occurs k ks → is_busy (t.slots k) ≡ true
-
--- they are while another is occupied
-busy_kept : (z : Sizes) (t : Table) (k : ℕ) (h : Handle) (ks : List ℕ) → Busy t (k ∷ ks) → Busy (keep z (λ g. occupied g h) t k) ks
-busy_kept z t k h ks p i o = keep_busy z (λ g. occupied g h) (λ g. refl) t k i (p i (omega arith))
-
--- or another falls vacant
+-- slots that are busy are so while another falls vacant
 busy_left : (z : Sizes) (t : Table) (k : ℕ) (ks : List ℕ) → occurs k (k ∷ ks) ≤ 1 → Busy t (k ∷ ks) → Busy (vacate z t k) ks
 busy_left z t k ks once p i o =
     let other : i ≡ k → ⊥ = λ e. let q : occurs i ks ≡ occurs k ks = ap (λ (v : ℕ). occurs v ks) e in omega (arith, bit_same k k refl) in

@@ -347,7 +347,14 @@ pub fn serve_direct_commit(s: &mut [u64], sh: Shape, rq: &Record, out: &mut [u64
     ensures { both s.new out.new ≡ direct_commit_r s.old out.old sh base (word_of rq.now id_field) (word_of rq.now destination_field) }
 {
     let [id, destination] = rq.fields(op::OP_DIRECT_COMMIT, [FIELD_ID, FIELD_DESTINATION]);
-    answer_direct_commit(s, sh, ReservationId(id), ReservationId(destination), out, base);
+    answer_direct_commit(
+        s,
+        sh,
+        ReservationId(id),
+        ReservationId(destination),
+        out,
+        base,
+    );
 }
 
 pub fn serve_direct_rollback(s: &mut [u64], sh: Shape, rq: &Record, out: &mut [u64], base: usize)

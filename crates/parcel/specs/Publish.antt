@@ -1,5 +1,5 @@
 -- Publish: its function takes the model's step. Assumes nothing.
-use Rattle.std.specs.Prelude.{◌≡◌, true, drop, ltb}
+use Rattle.std.specs.Prelude.{◌≡◌, drop, ltb}
 use Rattle.std.proofs.Math.Path.{refl, ap}
 use Rattle.std.proofs.Common.{sym, ◌∙◌, length-append}
 use mathlib.Core.List.{List, [], ◌∷◌, ◌++◌}
@@ -9,8 +9,7 @@ use native.Mathlib.Omega.{arith}
 use Rattle.std.proofs.Math.ListN.{length, length-drop}
 use borrow.Author.Tests.{ne_eqb}
 use Rattle.words.specs.Pick.{bool}
-use Rattle.model.specs.Base.{occurs}
-use Rattle.model.specs.State.{till, Handle, Slot.occupied, Table, Body.parcel, State, is_busy}
+use Rattle.model.specs.State.{till, Handle, Slot.occupied, Table, Body.parcel, State}
 use Rattle.model.specs.Storage.{keep}
 use Rattle.model.specs.Change.{with_table}
 use Rattle.model.specs.Book.{find}
@@ -20,9 +19,10 @@ use Rattle.model.proofs.Sums.{occurs_split}
 use Rattle.model.proofs.Tests.{apart, some_same}
 use Rattle.model.proofs.Changed.{with_table_at as table_at_law, with_own as table_same, with_over as table_twice}
 use Rattle.invariant.proofs.Parcels.{parts}
-use Rattle.invariant.proofs.Pointwise.{fill_all_none, fill_all_append, keep_busy}
+use Rattle.invariant.proofs.Pointwise.{fill_all_none, fill_all_append}
 use Rattle.invariant.proofs.StorageViews.{fill_all_busy}
 use Rattle.straight.specs.Straight.{parcels_fit}
+use Rattle.straight.proofs.FromEnd.{Busy, busy_kept}
 use Rattle.layout.specs.declared.Shape.{Shape}
 use Rattle.layout.specs.Layout.{Mem, row, item, load}
 use Rattle.layout.specs.Fields.{row_length, item_slot}
@@ -78,7 +78,7 @@ SlotsAt m x j k = m (item x j item_slot) ≡ k
 
 module _ (sh : Shape) (b x y p : ℕ) where
   -- by the handles of one parcel
-  filled_keeps : (hs : List Handle) (ks ws : List ℕ) (s : State) (j : ℕ) → Held ws sh s → b < s.table_count → ((k : ℕ) → 0 < occurs k ks → is_busy ((s.tables b).slots k) ≡ true)
+  filled_keeps : (hs : List Handle) (ks ws : List ℕ) (s : State) (j : ℕ) → Held ws sh s → b < s.table_count → Busy (s.tables b) ks
       → Items (SlotsAt (load ws sh) x) (p + j) ks → Items (HandleIs (load ws sh) y) j hs → length hs ≤ length ks → p + j + length ks ≤ batch_max
       → Keeps sh ws s (filled_w ws sh b x p y j (length hs)) (with_table s b (fill_all till ks hs (s.tables b)))
   filled_keeps [] ks ws s j h l busy slots handles few room =
@@ -88,10 +88,9 @@ module _ (sh : Shape) (b x y p : ℕ) where
       let u : Table = keep till (λ n. occupied n g) (s.tables b) k in
       let v : List ℕ = occupy_w ws sh b k g.object g.rights g.flags in
       let one = occupy_keeps sh ws s h b l k g (busy k (occurs_head k ks)) in
-      let still : (i : ℕ) → 0 < occurs i ks → is_busy (u.slots i) ≡ true = λ i o. keep_busy till (λ n. occupied n g) (λ n. refl) (s.tables b) k i (busy i (omega arith)) in
       let z : suc (p + j) ≡ p + suc j = omega arith in
       let its : Items (SlotsAt (load v sh) x) (p + suc j) ks = rw z at (slots_kept (load ws sh) (load v sh) x (one.items x) (suc (p + j)) ks slots.1) in
-      let rest = filled_keeps hs ks v (with_table s b u) (suc j) one.held l (rw (table_at_law s b u) still) its
+      let rest = filled_keeps hs ks v (with_table s b u) (suc j) one.held l (rw (table_at_law s b u) (busy_kept till (s.tables b) k g ks busy)) its
       (handles_kept (load ws sh) (load v sh) y (one.items y) (suc j) hs handles.1) (omega arith) (omega arith) in
       rw (fill_more ws sh b x p y j (length hs) k g (omega arith) slots.0 handles.0)
       (keeps_then sh ws s v (with_table s b u) (filled_w v sh b x p y (suc j) (length hs)) (with_table s b (fill_all till ks hs u)) one
@@ -111,7 +110,7 @@ published_more ws sh b x p i is y n e q l =
 module _ (sh : Shape) (b x : ℕ) where
   -- by the handles of all parcels
   pub published_keeps : (is : List ℕ) (hs : List Handle) (ks ws : List ℕ) (s : State) (p : ℕ) → Held ws sh s → Fits s → b < s.table_count
-      → ((k : ℕ) → 0 < occurs k ks → is_busy ((s.tables b).slots k) ≡ true) → Items (SlotsAt (load ws sh) x) p ks → handles_of is s.book.rows ≡ some hs
+      → Busy (s.tables b) ks → Items (SlotsAt (load ws sh) x) p ks → handles_of is s.book.rows ≡ some hs
       → length hs ≤ length ks → p + length ks ≤ batch_max → Keeps sh ws s (published_w ws sh b x p is) (with_table s b (fill_all till ks hs (s.tables b)))
   published_keeps [] hs ks ws s p h f l busy slots e few room =
       let z : hs ≡ [] = cc in
@@ -124,7 +123,7 @@ module _ (sh : Shape) (b x : ℕ) where
     where
       go : (gs rest : List Handle) → find i s.book.rows ≡ some (parcel gs) → handles_of is s.book.rows ≡ some rest → hs ≡ gs ++ rest
           → (n : ℕ) → parcel_link (load ws sh) sh i ≡ n
-          → ((ks' ws' : List ℕ) (s' : State) (p' : ℕ) → Held ws' sh s' → Fits s' → b < s'.table_count → ((k : ℕ) → 0 < occurs k ks' → is_busy ((s'.tables b).slots k) ≡ true)
+          → ((ks' ws' : List ℕ) (s' : State) (p' : ℕ) → Held ws' sh s' → Fits s' → b < s'.table_count → Busy (s'.tables b) ks'
           → Items (SlotsAt (load ws' sh) x) p' ks' → handles_of is s'.book.rows ≡ some rest → length rest ≤ length ks' → p' + length ks' ≤ batch_max
           → Keeps sh ws' s' (published_w ws' sh b x p' is) (with_table s' b (fill_all till ks' rest (s'.tables b))))
           → Keeps sh ws s (published_w ws sh b x p (i ∷ is)) (with_table s b (fill_all till ks hs (s.tables b)))

@@ -5,8 +5,10 @@ use Rattle.std.proofs.Math.Option.{some}
 use Rattle.format.specs.Format.{answer_words}
 use Rattle.model.specs.State.{Sizes, till, State}
 use Rattle.model.specs.Request.{Request}
+use Rattle.model.specs.Step.{decide}
 use Rattle.model.specs.Words.{read_list}
 use Rattle.straight.proofs.Same.{step_same, run_same}
+use Rattle.straight.proofs.FromEnd.{publish_from_end_same, direct_commit_from_end_same}
 use Rattle.layout.specs.declared.Shape.{Shape}
 use Rattle.representation.specs.Represents.{Rep}
 use Rattle.contract.specs.Meets.{Called, Meets}
@@ -20,11 +22,14 @@ abbrev answer_of : {A : Type 0} → State × A → A
 answer_of p = p.1
 
 pub nothing_changes : (z : Sizes) → NothingChanges z
+unfolding decide
 nothing_changes z = record {
   answer = λ s r. ap answer_of (step_same z s r);
   state = λ s r. ap state_of (step_same z s r);
   answers = λ s rs. ap answer_of (run_same z s rs);
   states = λ s rs. ap state_of (run_same z s rs);
+  publish_from_end = λ s w i is. publish_from_end_same z s w i is;
+  direct_commit_from_end = λ s w i j. direct_commit_from_end_same z s w i j;
 }
 
 pub straight_calls : (ws list os : List ℕ) (x : Called) → Meets ws list os x → (sh : Shape) (s : State) → Rep ws sh s → (rs : List Request) → read_list list ≡ some rs

@@ -9,10 +9,13 @@ use Rattle.std.proofs.Math.ListN.{take}
 use Rattle.model.specs.State.{till, Handle, Slot.occupied, Body.reservation, Body.parcel, State}
 use Rattle.model.specs.Change.{with_book}
 use Rattle.model.specs.Request.{Request, Request.duplicate, Request.reserve, Request.publish, Request.get_info, Request.commit, Request.direct_commit, Answer, Answer.refused}
-use Rattle.model.specs.Step.{step, run}
+use Rattle.model.specs.Decision.{Decision}
+use Rattle.model.specs.Step.{carry, step, run}
+use Rattle.model.specs.WellFormed.{WellFormed}
 use Rattle.model.specs.Words.{read_list, padded, all_words}
 use Rattle.model.proofs.Tests.{same_list_equal}
 use Rattle.straight.specs.Straight.{lay, publish_straight, direct_commit_straight, decide_straight, step_straight, run_straight}
+use Rattle.straight.specs.FromEnd.{publish_from_end, direct_commit_from_end}
 use Rattle.contract.specs.Meets.{Called, Meets}
 use Rattle.promises.specs.Straight.{NothingChanges}
 use Rattle.promises.proofs.Straight.{nothing_changes, straight_calls}
@@ -161,3 +164,22 @@ twice = with_book shop (record {
 last_stays : ((run till twice (publish 9 (7 ∷ 8 ∷ []) ∷ [])).0.tables 1).slots 5 ≡ occupied 0 (handle 2)
 unfolding went
 last_stays = let p : NothingChanges till = nothing_changes till in ap (λ (s : State). (s.tables 1).slots 5) (sym (p.states twice (publish 9 (7 ∷ 8 ∷ []) ∷ []))) ∙ refl
+
+-- laid from its end, the first would; on the shop's states it can't be told
+first_stays : ((carry till twice (publish_from_end till twice 9 (7 ∷ 8 ∷ []))).0.tables 1).slots 5 ≡ occupied 0 (handle 1)
+unfolding went publish_from_end
+first_stays = refl
+
+abbrev ready : State
+ready = (run till shop (transfer ∷ commit 6 ∷ duplicate 0 v62 1 ∷ reserve 1 3 ∷ [])).0
+
+from_the_end : WellFormed till ready → ((carry till ready (publish_from_end till ready 8 (7 ∷ 6 ∷ []))).0.tables 1).slots 63 ≡ occupied 1 (record { object = 1; rights = 1; flags = 0 })
+unfolding went
+from_the_end w = let p : NothingChanges till = nothing_changes till in ap (λ (d : Decision). ((carry till ready d).0.tables 1).slots 63) (p.publish_from_end ready w 8 (7 ∷ 6 ∷ [])) ∙ refl
+
+abbrev claimed : State
+claimed = (run till shop (transfer ∷ reserve 1 2 ∷ [])).0
+
+direct_from_the_end : WellFormed till claimed → ((carry till claimed (direct_commit_from_end till claimed 6 7)).0.tables 1).slots 62 ≡ occupied 1 (handle 3)
+unfolding went
+direct_from_the_end w = let p : NothingChanges till = nothing_changes till in ap (λ (d : Decision). ((carry till claimed d).0.tables 1).slots 62) (p.direct_commit_from_end claimed w 6 7) ∙ refl
