@@ -103,7 +103,7 @@ check "rt ci says 'rt: ok'" grep -a '^rt: ok' "$logs/rt"
 check "rt ci says of no must-fail edit that it is bad" test -z "$(grep -aE '^rt: ok.*, [0-9]+ bad|^rt: (must-fail )?[^ ]+: (BAD EDIT|NOT TRIED)' "$logs/rt")"
 echo "proofs and edits: $((SECONDS - start)) s"
 # `rt ci` keeps its proofs for itself; those that the rest of this test builds on are kept in each crate's out/, taken over from earlier checks where these proved the same.
-rt all check >"$logs/all" 2>&1
+rt all check --jobs "$(nproc)" >"$logs/all" 2>&1
 status=$?
 sed -n '/^== summary/,$p' "$logs/all" | grep -vE ': ok$'
 check "the crates' proofs are kept for what follows (rt all check)" test "$status" -eq 0
