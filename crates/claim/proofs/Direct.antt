@@ -20,10 +20,9 @@ use Rattle.invariant.proofs.BookLemmas.{found_range, find_drop_other}
 use Rattle.invariant.proofs.Kept.{kept}
 use Rattle.invariant.proofs.Marks.{Owns}
 use Rattle.invariant.proofs.Pages.{till_sane}
-use Rattle.invariant.proofs.Pointwise.{fill_all_slots}
-use Rattle.invariant.proofs.StorageDecisions.{reservation_owns}
+use Rattle.invariant.proofs.Pointwise.{Busy, fill_all_slots}
+use Rattle.invariant.proofs.StorageDecisions.{reservation_owns, busy_still}
 use Rattle.invariant.proofs.RowsClosed.{two_rows}
-use Rattle.straight.proofs.FromEnd.{Busy, busy_still}
 use Rattle.layout.specs.declared.Shape.{Shape}
 use Rattle.layout.specs.Layout.{load}
 use Rattle.representation.specs.Represents.{is_marked, Rep}

@@ -11,9 +11,8 @@ use Rattle.model.specs.Book.{moved_of, copies_of, sent_of}
 use Rattle.model.specs.Step.{fill_all, restore_all}
 use Rattle.model.proofs.Counting.{bit_same}
 use Rattle.model.proofs.Changed.{with_table_at as table_at_law, with_own as table_same, with_over as table_twice}
-use Rattle.invariant.proofs.Pointwise.{vacate_all_out}
+use Rattle.invariant.proofs.Pointwise.{Busy, busy_kept, vacate_all_out}
 use Rattle.invariant.proofs.StorageState.{InRange}
-use Rattle.straight.proofs.FromEnd.{Busy, busy_kept}
 use Rattle.layout.specs.declared.Shape.{Shape}
 use Rattle.layout.specs.Layout.{Mem, item, load}
 use Rattle.layout.specs.Fields.{item_slot, item_object, item_flags}

@@ -1,5 +1,5 @@
 -- What each operation on a table shows at a slot, and the fields that it leaves alone.
-use Rattle.std.specs.Prelude.{◌≡◌, true, ℕ, suc, ◌+◌, ◌≤◌, length, take, drop, eqb}
+use Rattle.std.specs.Prelude.{◌≡◌, true, ℕ, suc, ◌+◌, ◌≤◌, ◌<◌, length, take, drop, eqb}
 use Rattle.std.proofs.Math.Path.{refl}
 use Rattle.std.proofs.Common.{ap, ◌∙◌, arith, eqb-true}
 use mathlib.Core.List.{List, [], ◌∷◌, ◌++◌}
@@ -24,6 +24,10 @@ given (k ∷ ks) (h ∷ hs) j = pick (eqb j k) (some h) (given ks hs j)
 abbrev pub filled : Option Handle → Slot → Slot
 filled none x = x
 filled (some h) x = occupied (generation x) h
+
+-- slots that are busy, each of a list
+abbrev pub Busy : Table → List ℕ → Type 0
+Busy t ks = (k : ℕ) → 0 < occurs k ks → is_busy (t.slots k) ≡ true
 
 -- the handles of a claim's moved slots
 abbrev pub moved_handles : List Entry → List Handle
@@ -59,6 +63,10 @@ module _ (z : Sizes) where
   pub keep_busy : (f : ℕ → Slot) → ((g : ℕ) → is_busy (f g) ≡ true) → (t : Table) (k j : ℕ) → is_busy (t.slots j) ≡ true
       → is_busy ((keep z f t k).slots j) ≡ true
   keep_busy f h t k j e = rw (place_slots t k (f (generation (t.slots k)))) (bool (eqb j k) (λ q. rw (q, h (generation (t.slots k)))) (λ q. rw q e))
+
+  -- those of a list are busy while another is filled
+  pub busy_kept : (t : Table) (k : ℕ) (h : Handle) (ks : List ℕ) → Busy t (k ∷ ks) → Busy (keep z (λ g. occupied g h) t k) ks
+  busy_kept t k h ks busy i o = keep_busy (λ g. occupied g h) (λ g. refl) t k i (busy i (omega arith))
 
   -- one slot more
   pub vacate_all_more : (ks : List ℕ) (k : ℕ) (t : Table) → vacate_all z (ks ++ (k ∷ [])) t ≡ vacate z (vacate_all z ks t) k

@@ -1,16 +1,20 @@
 -- What a request leaves: the storage clauses and the counts, change by change.
 use Rattle.std.specs.Prelude.{◌≡◌, refl, true, false, List, [], ◌∷◌, ◌++◌, ℕ, ◌+◌, ◌≤◌, ◌<◌, eqb}
+use Rattle.std.proofs.Common.{eqb-true}
 use Rattle.std.proofs.Math.Option.{some}
-use Rattle.model.specs.State.{Sizes, Handle, Slot.occupied, Lifecycle, Table, Object, Entry, Body, Body.reservation, Body.claim, Row, State, no_object}
+use Rattle.model.specs.Base.{occurs}
+use Rattle.model.specs.State.{Sizes, Handle, Slot.occupied, Lifecycle, Table, Object, Entry, Body, Body.reservation, Body.claim, Row, State, is_busy, no_object}
+use Rattle.model.specs.Storage.{vacate_all}
 use Rattle.model.specs.Change.{with_table, with_objects, with_book, with_life}
 use Rattle.model.specs.Objects.{lower, change_all}
 use Rattle.model.specs.Book.{find, drop_id, swap_id, drop_row, drop_rows, moved_of, copies_of, spend_id}
 use Rattle.model.specs.Decision.{Decision}
 use Rattle.model.specs.WellFormed.{All, LifeRange, WellFormed, HandleRange, frames_in}
 use Rattle.model.proofs.Decided.{Decided, Any}
-use Rattle.invariant.proofs.Pointwise.{Alike}
+use Rattle.model.proofs.Tests.{bool, zero_or}
+use Rattle.invariant.proofs.Pointwise.{Alike, Busy, vacate_all_out}
 use Rattle.invariant.proofs.BookLemmas.{PlanHalf, PlanRow, Frameless, frameless, all_map, all_drop, found_range}
-use Rattle.invariant.proofs.Marks.{Owns, owns, both_marks, keys_reservation, keys_claim}
+use Rattle.invariant.proofs.Marks.{Owns, not_both, owns, both_marks, keys_reservation, keys_claim}
 use Rattle.invariant.proofs.Orders.{Sound}
 use Rattle.invariant.proofs.StorageState.{StorageClauses, SameCounts, Plans, plans_same, plans_add, plans_drop, plans_swap, plans_for, storage_of, sound_of, others, another, alike_turned, life_turned}
 use Rattle.invariant.proofs.StorageState.{change_all_rest, copies_range}
@@ -101,6 +105,19 @@ module _ (z : Sizes) (s : State) (w : WellFormed z s) where
 
   pub claim_owns : (i b : ℕ) (es : List Entry) → find i s.book.rows ≡ some (claim b es) → Owns false i (moved_of es) (s.tables b).slots
   claim_owns i b es e = owns s.tables s.book.rows (both_marks s w.marks) false i b (moved_of es) (claim b es) (keys_claim b es) e
+
+  -- a reservation's slots are busy still when a claim's have fallen vacant: no slot is in both
+  pub busy_still : (i j b c : ℕ) (es : List Entry) (ks : List ℕ) → find i s.book.rows ≡ some (claim b es) → find j s.book.rows ≡ some (reservation c ks)
+      → Busy ((with_table s b (vacate_all z (moved_of es) (s.tables b))).tables c) ks
+  busy_still i j b c es ks e d k o =
+      let res : Owns true j ks (s.tables c).slots = reservation_owns j c ks d in
+      bool (eqb c b)
+      (λ q. let y : c ≡ b = eqb-true c b q in
+      let on : is_busy ((s.tables b).slots k) ≡ true = rw y at (res.busy k o) in
+      let out : occurs k (moved_of es) ≡ 0 = zero_or (occurs k (moved_of es)) (λ r. r)
+      (λ r. absurd (not_both j i ((s.tables b).slots k) (rw y at (res.on k o)) ((claim_owns i b es e).on k r))) in
+      rw (q, vacate_all_out z (moved_of es) (s.tables b) k out) on)
+      (λ q. rw q (res.busy k o))
 
   pub copies_rest : (i b : ℕ) (es : List Entry) → find i s.book.rows ≡ some (claim b es) → (o : ℕ) → s.object_count ≤ o
       → change_all lower (copies_of es) s.objects o ≡ no_object

@@ -28,13 +28,12 @@ use Rattle.model.specs.Transfer.{items_fault, copies_fault, entry_for}
 use Rattle.model.specs.Step.{fill_all, restore_all, reserve_of, trim_of, abort_of, publish_of, prepare_transfer_of, prepare_consumption_of, rollback_of}
 use Rattle.model.specs.Step.{commit_of, direct_commit_of, direct_rollback_of, make_plan_of, use_plan_of, drop_plan_of, decide, step}
 use Rattle.model.specs.WellFormed.{All, Rising, PlanRange, frames_in, plans_with, WellFormed}
-use Rattle.model.proofs.Tests.{bool, zero_or, at_most_law, bit_small}
+use Rattle.model.proofs.Tests.{bool, at_most_law, bit_small}
 use Rattle.model.proofs.Sums.{occurs_split}
 use Rattle.model.proofs.Decided.{accepts, checked, with_some, with_view, after_id, with_reservation, with_claim, with_plan, with_room_law, carried}
 use Rattle.invariant.proofs.Pointwise.{moved_handles, restore_all_is, place_alike, keep_all_alike, vacate_all_alike, fill_all_alike, take_free_alike}
-use Rattle.invariant.proofs.Pointwise.{place_free, keep_all_free, grow_grown, restore_all_alike, vacate_all_out}
+use Rattle.invariant.proofs.Pointwise.{place_free, keep_all_free, grow_grown, restore_all_alike}
 use Rattle.invariant.proofs.BookLemmas.{row, PlanRow, Frameless, found_range, over_add, over_drop, all_append, all_drop}
-use Rattle.invariant.proofs.Marks.{not_both}
 use Rattle.invariant.proofs.Items.{stands_at, taken, items_stand, items_range}
 use Rattle.invariant.proofs.Pages.{Sane}
 use Rattle.invariant.proofs.Orders.{order_is, keep_sound, keep_all_sound, take_free_sound, vacate_all_good, fill_all_good, restore_all_good}
@@ -44,7 +43,7 @@ use Rattle.invariant.proofs.StorageViews.{fill_all_busy, occurs_inserted, rising
 use Rattle.invariant.proofs.Parcels.{parcels_frameless}
 use Rattle.invariant.proofs.Snapshots.{take_all, snapshot_pages, fresh_pages, planned_range}
 use Rattle.invariant.proofs.StorageDecisions.{Kept, KeptD, opened, bare_row, ended, swapped, unchanged, still, sound_at, table_kept, again_kept, rows_kept, copies_rest, reservation_owns}
-use Rattle.invariant.proofs.StorageDecisions.{claim_owns, spent}
+use Rattle.invariant.proofs.StorageDecisions.{claim_owns, busy_still, spent}
 use Rattle.invariant.proofs.StorageHandles.{new_object_law, duplicate_kept, release_kept, retire_kept, read_kept, resolve_kept, scan_kept}
 use Rattle.invariant.proofs.StorageHandles.{close_kept, replace_kept, remove_kept, start_kept, step_kept, finish_kept, take_kept}
 
@@ -160,15 +159,9 @@ module _ (z : Sizes) (sane : Sane z) (s : State) (w : WellFormed z s) where
       let v : Kept z s u = table_kept z s w b (vacate_all z (moved_of es) t) l (vacate_all_alike z (moved_of es) t)
       (vacate_all_good z sane t (moved_of es) (sound_at z s w b l) (claim_owns z s w i b es e).once (claim_owns z s w i b es e).busy) s.objects
       w.at_rest.objects _ _ (unchanged z s w) in
-      let marked : (k : ℕ) → 0 < occurs k ks → is_busy ((u.tables d).slots k) ≡ true = λ k c. bool (eqb d b)
-      (λ y. let x : d ≡ b = eqb-true d b y in
-      let o : occurs k (moved_of es) ≡ 0 = zero_or (occurs k (moved_of es)) (λ o. o)
-      (λ o. absurd (not_both j i (t.slots k) (rw x at ((reservation_owns z s w j d ks q).on k c)) ((claim_owns z s w i b es e).on k o))) in
-      rw (y, vacate_all_out z (moved_of es) t k o, ← x) ((reservation_owns z s w j d ks q).busy k c))
-      (λ y. rw y ((reservation_owns z s w j d ks q).busy k c)) in
       accepts (again_kept z s w u v.storage v.counts d (fill_all z ks (map sent_of es) (u.tables d)) m
       (fill_all_alike z ks (map sent_of es) (u.tables d))
-      (fill_all_good z sane (u.tables d) ks (map sent_of es) (sound_of z u v.storage d m) marked) _ _ (both_ended u v i j (claim b es) (reservation d ks) refl e q refl refl))
+      (fill_all_good z sane (u.tables d) ks (map sent_of es) (sound_of z u v.storage d m) (busy_still z s w i j b d es ks e q)) _ _ (both_ended u v i j (claim b es) (reservation d ks) refl e q refl refl))
 
   direct_rollback_kept : (i j : ℕ) → KeptD z s (direct_rollback_of z s i j)
   unfolding direct_rollback_of
