@@ -103,8 +103,8 @@ module _ (os : List ℕ) (sh : Shape) (base : ℕ) (s : State) (r : Request) whe
 
 -- ---- by a definition that decides
 
--- as `Does`, by the decision d: for a contract that names a definition of a request
-pub record Done (ws os : List ℕ) (sh : Shape) (base : ℕ) (s : State) (d : Decision) (x : Both) : Type 0 where
+-- as `Does`, by the decision d in the place of a request: for a contract that names a definition. `Does` stays a record of its own, so that its proofs need not open `decide`
+pub record Carries (ws os : List ℕ) (sh : Shape) (base : ℕ) (s : State) (d : Decision) (x : Both) : Type 0 where
   pub state : Reps x.state sh (carry till s d).0
   pub answers : x.answers ≡ answered os base (used_words (carry till s d).1)
   pub kept : (n : ℕ) → d ≡ refusal n → x.state ≡ ws
@@ -112,14 +112,14 @@ pub record Done (ws os : List ℕ) (sh : Shape) (base : ℕ) (s : State) (d : De
 
 -- so of every well-formed state that the words represent
 pub record Takes (ws os : List ℕ) (sh : Shape) (base : ℕ) (decides : State → Decision) (x : Both) : Type 0 where
-  pub done : (s : State) → Rep ws sh s → Done ws os sh base s (decides s) x
+  pub each : (s : State) → Rep ws sh s → Carries ws os sh base s (decides s) x
 
 -- a definition that decides a request as document 01 does
 pub takes : (ws os : List ℕ) (sh : Shape) (base : ℕ) (r : Request) (decides : State → Decision) (x : Both) → ((s : State) → decides s ≡ decide till s r)
     → ((s : State) → Rep ws sh s → Does ws os sh base s r x) → Takes ws os sh base decides x
 unfolding step
 takes ws os sh base r decides x same does = record {
-  done = λ s i. let d = does s i in
+  each = λ s i. let d = does s i in
       record { state = rw (same s) d.state; answers = rw (same s) d.answers; kept = λ n e. d.kept n (sym (same s) ∙ e); spent = λ n e. d.spent n (sym (same s) ∙ e) };
 }
 

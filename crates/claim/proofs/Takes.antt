@@ -21,8 +21,8 @@ module _ (ws os : List ℕ) (sh : Shape) (base i j : ℕ) (us vs o : List ℕ) (
   unfolding decide
   batch_is s = refl
 
-  pub direct_batch : Takes ws os sh base (λ s. direct_commit_of till s i j) (both us o)
-  direct_batch = takes ws os sh base (direct_commit i j) _ (both us o) batch_is does
+  pub takes_batch : Takes ws os sh base (λ s. direct_commit_of till s i j) (both us o)
+  takes_batch = takes ws os sh base (direct_commit i j) _ (both us o) batch_is does
 
-  pub direct_rows : Takes ws os sh base (λ s. direct_commit_straight till s i j) (both us o)
-  direct_rows = takes ws os sh base (direct_commit i j) _ (both us o) (λ s. direct_commit_same till s i j ∙ batch_is s) does
+  pub takes_straight : Takes ws os sh base (λ s. direct_commit_straight till s i j) (both us o)
+  takes_straight = takes ws os sh base (direct_commit i j) _ (both us o) (λ s. direct_commit_same till s i j ∙ batch_is s) does

@@ -268,7 +268,7 @@ fn direct_rows(s: &mut [u64], sh: Shape, from: u64, to: u64)
     book::close_row(s, sh, to);
 }
 
-// A claim's handles straight into a reservation, of one table or two.
+// A claim's handles straight into a reservation, of one table or two. Its definitions stand in the contract of `answer_direct_commit`.
 #[tactic(auto, unfolding(crate::specs::Ops::direct_commit_r, crate::specs::Ops::pair_of))]
 pub fn direct_commit(
     s: &mut [u64],

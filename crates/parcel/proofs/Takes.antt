@@ -21,8 +21,8 @@ module _ (ws os : List ℕ) (sh : Shape) (base i : ℕ) (is us vs o : List ℕ) 
   unfolding decide
   batch_is s = refl
 
-  pub publish_batch : Takes ws os sh base (λ s. publish_of till s i is) (both us o)
-  publish_batch = takes ws os sh base (publish i is) _ (both us o) batch_is does
+  pub takes_batch : Takes ws os sh base (λ s. publish_of till s i is) (both us o)
+  takes_batch = takes ws os sh base (publish i is) _ (both us o) batch_is does
 
-  pub publish_rows : Takes ws os sh base (λ s. publish_straight till s i is) (both us o)
-  publish_rows = takes ws os sh base (publish i is) _ (both us o) (λ s. publish_same till s i is ∙ batch_is s) does
+  pub takes_straight : Takes ws os sh base (λ s. publish_straight till s i is) (both us o)
+  takes_straight = takes ws os sh base (publish i is) _ (both us o) (λ s. publish_same till s i is ∙ batch_is s) does

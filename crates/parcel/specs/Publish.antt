@@ -1,41 +1,39 @@
--- Publish: its function takes the model's step. Assumes nothing.
-use Rattle.std.specs.Prelude.{◌≡◌, drop, ltb}
+-- Publish: its functions go as publishing straight from the rows does. Assumes nothing.
+use Rattle.std.specs.Prelude.{◌≡◌, ltb}
 use Rattle.std.proofs.Math.Path.{refl, ap}
 use Rattle.std.proofs.Common.{sym, ◌∙◌, length-append}
-use mathlib.Core.List.{List, [], ◌∷◌, ◌++◌}
+use mathlib.Core.List.{List, [], ◌∷◌}
 use Rattle.std.proofs.Math.Option.{some}
 use Prim.Native.Nat.{ℕ, zero, suc, ◌+◌, ◌-◌, ◌≤◌, ◌<◌}
 use native.Mathlib.Omega.{arith}
-use Rattle.std.proofs.Math.ListN.{length, length-drop}
+use Rattle.std.proofs.Math.ListN.{length}
 use borrow.Author.Tests.{ne_eqb}
 use Rattle.words.specs.Pick.{bool}
-use Rattle.model.specs.State.{till, Handle, Slot.occupied, Table, Body.parcel, State}
+use Rattle.model.specs.Base.{nth}
+use Rattle.model.specs.State.{till, Handle, Slot.occupied, Body.reservation, Body.parcel, Row, State}
 use Rattle.model.specs.Storage.{keep}
 use Rattle.model.specs.Change.{with_table}
 use Rattle.model.specs.Book.{find}
 use Rattle.model.specs.Decision.{as_parcel, handles_of}
-use Rattle.model.specs.Step.{fill_all}
-use Rattle.model.proofs.Sums.{occurs_split}
-use Rattle.model.proofs.Tests.{apart, some_same}
-use Rattle.model.proofs.Changed.{with_table_at as table_at_law, with_own as table_same, with_over as table_twice}
+use Rattle.model.proofs.Tests.{apart, some_same, nth_some}
+use Rattle.model.proofs.Counting.{nth_occurs}
+use Rattle.model.proofs.Changed.{with_table_at as table_at_law}
 use Rattle.invariant.proofs.Parcels.{parts}
-use Rattle.invariant.proofs.Pointwise.{fill_all_none, fill_all_append}
-use Rattle.invariant.proofs.StorageViews.{fill_all_busy}
-use Rattle.straight.specs.Straight.{parcels_fit}
-use Rattle.straight.proofs.FromEnd.{Busy, busy_kept}
+use Rattle.invariant.proofs.Pointwise.{Busy, keep_busy}
+use Rattle.straight.specs.Straight.{lay_row, lay_rows, parcels_fit}
+use Rattle.straight.proofs.Same.{row_next}
 use Rattle.layout.specs.declared.Shape.{Shape}
 use Rattle.layout.specs.Layout.{Mem, row, item, load}
 use Rattle.layout.specs.Fields.{row_length, item_slot}
 use Rattle.layout.specs.Sizes.{batch_max}
-use Rattle.representation.specs.Represents.{HandleIs, Items}
-use Rattle.storage.specs.Order.{occurs_head}
+use Rattle.representation.specs.Represents.{HandleIs}
 use Rattle.storage.specs.Ops.{occupy_w}
-use Rattle.storage.specs.Kept.{handles_kept, slots_kept}
 use Rattle.storage.specs.Reps.{Held}
+use Rattle.book.specs.Places.{item_of}
 use Rattle.book.specs.Find.{Fits, RowAt}
+use Rattle.book.specs.Keeps.{Keeps, keeps_none, keeps_then, occupy_keeps}
 use Rattle.parcel.specs.Ops.{parcel_link}
 use Rattle.parcel.specs.Found.{parcel_none, parcel_some}
-use Rattle.book.specs.Keeps.{Keeps, keeps_none, keeps_then, occupy_keeps}
 use Rattle.parcel.specs.Publishing.{plus, fits, filled_w, published_w}
 
 -- ---- the lengths
@@ -57,44 +55,19 @@ module _ (ws : List ℕ) (sh : Shape) (s : State) (h : Held ws sh s) (f : Fits s
 
 -- ---- the slots are filled
 
-items_drop : {A : Type 0} (P : ℕ → A → Type 0) (n j : ℕ) (l : List A) → Items P j l → Items P (j + n) (drop n l)
-items_drop P zero j l p = let z : j + 0 ≡ j = omega arith in rw z p
-items_drop P (suc n) j [] p = tt
-items_drop P (suc n) j (y ∷ l) p = let z : j + suc n ≡ suc j + n = omega arith in rw z (items_drop P n (suc j) l p.1)
+abbrev SlotIs : Mem → ℕ → ℕ → ℕ → Type 0
+SlotIs m x p k = m (item x p item_slot) ≡ k
 
-fill_more : (ws : List ℕ) (sh : Shape) (b x p y j n k : ℕ) (h : Handle) → p + j ≤ batch_max → load ws sh (item x (p + j) item_slot) ≡ k → HandleIs (load ws sh) y j h
-    → filled_w ws sh b x p y j (suc n) ≡ filled_w (occupy_w ws sh b k h.object h.rights h.flags) sh b x p y (suc j) n
+fill_more : (ws : List ℕ) (sh : Shape) (b x p y q n k : ℕ) (h : Handle) → p + q ≤ batch_max → SlotIs (load ws sh) x (p + q) k → HandleIs (load ws sh) y q h
+    → filled_w ws sh b x p y q (suc n) ≡ filled_w (occupy_w ws sh b k h.object h.rights h.flags) sh b x p y (suc q) n
 unfolding filled_w
-fill_more ws sh b x p y j n k h l e q =
-    let z : plus p j ≡ p + j = omega arith in
-    simp (z, e, q.0, q.1, q.2)
+fill_more ws sh b x p y q n k h l e d =
+    let z : plus p q ≡ p + q = omega arith in
+    simp (z, e, d.0, d.1, d.2)
 
-fill_stop : (ws : List ℕ) (sh : Shape) (b x p y j : ℕ) → filled_w ws sh b x p y j 0 ≡ ws
+fill_stop : (ws : List ℕ) (sh : Shape) (b x p y q : ℕ) → filled_w ws sh b x p y q 0 ≡ ws
 unfolding filled_w
-fill_stop ws sh b x p y j = refl
-
-abbrev SlotsAt : Mem → ℕ → ℕ → ℕ → Type 0
-SlotsAt m x j k = m (item x j item_slot) ≡ k
-
-module _ (sh : Shape) (b x y p : ℕ) where
-  -- by the handles of one parcel
-  filled_keeps : (hs : List Handle) (ks ws : List ℕ) (s : State) (j : ℕ) → Held ws sh s → b < s.table_count → Busy (s.tables b) ks
-      → Items (SlotsAt (load ws sh) x) (p + j) ks → Items (HandleIs (load ws sh) y) j hs → length hs ≤ length ks → p + j + length ks ≤ batch_max
-      → Keeps sh ws s (filled_w ws sh b x p y j (length hs)) (with_table s b (fill_all till ks hs (s.tables b)))
-  filled_keeps [] ks ws s j h l busy slots handles few room =
-      rw (fill_stop ws sh b x p y j, fill_all_none till ks (s.tables b), table_same s b) (keeps_none sh ws s h)
-  filled_keeps (g ∷ hs) [] ws s j h l busy slots handles few room = absurd (omega arith)
-  filled_keeps (g ∷ hs) (k ∷ ks) ws s j h l busy slots handles few room =
-      let u : Table = keep till (λ n. occupied n g) (s.tables b) k in
-      let v : List ℕ = occupy_w ws sh b k g.object g.rights g.flags in
-      let one = occupy_keeps sh ws s h b l k g (busy k (occurs_head k ks)) in
-      let z : suc (p + j) ≡ p + suc j = omega arith in
-      let its : Items (SlotsAt (load v sh) x) (p + suc j) ks = rw z at (slots_kept (load ws sh) (load v sh) x (one.items x) (suc (p + j)) ks slots.1) in
-      let rest = filled_keeps hs ks v (with_table s b u) (suc j) one.held l (rw (table_at_law s b u) (busy_kept till (s.tables b) k g ks busy)) its
-      (handles_kept (load ws sh) (load v sh) y (one.items y) (suc j) hs handles.1) (omega arith) (omega arith) in
-      rw (fill_more ws sh b x p y j (length hs) k g (omega arith) slots.0 handles.0)
-      (keeps_then sh ws s v (with_table s b u) (filled_w v sh b x p y (suc j) (length hs)) (with_table s b (fill_all till ks hs u)) one
-      (rw (table_at_law s b u, table_twice s b u (fill_all till ks hs u)) at rest))
+fill_stop ws sh b x p y q = refl
 
 published_stop : (ws : List ℕ) (sh : Shape) (b x p : ℕ) → published_w ws sh b x p [] ≡ ws
 unfolding published_w
@@ -107,41 +80,97 @@ published_more ws sh b x p i is y n e q l =
     let z : suc y - 1 ≡ y = omega arith in let w : plus p n ≡ p + n = omega arith in
     rw (e, z, q, w)
 
-module _ (sh : Shape) (b x : ℕ) where
-  -- by the handles of all parcels
-  pub published_keeps : (is : List ℕ) (hs : List Handle) (ks ws : List ℕ) (s : State) (p : ℕ) → Held ws sh s → Fits s → b < s.table_count
-      → Busy (s.tables b) ks → Items (SlotsAt (load ws sh) x) p ks → handles_of is s.book.rows ≡ some hs
-      → length hs ≤ length ks → p + length ks ≤ batch_max → Keeps sh ws s (published_w ws sh b x p is) (with_table s b (fill_all till ks hs (s.tables b)))
-  published_keeps [] hs ks ws s p h f l busy slots e few room =
-      let z : hs ≡ [] = cc in
-      rw (published_stop ws sh b x p, z, fill_all_none till ks (s.tables b), table_same s b) (keeps_none sh ws s h)
-  published_keeps (i ∷ is) hs ks ws s p h f l busy slots e few room =
-      let q = parts (find i s.book.rows) (handles_of is s.book.rows) hs e in
-      let gs : List Handle = q.first in let rest : List Handle = q.rest in
-      go gs rest q.found q.after q.whole (parcel_link (load ws sh) sh i) refl
-      (λ (ks' ws' : List ℕ) (s' : State) (p' : ℕ) (h' : Held ws' sh s') (f' : Fits s'). published_keeps is rest ks' ws' s' p' h' f')
+-- into the slots ks of the reservation i in place x, of table b
+module _ (sh : Shape) (b x i : ℕ) (ks : List ℕ) (few : length ks ≤ batch_max) where
+  -- what each turn needs of the state s, whose words are ws; its rows are rs throughout
+  pub record Ready (ws : List ℕ) (s : State) (rs : List Row) : Type 0 where
+    pub held : Held ws sh s
+    pub fits : Fits s
+    pub rows : s.book.rows ≡ rs
+    pub row : RowAt (load ws sh) s x i (reservation b ks)
+    pub found : find i s.book.rows ≡ some (reservation b ks)
+    pub there : b < s.table_count
+    pub busy : Busy (s.tables b) ks
+
+  -- words and state one turn or more on
+  pub record Filled (ws : List ℕ) (s : State) (rs : List Row) (vs : List ℕ) (u : State) : Type 0 where
+    pub keeps : Keeps sh ws s vs u
+    pub ready : Ready vs u rs
+
+  module _ (rs : List Row) (ws : List ℕ) (s : State) (r : Ready ws s rs) where
+    fills_none : Filled ws s rs ws s
+    fills_none = record { keeps = keeps_none sh ws s r.held; ready = r }
+
+    fills_then : (vs : List ℕ) (u : State) (us : List ℕ) (v : State) → Filled ws s rs vs u → Filled vs u rs us v → Filled ws s rs us v
+    fills_then vs u us v f g = record { keeps = keeps_then sh ws s vs u us v f.keeps g.keeps; ready = g.ready }
+
+    -- ONE HANDLE
+    one_filled : (p k : ℕ) (h : Handle) → nth ks p ≡ some k → let u : State = with_table s b (keep till (λ g. occupied g h) (s.tables b) k) in
+        Filled ws s rs (occupy_w ws sh b k h.object h.rights h.flags) u
+    one_filled p k h e =
+        let one = occupy_keeps sh ws s r.held b r.there k h (r.busy k (nth_occurs ks p k e)) in
+        record {
+          keeps = one;
+          ready = record {
+            held = one.held;
+            fits = one.fits r.fits;
+            rows = r.rows;
+            row = one.rows x i (reservation b ks) r.row;
+            found = r.found;
+            there = r.there;
+            busy = rw (table_at_law s b (keep till (λ g. occupied g h) (s.tables b) k)) (λ j o. keep_busy till (λ g. occupied g h) (λ g. refl) (s.tables b) k j (r.busy j o));
+          };
+        }
+
+  -- one handle, and those behind it
+  one_more : (rs : List Row) (j y : ℕ) (hs : List Handle) (n p q : ℕ) (ws : List ℕ) (s : State) → Ready ws s rs → find j s.book.rows ≡ some (parcel hs) → RowAt (load ws sh) s y j (parcel hs)
+      → (k : ℕ) (h : Handle) → nth ks (p + q) ≡ some k → nth hs q ≡ some h → p + q ≤ batch_max
+      → ((vs : List ℕ) (u : State) → Ready vs u rs → find j u.book.rows ≡ some (parcel hs) → RowAt (load vs sh) u y j (parcel hs)
+      → Filled vs u rs (filled_w vs sh b x p y (suc q) n) (lay_row till u b i (p + suc q) j (suc q) n))
+      → Filled ws s rs (filled_w ws sh b x p y q (suc n)) (lay_row till s b i (p + q) j q (suc n))
+  one_more rs j y hs n p q ws s r here a k h e d low rest =
+      let v : List ℕ = occupy_w ws sh b k h.object h.rights h.flags in
+      let u : State = with_table s b (keep till (λ g. occupied g h) (s.tables b) k) in
+      let one = one_filled rs ws s r (p + q) k h e in
+      let z : p + suc q ≡ suc (p + q) = omega arith in
+      rw (
+        fill_more ws sh b x p y q n k h low (item_of (SlotIs (load ws sh) x) ks r.row.body.3 (p + q) k e) (item_of (HandleIs (load ws sh) y) hs a.body.2 q h d),
+        row_next till s b i (p + q) j q n b k ks hs h r.found here e d,
+      ) (fills_then rs ws s r v u (filled_w v sh b x p y (suc q) n) (lay_row till u b i (suc (p + q)) j (suc q) n) one
+      (rw z at (rest v u one.ready here (one.keeps.rows y j (parcel hs) a))))
+
+  -- THE HANDLES OF ONE PARCEL, j in place y, straight from its row
+  filled : (rs : List Row) (j y : ℕ) (hs : List Handle) (n p q : ℕ) (ws : List ℕ) (s : State) → Ready ws s rs → find j s.book.rows ≡ some (parcel hs) → RowAt (load ws sh) s y j (parcel hs)
+      → q + n ≤ length hs → p + q + n ≤ length ks → Filled ws s rs (filled_w ws sh b x p y q n) (lay_row till s b i (p + q) j q n)
+  filled rs j y hs zero p q ws s r here a fit room = rw (fill_stop ws sh b x p y q) (fills_none rs ws s r)
+  filled rs j y hs (suc n) p q ws s r here a fit room =
+      let k = nth_some ks (p + q) (omega arith) in let h = nth_some hs q (omega arith) in
+      one_more rs j y hs n p q ws s r here a k.0 h.0 k.1 h.1 (omega (arith, few))
+      (λ (vs : List ℕ) (u : State) (f : Ready vs u rs) (e : find j u.book.rows ≡ some (parcel hs)) (c : RowAt (load vs sh) u y j (parcel hs)). filled rs j y hs n p (suc q) vs u f e c (omega arith) (omega arith))
+
+  -- THE HANDLES OF ALL PARCELS
+  pub published : (rs : List Row) (is : List ℕ) (hs : List Handle) (p : ℕ) (ws : List ℕ) (s : State) → Ready ws s rs → handles_of is rs ≡ some hs → p + length hs ≤ length ks
+      → Filled ws s rs (published_w ws sh b x p is) (lay_rows till s b i p is)
+  published rs [] hs p ws s r e room = rw (published_stop ws sh b x p) (fills_none rs ws s r)
+  published rs (j ∷ is) hs p ws s r e room =
+      let d = parts (find j rs) (handles_of is rs) hs e in
+      let long : length hs ≡ length d.first + length d.rest = ap length d.whole ∙ length-append d.first d.rest in
+      go d.first d.found (omega arith) (parcel_link (load ws sh) sh j) refl (λ (vs : List ℕ) (u : State) (f : Ready vs u rs). published rs is d.rest (p + length d.first) vs u f d.after (omega arith))
     where
-      go : (gs rest : List Handle) → find i s.book.rows ≡ some (parcel gs) → handles_of is s.book.rows ≡ some rest → hs ≡ gs ++ rest
-          → (n : ℕ) → parcel_link (load ws sh) sh i ≡ n
-          → ((ks' ws' : List ℕ) (s' : State) (p' : ℕ) → Held ws' sh s' → Fits s' → b < s'.table_count → Busy (s'.tables b) ks'
-          → Items (SlotsAt (load ws' sh) x) p' ks' → handles_of is s'.book.rows ≡ some rest → length rest ≤ length ks' → p' + length ks' ≤ batch_max
-          → Keeps sh ws' s' (published_w ws' sh b x p' is) (with_table s' b (fill_all till ks' rest (s'.tables b))))
-          → Keeps sh ws s (published_w ws sh b x p (i ∷ is)) (with_table s b (fill_all till ks hs (s.tables b)))
-      go gs rest found after whole zero n0 rec = let y : as_parcel (find i s.book.rows) ≡ some gs = ap as_parcel found in
-          let w = parcel_none ws sh s h f i n0 in apart (cc)
-      go gs rest found after whole (suc y) n1 rec =
-          let t = parcel_some ws sh s h f i y n1 in
-          let same : parcel t.0 ≡ parcel gs = some_same (parcel t.0) (parcel gs) (sym t.1.found ∙ found) in
-          let a : RowAt (load ws sh) s y i (parcel gs) = rw same at t.1.row in
-          let long : length hs ≡ length gs + length rest = ap length whole ∙ length-append gs rest in
+      go : (gs : List Handle) → find j rs ≡ some (parcel gs) → p + length gs ≤ length ks → (l : ℕ) → parcel_link (load ws sh) sh j ≡ l
+          → ((vs : List ℕ) (u : State) → Ready vs u rs → Filled vs u rs (published_w vs sh b x (p + length gs) is) (lay_rows till u b i (p + length gs) is))
+          → Filled ws s rs (published_w ws sh b x p (j ∷ is)) (lay_rows till s b i p (j ∷ is))
+      go gs found fit zero link rec =
+          let y : as_parcel (find j s.book.rows) ≡ some gs = rw r.rows (ap as_parcel found) in
+          let w = parcel_none ws sh s r.held r.fits j link in apart (cc)
+      go gs found fit (suc y) link rec =
+          let t = parcel_some ws sh s r.held r.fits j y link in
+          let here : find j s.book.rows ≡ some (parcel gs) = rw r.rows found in
+          let same : parcel t.0 ≡ parcel gs = some_same (parcel t.0) (parcel gs) (sym t.1.found ∙ here) in
+          let a : RowAt (load ws sh) s y j (parcel gs) = rw same at t.1.row in
           let v : List ℕ = filled_w ws sh b x p y 0 (length gs) in
-          let u : Table = fill_all till ks gs (s.tables b) in
-          let p0 : p ≡ p + 0 = omega arith in
-          let one = filled_keeps sh b x y p gs ks ws s 0 h l busy (rw p0 at slots) a.body.2 (omega arith) (omega arith) in
-          let c = length-drop (length gs) ks in
-          let two = rec (drop (length gs) ks) v (with_table s b u) (p + length gs) one.held (one.fits f) l
-          (λ k o. rw (table_at_law s b u) (fill_all_busy till ks gs (s.tables b) k (busy k (omega (arith, occurs_split k (length gs) ks)))))
-          (items_drop (SlotsAt (load v sh) x) (length gs) p ks (slots_kept (load ws sh) (load v sh) x (one.items x) p ks slots)) after (omega arith) (omega arith) in
-          rw (published_more ws sh b x p i is y (length gs) n1 a.body.1 (omega arith), whole)
-          (keeps_then sh ws s v (with_table s b u) (published_w v sh b x (p + length gs) is) (with_table s b (fill_all till ks (gs ++ rest) (s.tables b))) one
-          (rw (table_at_law s b u, table_twice s b u (fill_all till (drop (length gs) ks) rest u), fill_all_append till ks gs rest (s.tables b)) at two))
+          let z : p + 0 ≡ p = omega arith in
+          let one : Filled ws s rs v (lay_row till s b i p j 0 (length gs)) = rw z at (filled rs j y gs (length gs) p 0 ws s r here a (omega arith) (omega arith)) in
+          rw (published_more ws sh b x p j is y (length gs) link a.body.1 (omega (arith, few)), here)
+          (fills_then rs ws s r v (lay_row till s b i p j 0 (length gs)) (published_w v sh b x (p + length gs) is) (lay_rows till (lay_row till s b i p j 0 (length gs)) b i (p + length gs) is) one
+          (rec v (lay_row till s b i p j 0 (length gs)) one.ready))

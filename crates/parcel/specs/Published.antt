@@ -25,7 +25,7 @@ use Rattle.invariant.proofs.Parcels.{not_parcel, parts}
 use Rattle.invariant.proofs.Marks.{Owns}
 use Rattle.invariant.proofs.BookLemmas.{found_range}
 use Rattle.invariant.proofs.StorageDecisions.{reservation_owns}
-use Rattle.straight.proofs.Same.{agreed, parcels_fit_law}
+use Rattle.straight.proofs.Same.{agreed, parcels_fit_law, rows_laid}
 use Rattle.layout.specs.declared.Shape.{Shape}
 use Rattle.layout.specs.Layout.{Mem, load}
 use Rattle.layout.specs.Sizes.{batch_max}
@@ -44,7 +44,7 @@ use Rattle.parcel.specs.Ops.{parcel_link}
 use Rattle.parcel.specs.Found.{parcel_none, parcel_some, row_link_law}
 use Rattle.book.specs.Keeps.{Keeps, bare_given}
 use Rattle.parcel.specs.Publishing.{published_w, dropped_w, spent_w, publish_r}
-use Rattle.parcel.specs.Publish.{fits_is, published_keeps}
+use Rattle.parcel.specs.Publish.{Ready, fits_is, published}
 
 -- each id names a parcel whose place no marked slot names
 abbrev Parcels : Mem → State → List ℕ → Type 0
@@ -129,7 +129,10 @@ module _ (ws : List ℕ) (sh : Shape) (s : State) (r : Rep ws sh s) where
       ws' = published_w ws sh b x 0 is
 
       kept : Keeps sh ws s (published_w ws sh b x 0 is) (with_table s b (fill_all till ks hs (s.tables b)))
-      kept = published_keeps sh b x is hs ks ws s 0 h f range.0 own.busy o.row.body.3 e (omega arith) (omega (arith, few))
+      kept =
+          let r : Ready sh b x i ks few ws s s.book.rows = record { held = h; fits = f; rows = refl; row = o.row; found = o.found; there = range.0; busy = own.busy } in
+          let p = (published sh b x i ks few s.book.rows is hs 0 ws s r e (omega arith)).keeps in
+          rw (rows_laid till b i is hs ks s 0 (λ d p q. let z : p ≡ d = omega arith in rw (o.found, z)) e) at p
 
       bare : (k j : ℕ) → nth ks j ≡ some k → is_marked ((u.tables b).slots k) ≡ false
       bare k j z = ap (λ (t : Table). is_marked (t.slots k)) (table_at_law s b (fill_all till ks hs (s.tables b)))

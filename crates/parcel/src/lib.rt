@@ -339,7 +339,7 @@ fn publish_row(s: &mut [u64], sh: Shape, x: u64, parcels: ParcelIds)
     close_parcels(s, sh, parcels);
 }
 
-// "Publish names a reservation and one or more parcels, whose handles in order fill its slots"; "row named twice; lengths differ": 18.
+// "Publish names a reservation and one or more parcels, whose handles in order fill its slots"; "row named twice; lengths differ": 18. Its definitions stand in the contract of `answer_publish`.
 #[tactic(auto, unfolding(crate::specs::Publishing::publish_r))]
 pub fn publish(
     s: &mut [u64],

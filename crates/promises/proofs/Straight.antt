@@ -28,8 +28,8 @@ nothing_changes z = record {
   state = λ s r. ap state_of (step_same z s r);
   answers = λ s rs. ap answer_of (run_same z s rs);
   states = λ s rs. ap state_of (run_same z s rs);
-  publish_from_end = λ s w i is. publish_from_end_same z s w i is;
-  direct_commit_from_end = λ s w i j. direct_commit_from_end_same z s w i j;
+  from_end = λ s w i is. publish_from_end_same z s w i is;
+  direct_from_end = λ s w i j. direct_commit_from_end_same z s w i j;
 }
 
 pub straight_calls : (ws list os : List ℕ) (x : Called) → Meets ws list os x → (sh : Shape) (s : State) → Rep ws sh s → (rs : List Request) → read_list list ≡ some rs

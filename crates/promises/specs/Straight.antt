@@ -9,7 +9,7 @@ use Rattle.model.specs.Request.{Request, Request.publish, Request.direct_commit}
 use Rattle.model.specs.Step.{decide, step, run}
 use Rattle.model.specs.Words.{all_words}
 use Rattle.straight.specs.Straight.{step_straight, run_straight}
-use Rattle.straight.specs.FromEnd.{publish_from_end as from_end, direct_commit_from_end as direct_from_end}
+use Rattle.straight.specs.FromEnd.{publish_from_end, direct_commit_from_end}
 use Rattle.layout.specs.declared.Shape.{Shape}
 use Rattle.representation.specs.Represents.{Rep}
 use Rattle.contract.specs.Meets.{Called}
@@ -20,9 +20,9 @@ pub record NothingChanges (z : Sizes) : Type 0 where
   pub state : (s : State) (r : Request) → (step_straight z s r).0 ≡ (step z s r).0
   pub answers : (s : State) (rs : List Request) → (run_straight z s rs).1 ≡ (run z s rs).1
   pub states : (s : State) (rs : List Request) → (run_straight z s rs).0 ≡ (run z s rs).0
-  -- the Rust lays its batch from the end: of every well-formed state, the only ones that a call can have, that is the same too
-  pub publish_from_end : (s : State) → WellFormed z s → (i : ℕ) (is : List ℕ) → from_end z s i is ≡ decide z s (publish i is)
-  pub direct_commit_from_end : (s : State) → WellFormed z s → (i j : ℕ) → direct_from_end z s i j ≡ decide z s (direct_commit i j)
+  -- nor where the batch is laid in the order of the Rust's `publish`, the last handle first: of every well-formed state, the only one that a call can have
+  pub from_end : (s : State) → WellFormed z s → (i : ℕ) (is : List ℕ) → publish_from_end z s i is ≡ decide z s (publish i is)
+  pub direct_from_end : (s : State) → WellFormed z s → (i j : ℕ) → direct_commit_from_end z s i j ≡ decide z s (direct_commit i j)
 
 -- a call on words that represent s, whose list reads as rs and for which 72 words a request are lent, gave x: what the list does where publish and direct commit go straight from the rows
 pub record GoesStraight (os : List ℕ) (sh : Shape) (s : State) (rs : List Request) (x : Called) : Type 0 where

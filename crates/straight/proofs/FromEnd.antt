@@ -1,5 +1,5 @@
--- Laying a batch from its end, as the Rust does, is laying it from its beginning, where no slot stands twice and each is busy: so of every well-formed state.
-use Rattle.std.specs.Prelude.{◌≡◌, refl, true, List, [], ◌∷◌, map, ℕ, ◌+◌, ◌≤◌, ◌<◌, max, length, eqb}
+-- Laying a batch from its end, as the Rust's `publish` does, is laying it from its beginning, where no slot stands twice and each is busy: so of every well-formed state.
+use Rattle.std.specs.Prelude.{◌≡◌, refl, true, List, [], ◌∷◌, map, ℕ, ◌+◌, ◌≤◌, max, length, eqb}
 use Rattle.std.proofs.Math.Path.{fun_ext}
 use Rattle.std.proofs.Common.{sym, ap, ◌∙◌, arith, eqb-true, ne_eqb}
 use Rattle.std.proofs.Math.Option.{Option, none, some}
@@ -14,15 +14,11 @@ use Rattle.model.specs.Book.{find, moved_of, sent_of}
 use Rattle.model.specs.Effect.{◌setting_table◌to◌, ◌ending◌, ◌ending_all◌}
 use Rattle.model.specs.Decision.{Decision, leave◌answer◌, unless◌refuse◌then◌, given◌refuse◌then◌, as_reservation, as_claim, handles_of, distinct}
 use Rattle.model.specs.Step.{fill_all, publish_of, direct_commit_of}
-use Rattle.model.proofs.Tests.{bool, same, zero_or}
-use Rattle.invariant.proofs.Marks.{Owns, not_both}
-use Rattle.invariant.proofs.Pointwise.{keep_busy, vacate_all_out}
-use Rattle.invariant.proofs.StorageDecisions.{reservation_owns, claim_owns}
+use Rattle.model.proofs.Tests.{bool, same}
+use Rattle.invariant.proofs.Marks.{Owns}
+use Rattle.invariant.proofs.Pointwise.{Busy, keep_busy, busy_kept}
+use Rattle.invariant.proofs.StorageDecisions.{reservation_owns, busy_still}
 use Rattle.straight.specs.FromEnd.{fill_from_end, publish_from_end, direct_commit_from_end}
-
--- slots that are busy, each of a list
-abbrev pub Busy : Table → List ℕ → Type 0
-Busy t ks = (k : ℕ) → 0 < occurs k ks → is_busy (t.slots k) ≡ true
 
 -- ---- two slots, in either order
 
@@ -67,10 +63,6 @@ module _ (z : Sizes) where
 
   -- ---- many
 
-  -- they are busy while another is filled
-  pub busy_kept : (t : Table) (k : ℕ) (h : Handle) (ks : List ℕ) → Busy t (k ∷ ks) → Busy (keep z (λ g. occupied g h) t k) ks
-  busy_kept t k h ks busy i o = keep_busy z (λ g. occupied g h) (λ g. refl) t k i (busy i (omega arith))
-
   -- one slot filled after the others, or before them
   fill_past : (k : ℕ) (h : Handle) (ks : List ℕ) (hs : List Handle) (t : Table) → occurs k ks ≡ 0 → is_busy (t.slots k) ≡ true → Busy t ks
       → keep z (λ n. occupied n h) (fill_all z ks hs t) k ≡ fill_all z ks hs (keep z (λ n. occupied n h) t k)
@@ -78,7 +70,7 @@ module _ (z : Sizes) where
   fill_past k h (j ∷ ks) [] t out bk busy = refl
   fill_past k h (j ∷ ks) (g ∷ hs) t out bk busy = bool (eqb k j)
       (λ e. let y : 1 + occurs k ks ≡ 0 = rw e at out in absurd (omega arith))
-      (λ e. fill_past k h ks hs (keep z (λ n. occupied n g) t j) (omega arith) (keep_busy z (λ n. occupied n g) (λ n. refl) t j k bk) (busy_kept t j g ks busy)
+      (λ e. fill_past k h ks hs (keep z (λ n. occupied n g) t j) (omega arith) (keep_busy z (λ n. occupied n g) (λ n. refl) t j k bk) (busy_kept z t j g ks busy)
       ∙ ap (fill_all z ks hs) (keep_either t j k g h (eqb-false k j e) (busy j (rw (same j) (omega arith))) bk))
 
   -- THE BATCH, from its end or from its beginning
@@ -114,19 +106,6 @@ module _ (z : Sizes) (s : State) (w : WellFormed z s) where
       go (some (parcel hs)) e = refl
       go (some (plan b n v fs)) e = refl
 
-  -- a reservation's slots are busy still when a claim's have fallen vacant: no slot is in both
-  pub busy_still : (i j b c : ℕ) (es : List Entry) (ks : List ℕ) → find i s.book.rows ≡ some (claim b es) → find j s.book.rows ≡ some (reservation c ks)
-      → Busy ((with_table s b (vacate_all z (moved_of es) (s.tables b))).tables c) ks
-  busy_still i j b c es ks e d k o =
-      let res : Owns true j ks (s.tables c).slots = reservation_owns z s w j c ks d in
-      bool (eqb c b)
-      (λ q. let y : c ≡ b = eqb-true c b q in
-      let on : is_busy ((s.tables b).slots k) ≡ true = rw y at (res.busy k o) in
-      let out : occurs k (moved_of es) ≡ 0 = zero_or (occurs k (moved_of es)) (λ r. r)
-      (λ r. absurd (not_both j i ((s.tables b).slots k) (rw y at (res.on k o)) ((claim_owns z s w i b es e).on k r))) in
-      rw (q, vacate_all_out z (moved_of es) (s.tables b) k out) on)
-      (λ q. rw q (res.busy k o))
-
   -- DIRECT COMMIT
   pub direct_commit_from_end_same : (i j : ℕ) → direct_commit_from_end z s i j ≡ direct_commit_of z s i j
   unfolding direct_commit_from_end direct_commit_of
@@ -141,7 +120,7 @@ module _ (z : Sizes) (s : State) (w : WellFormed z s) where
       alike : (y : Option Body) → find j s.book.rows ≡ y → (b : ℕ) (es : List Entry) → find i s.book.rows ≡ some (claim b es)
           → laid_by (λ c ls hs t. fill_from_end z ls hs t) y b es ≡ laid_by (λ c ls hs t. fill_all z ls hs t) y b es
       alike none d b es e = refl
-      alike (some (reservation c ks)) d b es e = rw (from_end_same z ks (map sent_of es) ((vacated b es).tables c) (reservation_owns z s w j c ks d).once (busy_still i j b c es ks e d))
+      alike (some (reservation c ks)) d b es e = rw (from_end_same z ks (map sent_of es) ((vacated b es).tables c) (reservation_owns z s w j c ks d).once (busy_still z s w i j b c es ks e d))
       alike (some (claim c fs)) d b es e = refl
       alike (some (parcel hs)) d b es e = refl
       alike (some (plan c n v fs)) d b es e = refl

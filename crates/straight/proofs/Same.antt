@@ -19,7 +19,7 @@ use Rattle.model.proofs.Tests.{and-false, bool, nth_drop}
 use Rattle.model.proofs.Changed.{with_own, with_over, with_table_at}
 use Rattle.invariant.proofs.Pointwise.{fill_all_none, fill_all_append}
 use Rattle.invariant.proofs.Parcels.{parts}
-use Rattle.straight.specs.Straight.{slot_in, sent_in, handle_in, lay, lay_row, lay_rows, parcel_fits, parcels_fit, publish_straight, direct_commit_straight, decide_straight, step_straight, run_straight}
+use Rattle.straight.specs.Straight.{slot_in, sent_in, handle_in, lay, lay_row, lay_rows, fits_then, parcels_fit, publish_straight, direct_commit_straight, decide_straight, step_straight, run_straight}
 
 -- ---- the lengths
 
@@ -28,7 +28,7 @@ abbrev pub agreed : Option (List Handle) → ℕ → Bool
 agreed none n = false
 agreed (some hs) n = eqb n (length hs)
 
-agreed_more : (gs : List Handle) (r : Option (List Handle)) (n : ℕ) (rest : ℕ → Bool) → ((m : ℕ) → rest m ≡ agreed r m) → parcel_fits (some gs) n rest ≡ agreed (joined (some gs) r) n
+agreed_more : (gs : List Handle) (r : Option (List Handle)) (n : ℕ) (rest : ℕ → Bool) → ((m : ℕ) → rest m ≡ agreed r m) → fits_then (some gs) n rest ≡ agreed (joined (some gs) r) n
 agreed_more gs none n rest e = rw (e (n - length gs), and-false (not (ltb n (length gs))))
 agreed_more gs (some hs) n rest e = rw (e (n - length gs)) (bool (ltb n (length gs))
     (λ q. rw q (sym (ne_eqb n (length (gs ++ hs)) (λ z. omega (arith, length-append gs hs, ltb-true n (length gs) q)))))
@@ -41,7 +41,7 @@ pub parcels_fit_law : (rs : List Row) (is : List ℕ) (n : ℕ) → parcels_fit 
 parcels_fit_law rs [] n = refl
 parcels_fit_law rs (i ∷ is) n = go (as_parcel (find i rs)) (parcels_fit_law rs is)
   where
-    go : (x : Option (List Handle)) → ((m : ℕ) → parcels_fit rs is m ≡ agreed (handles_of is rs) m) → parcel_fits x n (parcels_fit rs is) ≡ agreed (joined x (handles_of is rs)) n
+    go : (x : Option (List Handle)) → ((m : ℕ) → parcels_fit rs is m ≡ agreed (handles_of is rs) m) → fits_then x n (parcels_fit rs is) ≡ agreed (joined x (handles_of is rs)) n
     go none rest = refl
     go (some hs) rest = agreed_more hs (handles_of is rs) n (parcels_fit rs is) rest
 
@@ -56,35 +56,40 @@ module _ (z : Sizes) where
   unfolding lay
   lay_one s b k h = refl
 
-  row_more : (s : State) (b i j p c n : ℕ)
-      → lay_row z s b i j p c (suc n) ≡ lay_row z (lay z s b (slot_in (find i s.book.rows) p) (handle_in (find j s.book.rows) c)) b i j (suc p) (suc c) n
-  row_more s b i j p c n = refl
+  row_more : (s : State) (b i p j q n : ℕ)
+      → lay_row z s b i p j q (suc n) ≡ lay_row z (lay z s b (slot_in (find i s.book.rows) p) (handle_in (find j s.book.rows) q)) b i (suc p) j (suc q) n
+  row_more s b i p j q n = refl
 
-  -- the handles hs, which stand in row j from handle c on, in the slots ks, which stand in reservation i from slot p on
-  row_laid : (b i j : ℕ) (hs : List Handle) (ks : List ℕ) (s : State) (p c : ℕ) → ((q r : ℕ) → r ≡ p + q → slot_in (find i s.book.rows) r ≡ nth ks q)
-      → ((q r : ℕ) → r ≡ c + q → handle_in (find j s.book.rows) r ≡ nth hs q) → lay_row z s b i j p c (length hs) ≡ with_table s b (fill_all z ks hs (s.tables b))
-  row_laid b i j [] ks s p c slots handles = rw (fill_all_none z ks (s.tables b)) (sym (with_own s b))
-  row_laid b i j (h ∷ hs) [] s p c slots handles =
-      rw (row_more s b i j p c (length hs), slots 0 p (omega arith), lay_past s b (handle_in (find j s.book.rows) c))
-      (row_laid b i j hs [] s (suc p) (suc c) (λ q r e. slots (suc q) r (omega arith)) (λ q r e. handles (suc q) r (omega arith)))
-  row_laid b i j (h ∷ hs) (k ∷ ks) s p c slots handles =
+  -- one handle of a parcel
+  pub row_next : (s : State) (b i p j q n c k : ℕ) (ks : List ℕ) (hs : List Handle) (h : Handle) → find i s.book.rows ≡ some (reservation c ks) → find j s.book.rows ≡ some (parcel hs)
+      → nth ks p ≡ some k → nth hs q ≡ some h → lay_row z s b i p j q (suc n) ≡ lay_row z (with_table s b (keep z (λ g. occupied g h) (s.tables b) k)) b i (suc p) j (suc q) n
+  row_next s b i p j q n c k ks hs h e d f g = rw (row_more s b i p j q n, e, d, f, g, lay_one s b k h)
+
+  -- the handles hs, which stand in row j from handle q on, in the slots ks, which stand in reservation i from slot p on
+  row_laid : (b i j : ℕ) (hs : List Handle) (ks : List ℕ) (s : State) (p q : ℕ) → ((d r : ℕ) → r ≡ p + d → slot_in (find i s.book.rows) r ≡ nth ks d)
+      → ((d r : ℕ) → r ≡ q + d → handle_in (find j s.book.rows) r ≡ nth hs d) → lay_row z s b i p j q (length hs) ≡ with_table s b (fill_all z ks hs (s.tables b))
+  row_laid b i j [] ks s p q slots handles = rw (fill_all_none z ks (s.tables b)) (sym (with_own s b))
+  row_laid b i j (h ∷ hs) [] s p q slots handles =
+      rw (row_more s b i p j q (length hs), slots 0 p (omega arith), lay_past s b (handle_in (find j s.book.rows) q))
+      (row_laid b i j hs [] s (suc p) (suc q) (λ d r e. slots (suc d) r (omega arith)) (λ d r e. handles (suc d) r (omega arith)))
+  row_laid b i j (h ∷ hs) (k ∷ ks) s p q slots handles =
       let t : Table = keep z (λ g. occupied g h) (s.tables b) k in
-      rw (row_more s b i j p c (length hs), slots 0 p (omega arith), handles 0 c (omega arith), lay_one s b k h)
-      (row_laid b i j hs ks (with_table s b t) (suc p) (suc c) (λ q r e. slots (suc q) r (omega arith)) (λ q r e. handles (suc q) r (omega arith))
+      rw (row_more s b i p j q (length hs), slots 0 p (omega arith), handles 0 q (omega arith), lay_one s b k h)
+      (row_laid b i j hs ks (with_table s b t) (suc p) (suc q) (λ d r e. slots (suc d) r (omega arith)) (λ d r e. handles (suc d) r (omega arith))
       ∙ rw (with_table_at s b t) (with_over s b t (fill_all z ks hs t)))
 
   -- those of one parcel, and then of those behind it
-  rows_more : (b i j : ℕ) (is ks : List ℕ) (gs rest : List Handle) (s : State) (p : ℕ) → find j s.book.rows ≡ some (parcel gs) → ((q r : ℕ) → r ≡ p + q → slot_in (find i s.book.rows) r ≡ nth ks q)
+  rows_more : (b i j : ℕ) (is ks : List ℕ) (gs rest : List Handle) (s : State) (p : ℕ) → find j s.book.rows ≡ some (parcel gs) → ((d r : ℕ) → r ≡ p + d → slot_in (find i s.book.rows) r ≡ nth ks d)
       → (let t : Table = fill_all z ks gs (s.tables b) in
       lay_rows z (with_table s b t) b i (p + length gs) is ≡ with_table (with_table s b t) b (fill_all z (drop (length gs) ks) rest ((with_table s b t).tables b)))
       → lay_rows z s b i p (j ∷ is) ≡ with_table s b (fill_all z ks (gs ++ rest) (s.tables b))
   rows_more b i j is ks gs rest s p e slots behind =
       let t : Table = fill_all z ks gs (s.tables b) in
-      let one : lay_row z s b i j p 0 (length gs) ≡ with_table s b t = row_laid b i j gs ks s p 0 slots (λ q r d. let y : r ≡ q = omega arith in rw (e, y)) in
+      let one : lay_row z s b i p j 0 (length gs) ≡ with_table s b t = row_laid b i j gs ks s p 0 slots (λ d r q. let y : r ≡ d = omega arith in rw (e, y)) in
       rw (e, one) (behind ∙ rw (with_table_at s b t, with_over s b t (fill_all z (drop (length gs) ks) rest t), fill_all_append z ks gs rest (s.tables b)))
 
   -- the handles of all parcels
-  rows_laid : (b i : ℕ) (is : List ℕ) (hs : List Handle) (ks : List ℕ) (s : State) (p : ℕ) → ((q r : ℕ) → r ≡ p + q → slot_in (find i s.book.rows) r ≡ nth ks q)
+  pub rows_laid : (b i : ℕ) (is : List ℕ) (hs : List Handle) (ks : List ℕ) (s : State) (p : ℕ) → ((d r : ℕ) → r ≡ p + d → slot_in (find i s.book.rows) r ≡ nth ks d)
       → handles_of is s.book.rows ≡ some hs → lay_rows z s b i p is ≡ with_table s b (fill_all z ks hs (s.tables b))
   rows_laid b i [] hs ks s p slots e = let y : hs ≡ [] = cc in rw (y, fill_all_none z ks (s.tables b)) (sym (with_own s b))
   rows_laid b i (j ∷ is) hs ks s p slots e =
@@ -136,7 +141,7 @@ module _ (z : Sizes) (s : State) (i j b : ℕ) (es : List Entry) (c : ℕ) (ks :
   vacated = with_table s b (vacate_all z (moved_of es) (s.tables b))
 
   abbrev direct_rows : Decision
-  direct_rows = unless eqb (length es) (length ks) refuse 18 then leave lay_row z vacated c j i 0 0 (length es) ending i ending j answer done
+  direct_rows = unless eqb (length es) (length ks) refuse 18 then leave lay_row z vacated c j 0 i 0 (length es) ending i ending j answer done
 
   abbrev direct_batch : Decision
   direct_batch = unless eqb (length es) (length ks) refuse 18 then leave vacated setting_table c to fill_all z ks (map sent_of es) (vacated.tables c) ending i ending j answer done
@@ -144,7 +149,7 @@ module _ (z : Sizes) (s : State) (i j b : ℕ) (es : List Entry) (c : ℕ) (ks :
   committed : find i s.book.rows ≡ some (claim b es) → find j s.book.rows ≡ some (reservation c ks) → direct_rows ≡ direct_batch
   committed e d =
       ap (λ (u : State). unless eqb (length es) (length ks) refuse 18 then leave u ending i ending j answer done)
-      (ap (lay_row z vacated c j i 0 0) (sym (length-map es sent_of))
+      (ap (lay_row z vacated c j 0 i 0) (sym (length-map es sent_of))
       ∙ row_laid z c j i (map sent_of es) ks vacated 0 0 (λ p r f. let w : r ≡ p = omega arith in rw (d, w)) (λ q r f. let w : r ≡ q = omega arith in rw (e, w) (sent_nth es q)))
 
 module _ (z : Sizes) where

@@ -1,5 +1,5 @@
--- The Rust's way to the letter (mod.rs, `HandleBatchReservation::publish`, which `commit_locked` and `commit_within` call too): the batch is taken from its end, so that the reservation's last slot is
--- filled first. In a well-formed state, the only ones that a call can have, no slot stands twice, and it is the step of document 01: proofs/FromEnd.antt.
+-- A batch laid in the order of the Rust's `publish` (mod.rs, which a direct commit calls too): the handle that stands last is taken first, into the reservation's last slot. (`publish_from_reversed`, which
+-- is not ported, begins with the first.) In a well-formed state, the only one that a call can have, no slot stands twice, and it is the step of document 01: proofs/FromEnd.antt.
 use Rattle.std.specs.Prelude.{List, [], ◌∷◌, map, ℕ, length, eqb}
 use Rattle.model.specs.State.{Sizes, Handle, Slot.occupied, Table, State}
 use Rattle.model.specs.Storage.{keep, vacate_all}
