@@ -90,7 +90,7 @@ if "$work/any" 1 1000000; then good "any words: a million calls"; else bad "any 
 
 # Stack.
 # shellcheck disable=SC2086
-if cc $flags -O1 c/stack.c $libraries -o "$work/stack" && "$work/stack"; then good "each call uses less than 4,096 bytes of stack"; else bad "each call uses less than 4,096 bytes of stack"; fi
+if cc $flags -O1 c/stack.c $libraries -o "$work/stack" && "$work/stack"; then good "each call uses less than 4,096 bytes of stack, and a publish and a direct commit have no array of handles there"; else bad "each call uses less than 4,096 bytes of stack, and a publish and a direct commit have no array of handles there"; fi
 
 # The recorded lists, the held and the plain run, and the Rust, through the C calls.
 has_cargo || finish
