@@ -8,7 +8,7 @@ use crate::coverage::{Coverage, possible};
 use crate::generate::{KINDS, Kind, Ops, Sequence, last_call, sequence_with, shrink};
 use crate::oracle::Oracle;
 use crate::requests::{ANSWER, NAMES, read_list};
-use crate::{looks, plans};
+use crate::{fills, looks, plans};
 use crate::second_reader;
 use crate::state;
 use crate::subject::{Call, FILL, Runs, Start, Texts, Trace, difference};
@@ -40,7 +40,7 @@ pub fn show(start: &Start, calls: &[Call]) {
 pub fn random(settings: &Settings, mut other: Option<&mut dyn Runs>, tally: &mut Tally) {
     let mut oracle = Oracle::default();
     let mut coverage = Coverage::default();
-    let (mut seen_plans, mut seen_looks) = (plans::Seen::default(), looks::Seen::default());
+    let (mut seen_plans, mut seen_looks, mut seen_fills) = (plans::Seen::default(), looks::Seen::default(), fills::Seen::default());
     let mut violations: BTreeMap<String, u64> = BTreeMap::new();
     let (mut differences, mut unexplained, mut readers, mut reader_faults, mut lists, mut loads) = (0, 0, 0u64, 0, 0u64, 0u64);
     let mut per_kind = [0u64; 4];
@@ -54,7 +54,7 @@ pub fn random(settings: &Settings, mut other: Option<&mut dyn Runs>, tally: &mut
             _ => Kind::Scrambled,
         };
         let length = if kind == Kind::LastPage { 30 } else { settings.length };
-        let Sequence { start, calls, trace, plans, looks } = sequence_with(seed, kind, length, Ops::All, if other.is_some() { Texts::Last } else { Texts::Each });
+        let Sequence { start, calls, trace, plans, looks, fills } = sequence_with(seed, kind, length, Ops::All, if other.is_some() { Texts::Last } else { Texts::Each });
         per_kind[kind as usize] += 1;
         let found = oracle.run(&start, &calls);
         let compared = match other.as_mut() {
@@ -66,6 +66,7 @@ pub fn random(settings: &Settings, mut other: Option<&mut dyn Runs>, tally: &mut
         if found.stopped.is_none() {
             seen_plans.add(&plans);
             seen_looks.add(&looks);
+            seen_fills.add(&fills);
         }
         if let Some(place) = &found.stopped {
             match explained(place) {
@@ -163,6 +164,9 @@ pub fn random(settings: &Settings, mut other: Option<&mut dyn Runs>, tally: &mut
         tally.line(lacking.is_empty(), &format!("{name}: plans of every sort were made, used and dropped{}", told(&lacking)));
         let lacking = seen_looks.print();
         tally.line(lacking.is_empty(), &format!("{name}: {} looks at values that are being moved, of every sort{}", seen_looks.looks, told(&lacking)));
+        let lacking = seen_fills.print();
+        let lacking: Vec<&str> = lacking.iter().map(String::as_str).collect();
+        tally.line(lacking.is_empty(), &format!("{name}: publishes and direct commits of every sort, accepted and refused{}", told(&lacking)));
     }
     tally.line(lists > 0 && differences == 0, &format!("{name}: {lists} of these lists run as one call: the same answers and the same end"));
     if !whole {

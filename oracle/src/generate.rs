@@ -1,6 +1,7 @@
 //! Random lists with seeds: plain ones from creation, edges, scrambled well-formed states, and invalid values of every kind in all
 //! of them. The reading's state says which values and ids there are; every answer that counts is the other side's.
 
+use crate::fills;
 use crate::looks::{self, Moved, moved};
 use crate::plans::{self, is_stale};
 use crate::reading::{Reading, Slip};
@@ -86,12 +87,13 @@ fn parameters(rng: &mut Rng) -> Vec<u64> {
     words
 }
 
-/// Which requests a list may hold. The lists that were recorded before there were plans are made without them, and those that were recorded before a moved value could be looked at
-/// have no more such looks than come by chance, so that they stay as they are.
-#[derive(Clone, Copy, Debug, Eq, PartialEq)]
+/// Which requests a list may hold, and from which states it may start. The lists that were recorded before there were plans are made without them, those that were recorded before a
+/// moved value could be looked at have no more such looks than come by chance, and no recorded list starts with as many parcels as a batch has slots, so that they stay as they are.
+#[derive(Clone, Copy, Debug, Eq, PartialEq, PartialOrd)]
 pub enum Ops {
     WithoutPlans,
     WithPlans,
+    WithLooks,
     All,
 }
 
@@ -224,6 +226,13 @@ impl View<'_> {
         }
         self.rng.pick(&good).copied().unwrap_or(0)
     }
+    /// At times, where lists may start with long rows, the longest row of a kind.
+    fn longest(&mut self, wanted: impl Fn(&RowKind) -> bool) -> Option<u64> {
+        if self.ops != Ops::All || !self.rng.chance(300) {
+            return None;
+        }
+        self.ids(wanted).into_iter().max_by_key(|id| self.length_of(*id))
+    }
     fn count(&mut self) -> u64 {
         match self.rng.below(40) {
             0 => 0,
@@ -253,7 +262,7 @@ impl View<'_> {
             (COMMIT, 45), (DIRECT_COMMIT, 60), (DIRECT_ROLLBACK, 25), (STOPPING, 6), (TEARDOWN_START, 2), (TEARDOWN_STEP, 25),
             (TEARDOWN_FINISH, 10), (TAKE_PAGE, 40), (MAKE_PLAN, 70), (USE_PLAN, 75), (DROP_PLAN, 20),
         ];
-        if self.ops == Ops::All
+        if self.ops >= Ops::WithLooks
             && self.rng.chance(80)
             && let Some(look) = self.look()
         {
@@ -370,6 +379,7 @@ impl View<'_> {
             COMMIT => commit(self.id(|kind| matches!(kind, RowKind::Claim { .. }))),
             DIRECT_COMMIT | DIRECT_ROLLBACK => {
                 let claim = self.id(|kind| matches!(kind, RowKind::Claim { .. }));
+                let claim = self.longest(|kind| matches!(kind, RowKind::Claim { .. })).unwrap_or(claim);
                 let length = self.length_of(claim);
                 let fitting: Vec<u64> = self
                     .s
@@ -500,7 +510,12 @@ impl View<'_> {
     fn publish(&mut self) -> Request {
         let mut parcels: Vec<(u64, u64)> = self.ids(|kind| matches!(kind, RowKind::Parcel(_))).into_iter().map(|id| (id, self.length_of(id))).collect();
         self.rng.shuffle(&mut parcels);
-        let id = self.id(|kind| matches!(kind, RowKind::Reservation { .. }));
+        let mut id = self.id(|kind| matches!(kind, RowKind::Reservation { .. }));
+        if let Some(longest) = self.longest(|kind| matches!(kind, RowKind::Reservation { .. })) {
+            // As many slots and as many parcels as can be.
+            id = longest;
+            parcels.sort_by_key(|(_, length)| *length);
+        }
         let mut left = self.length_of(id);
         let mut chosen = Vec::new();
         for (parcel, length) in parcels {
@@ -528,6 +543,14 @@ impl View<'_> {
         }
         if self.rng.chance(15) {
             chosen.push(self.id(|_| true));
+        }
+        if self.ops == Ops::All
+            && self.rng.chance(15)
+            && let [first, .., last] = chosen.as_mut_slice()
+            && self.length_of(*first) == self.length_of(*last)
+        {
+            // Named twice, and the handles are as many as before.
+            *last = *first;
         }
         publish(id, &chosen)
     }
@@ -828,6 +851,66 @@ fn other_plan(rng: &mut Rng, s: &mut State, at: usize) {
     s.rows[at].kind = RowKind::Plan { table: number, count, kept, frames };
 }
 
+/// One more handle of a random object, if that may have one, and only so often.
+fn one_more(rng: &mut Rng, objects: &mut [Object], per_thousand: u64) -> Option<Handle> {
+    let object = rng.below(objects.len() as u64);
+    let record = &mut objects[object as usize];
+    if !rng.chance(per_thousand) || record.count >= record.limit {
+        return None;
+    }
+    record.count += 1;
+    if record.state == NEW {
+        record.state = ACTIVE;
+    }
+    let rights = rng.next() | [3, 3, 3, 2, 1, 0][rng.below(6) as usize];
+    Some(Handle { object, rights, flags: rng.below(4) })
+}
+
+/// As many more if objects that may have one are found soon.
+fn some_more(rng: &mut Rng, objects: &mut [Object], count: usize) -> Vec<Handle> {
+    (0..4 * count).filter_map(|_| one_more(rng, objects, 1000)).take(count).collect()
+}
+
+/// Parcels, as many as a batch has slots and more, of one handle each or of up to four; reservations of all that is free in the table with the most of it; and a claim of up to 64 items on
+/// the table with the most handles, of moves and, for the rest, copies: for publishes from many parcels, and direct commits of many items.
+fn loosen(rng: &mut Rng, s: &mut State) {
+    let most = if rng.chance(500) { 1 } else { 4 };
+    let parcels = 64 + rng.below(24);
+    s.row_capacity += 1 + parcels + rng.below(20);
+    let busy = |table: &Table| table.pages.iter().map(|page| page.busy).sum::<u64>();
+    if let Some(number) = (0..s.tables.len()).filter(|number| s.tables[*number].life == Life::Active).max_by_key(|number| busy(&s.tables[*number])) {
+        let mut entries = Vec::new();
+        for (number, page) in s.tables[number].pages.iter_mut().enumerate() {
+            for (place, slot) in page.slots.iter_mut().enumerate() {
+                if let Slot::Occupied(generation, handle) = *slot
+                    && entries.len() < 64
+                    && rng.chance(700)
+                {
+                    *slot = Slot::Moving(generation);
+                    entries.push(ClaimEntry::Move { slot: (number * 64 + place) as u64, handle, gets: handle.rights & rng.next() });
+                }
+            }
+        }
+        entries.extend(some_more(rng, &mut s.objects, 64 - entries.len()).into_iter().map(ClaimEntry::Copy));
+        rng.shuffle(&mut entries);
+        if !entries.is_empty() {
+            s.rows.push(Row { id: s.next, kind: RowKind::Claim { table: number as u64, entries } });
+            s.next += 1;
+        }
+    }
+    for _ in 0..parcels {
+        let count = 1 + rng.below(most);
+        let handles = some_more(rng, &mut s.objects, count as usize);
+        if !handles.is_empty() {
+            s.rows.push(Row { id: s.next, kind: RowKind::Parcel(handles) });
+            s.next += 1;
+        }
+    }
+    if let Some(number) = (0..s.tables.len()).max_by_key(|number| s.tables[*number].free_count) {
+        reserve_all(s, number);
+    }
+}
+
 /// Fills vacant slots with handles, so that long transfers, parcels and scans find something.
 fn crowd(rng: &mut Rng, s: &mut State) {
     let share = [100, 500, 950][rng.below(3) as usize];
@@ -838,18 +921,9 @@ fn crowd(rng: &mut Rng, s: &mut State) {
         for page in 0..s.tables[number].pages.len() {
             for place in 0..s.tables[number].pages[page].slots.len() {
                 let Slot::Vacant(generation) = s.tables[number].pages[page].slots[place] else { continue };
-                let object = rng.below(s.objects.len() as u64);
-                let record = &mut s.objects[object as usize];
-                if !rng.chance(share) || record.count >= record.limit {
-                    continue;
-                }
-                record.count += 1;
-                if record.state == NEW {
-                    record.state = ACTIVE;
-                }
-                let rights = rng.next() | [3, 3, 3, 2, 1, 0][rng.below(6) as usize];
+                let Some(handle) = one_more(rng, &mut s.objects, share) else { continue };
                 let table = &mut s.tables[number];
-                table.pages[page].slots[place] = Slot::Occupied(generation, Handle { object, rights, flags: rng.below(4) });
+                table.pages[page].slots[place] = Slot::Occupied(generation, handle);
                 table.pages[page].busy += 1;
                 let slot = (page * 64 + place) as u64;
                 table.free.retain(|free| *free != slot);
@@ -986,12 +1060,16 @@ pub struct Sequence {
     pub trace: Trace,
     pub plans: plans::Seen,
     pub looks: looks::Seen,
+    pub fills: fills::Seen,
 }
 
 /// A state some requests old, changed as its kind says.
 fn old_state(rng: &mut Rng, kind: Kind, params: &[u64], ops: Ops) -> State {
     let steps = 20 + rng.below(120) as usize;
     let mut state = grown(rng, params, steps, ops);
+    if ops == Ops::All && [Kind::Edges, Kind::Scrambled].contains(&kind) && rng.chance(50) {
+        loosen(rng, &mut state);
+    }
     match kind {
         Kind::Plain => {}
         Kind::Edges => {
@@ -1064,11 +1142,11 @@ pub fn sequence_with(seed: u64, kind: Kind, length: usize, ops: Ops, texts: Text
     let mut reading = Reading::new(Slip::None);
     let mut trace = Trace { start: reading.start(&start), text: reading.text().unwrap_or_default(), ..Trace::default() };
     let mut calls = Vec::new();
-    let (mut plans, mut looks) = (plans::Watch::default(), looks::Watch::default());
+    let (mut plans, mut looks, mut fills) = (plans::Watch::default(), looks::Watch::default(), fills::Watch::default());
     for at in 0..length {
         let Some(state) = reading.state() else { break };
         // At times a value whose claim has ended is looked at.
-        let ended = if ops == Ops::All && rng.chance(12) { looks.ended(|count| rng.below(count)) } else { None };
+        let ended = if ops >= Ops::WithLooks && rng.chance(12) { looks.ended(|count| rng.below(count)) } else { None };
         let call = match ended {
             Some((table, value)) => Call::one(get_info(table, value).words()),
             None => next_call(&mut rng, state, ops),
@@ -1077,18 +1155,20 @@ pub fn sequence_with(seed: u64, kind: Kind, length: usize, ops: Ops, texts: Text
         if let [request] = requests.as_slice() {
             plans.before(state, request);
             looks.before(state, request);
+            fills.before(state, request);
         }
         let mut answers = vec![FILL; call.lent];
         let result = reading.call(&call.list, &mut answers);
         if let ([request], Some(state), 0) = (requests.as_slice(), reading.state(), result) {
             plans.after(state, request, &answers);
             looks.after(state, request, &answers);
+            fills.after(request, &answers);
         }
         let text = if texts == Texts::Each || at + 1 == length { reading.text().unwrap_or_default() } else { String::new() };
         trace.steps.push(Step { result, answers, text });
         calls.push(call);
     }
-    Sequence { start, calls, trace, plans: plans.seen, looks: looks.seen }
+    Sequence { start, calls, trace, plans: plans.seen, looks: looks.seen, fills: fills.seen }
 }
 
 /// The calls kept, with the ids and values that their answers give now in place of those that they gave in the whole list.

@@ -17,6 +17,7 @@ pub mod words;
 
 pub mod c_entry;
 pub mod coverage;
+pub mod fills;
 pub mod generate;
 pub mod held;
 pub mod looks;

@@ -56,7 +56,7 @@ pub fn all() -> Vec<(String, String)> {
     plans.extend(PLANS.into_iter().flat_map(|kind| random(&mut oracle, "plans-", SEED + 0x2000, Ops::WithPlans, kind, 0)));
     files.push(("plans.txt".to_string(), write(&plans)));
     let mut looks = of_cases(&mut oracle, cases::looks::all());
-    looks.extend(LOOKS.into_iter().flat_map(|kind| random(&mut oracle, "looks-", SEED + 0x3000, Ops::All, kind, OFTEN)));
+    looks.extend(LOOKS.into_iter().flat_map(|kind| random(&mut oracle, "looks-", SEED + 0x3000, Ops::WithLooks, kind, OFTEN)));
     files.push(("looks.txt".to_string(), write(&looks)));
     files
 }

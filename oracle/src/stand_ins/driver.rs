@@ -856,6 +856,7 @@ impl Machine {
                     return Err(18);
                 }
                 let (table, token) = self.take_reservation(at);
+                // DRIVER: the Rust publishes one batch: the parcels' handles, one parcel after the other as they are named.
                 let mut handles = Vec::new();
                 for item in &request.items {
                     let parcel = self.parcel_at(item.get(rq::ID))?;
