@@ -55,9 +55,13 @@ pub enum Slip {
     ReservedShowsAHandle,
     ResolveSeesMoved,
     DuplicateSeesMoved,
+    PublishLastParcelFirst,
+    PublishStopsAfterOneParcel,
+    PublishDropsRowsFirst,
+    DirectCommitLaysBackwards,
 }
 
-pub const SLIPS: [(Slip, &str); 40] = [
+pub const SLIPS: [(Slip, &str); 44] = [
     (Slip::RollbackByPlaceAmongMoves, "rollback takes a moved handle by its place among the moves"),
     (Slip::ScanStopsAt255, "a scan stops after 255 slots"),
     (Slip::NewPageDownward, "a new page is published downward"),
@@ -98,6 +102,10 @@ pub const SLIPS: [(Slip, &str); 40] = [
     (Slip::ReservedShowsAHandle, "get_info on a Reserved slot shows a handle of a claim"),
     (Slip::ResolveSeesMoved, "resolve answers for a moved value"),
     (Slip::DuplicateSeesMoved, "duplicate answers for a moved value"),
+    (Slip::PublishLastParcelFirst, "publish lays the parcel named last first"),
+    (Slip::PublishStopsAfterOneParcel, "publish stops after the first parcel"),
+    (Slip::PublishDropsRowsFirst, "publish drops a parcel's row before its handles are laid"),
+    (Slip::DirectCommitLaysBackwards, "direct commit lays the last handle first"),
 ];
 
 pub struct Reading {
@@ -714,18 +722,26 @@ impl State {
             rq::PUBLISH => {
                 let (_, table, slots) = self.reservation(request.get(rq::ID))?;
                 let ids: Vec<u64> = request.items.iter().map(|item| item.get(rq::ID)).collect();
-                let mut handles = Vec::new();
+                let mut parcels = Vec::new();
                 for (at, id) in ids.iter().enumerate() {
                     if ids[..at].contains(id) {
                         return Err(18);
                     }
-                    handles.extend(self.parcel(*id)?.1);
+                    parcels.push(self.parcel(*id)?.1);
                 }
-                if handles.len() != slots.len() {
+                if parcels.iter().map(Vec::len).sum::<usize>() != slots.len() {
                     return Err(18);
                 }
                 self.rows.retain(|row| row.id != request.get(rq::ID) && !ids.contains(&row.id));
-                self.fill(table, &slots, &handles);
+                match slip {
+                    Slip::PublishLastParcelFirst => parcels.reverse(),
+                    // The slots behind the first parcel's stay Reserved, of no row, and the other parcels' handles are lost: their objects' counts stay.
+                    Slip::PublishStopsAfterOneParcel => parcels.truncate(1),
+                    // A program that looks for each parcel by its id when its row has left finds none, and goes on: every slot stays Reserved, of no row, and all handles are lost.
+                    Slip::PublishDropsRowsFirst => parcels.clear(),
+                    _ => {}
+                }
+                self.fill(table, &slots, &parcels.concat());
                 Ok(vec![])
             }
             rq::GET_INFO => {
@@ -850,7 +866,10 @@ impl State {
                 }
                 self.rows.retain(|row| row.id != request.get(rq::ID) && row.id != request.get(rq::DESTINATION));
                 if request.op() == rq::DIRECT_COMMIT {
-                    let handles = self.carry_out(source, &entries, slip);
+                    let mut handles = self.carry_out(source, &entries, slip);
+                    if slip == Slip::DirectCommitLaysBackwards {
+                        handles.reverse();
+                    }
                     self.fill(destination, &slots, &handles);
                 } else {
                     self.roll_back(source, &entries, slip);
