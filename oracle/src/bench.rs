@@ -27,6 +27,8 @@ const PAIRS: usize = 1000;
 const CLEAR: f64 = 10.0;
 /// Rows of the state that is checked with as many open.
 const OPEN: u64 = 64;
+/// Rows of the book from whose parcels 1 to 64 handles are published: as many as a book may have.
+const BOOK: u64 = 256;
 
 /// What is printed and how much is measured: all that docs/performance.md has or, where `short`, a few rows at 64 slots with few runs, which takes seconds and shows that the
 /// benchmark runs, not how fast anything is.
@@ -432,6 +434,34 @@ fn differences(settings: Settings, told: &mut Vec<Row>, slots: u64, start: &Star
     }
 }
 
+/// Publishes by their parcels and handles, in a book of 256 rows and a table that is full before the list, so that all their slots are of pages that the list adds. Those of a row follow one
+/// another, and their parcels and reservations are all open before the first.
+fn publishes(settings: Settings, told: &mut Vec<Row>) {
+    let (rust, values) = filled(1, 0, 8, BOOK, 0);
+    let (state, words) = shown(rust);
+    let (start, handles) = (Start::Words(words.clone()), handles(&state));
+    // A name with its parcels, the handles in each, and the publishes. A parcel is a transfer of copies that was committed.
+    let all = [
+        ("publish 1, of 1 parcel (256 rows)", 1, 1, 8),
+        ("publish 8, of 1 parcel (256 rows)", 1, 8, 8),
+        ("publish 64, of 1 parcel (256 rows)", 1, 64, 8),
+        ("publish 8, of 8 parcels (256 rows)", 8, 1, 8),
+        ("publish 64, of 64 parcels (256 rows)", 64, 1, 3),
+    ];
+    for (name, parcels, each, turns) in all.into_iter().take(settings.rows(all.len())) {
+        let many = turns * parcels;
+        let copies: Make = &|_, _| transfer(0, 0, handles[..each].iter().map(|value| item(1, *value, u64::MAX)).collect());
+        let own: Make = &|k, answers| commit(answers[k][1]);
+        let slots: Make = &|_, _| reserve(0, (parcels * each) as u64);
+        let filling: Make = &|k, answers| {
+            let ids: Vec<u64> = answers[k * parcels..][..parcels].iter().map(|answer| answer[1]).collect();
+            publish(answers[2 * many + k][1], &ids)
+        };
+        let this = split(&start, values[0], name, &[(many, copies), (many, own), (turns, slots)], (turns, filling));
+        tell(settings, told, 64, &start, &words, &this);
+    }
+}
+
 /// The state check of some words beside a plain read of them.
 struct Checked {
     words: usize,
@@ -703,5 +733,6 @@ fn pass(settings: Settings) -> Pass {
     }
     let (start, words, handles) = small.expect("the smallest table");
     differences(settings, &mut told.single, 64, &start, &words, &handles);
+    publishes(settings, &mut told.single);
     told
 }
