@@ -750,6 +750,8 @@ fn facts(cases: &mut Vec<Case>) {
     c.ask(publish(11, &[9]), &[18]);
     c.ask(publish(11, &[]), &[18]);
     c.ask(publish(11, &[9, 9]), &[18]);
+    // as many handles as slots
+    c.ask(publish(11, &[10, 10, 10, 10]), &[18]);
     c.ask(publish(11, &[10, 11]), &[18]);
     c.ask(publish(10, &[9]), &[18]);
     c.ask(publish(11, &[10, 12]), &[18]);

@@ -1,12 +1,12 @@
 -- Publishing and direct commit straight from the rows are the steps of document 01: the same decision, so the same number, the same answer and the same state, of every state, well formed or not,
 -- and of every request.
-use Rattle.std.specs.Prelude.{◌≡◌, refl, not, Bool, false, List, [], ◌∷◌, ◌++◌, map, ℕ, zero, suc, ◌+◌, ◌-◌, length, drop, eqb, ltb}
+use Rattle.std.specs.Prelude.{◌≡◌, refl, Bool, ◌&&◌, false, List, [], ◌∷◌, ◌++◌, map, ℕ, zero, suc, ◌+◌, ◌-◌, length, drop, eqb, ltb}
 use Rattle.std.proofs.Common.{sym, ap, ◌∙◌, arith, length-append, eqb-true, eq-eqb, ne_eqb, ltb-true, ltb-false}
 use Rattle.std.proofs.Math.Option.{Option, none, some}
 use Rattle.std.proofs.lemmas.Bool.{eqb-false}
 use Rattle.std.proofs.lemmas.List.{length-map}
 use Rattle.words.specs.Pick.{eqb_sym}
-use Rattle.model.specs.Base.{nth}
+use Rattle.model.specs.Base.{at_most, nth}
 use Rattle.model.specs.State.{Sizes, Handle, Slot.occupied, Table, Entry, Body, Body.reservation, Body.claim, Body.parcel, Body.plan, Row, State}
 use Rattle.model.specs.Storage.{keep, vacate_all}
 use Rattle.model.specs.Change.{with_table}
@@ -29,7 +29,7 @@ agreed none n = false
 agreed (some hs) n = eqb n (length hs)
 
 agreed_more : (gs : List Handle) (r : Option (List Handle)) (n : ℕ) (rest : ℕ → Bool) → ((m : ℕ) → rest m ≡ agreed r m) → fits_then (some gs) n rest ≡ agreed (joined (some gs) r) n
-agreed_more gs none n rest e = rw (e (n - length gs), and-false (not (ltb n (length gs))))
+agreed_more gs none n rest e = ap (λ (b : Bool). at_most (length gs) n && b) (e (n - length gs)) ∙ and-false (at_most (length gs) n)
 agreed_more gs (some hs) n rest e = rw (e (n - length gs)) (bool (ltb n (length gs))
     (λ q. rw q (sym (ne_eqb n (length (gs ++ hs)) (λ z. omega (arith, length-append gs hs, ltb-true n (length gs) q)))))
     (λ q. rw q (bool (eqb (n - length gs) (length hs))
