@@ -299,6 +299,7 @@ pub fn direct_rollback(
 }
 
 // Direct commit with its answer, by both of its definitions, as parcel's `answer_publish`: document 01's step, and the one straight from the rows (document 02, 3), which goes as `fill_slots` does.
+#[inline(always)]
 fn answer_direct_commit(
     s: &mut [u64],
     sh: Shape,

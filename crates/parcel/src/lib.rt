@@ -359,7 +359,8 @@ pub fn publish(
 }
 
 // Publish with its answer, by both of its definitions: document 01's step, which gathers a batch of handles and lays it, and the one straight from the rows (document 02, 3), which goes as `fill_slots`
-// does. These clauses follow from what the one call of `publish` ensures; `publish` itself has several ends, and each would have to show them.
+// does. These clauses follow from what the one call of `publish` ensures; `publish` itself has several ends, and each would have to show them. Inlined, it leaves the compiled code as it was without it.
+#[inline(always)]
 fn answer_publish(
     s: &mut [u64],
     sh: Shape,
