@@ -3,9 +3,10 @@
  *   - after 0 the state is well formed, its sizes and the words past its end are as they were, and so are the words after the last answer;
  *   - each answer's number is one that document 01's orders, or document 02, give to its request, and after a refusal the other 71 words are 0;
  *   - requests that are refused, or only look, change no word of the state, save the next id, one higher for a refused transfer;
- *   - get_info of a moved value gives what its claim keeps of the handle, and to the other requests that name one value it is Busy.
+ *   - get_info of a moved value gives what its claim keeps of the handle, and to the other requests that name one value it is Busy;
+ *   - a judged transfer has a number, a position and a place that belong together, and prepared by the request after it gives that number.
  * The words lent stand at the end of a mapping, before a page that can't be touched: a read or write past them ends the program. A request
- * that was never accepted or never refused, a number that was not seen, or no look at a moved value is a failure too.
+ * that was never accepted or never refused, a number or a place that was not seen, or no look at a moved value is a failure too.
  *   any_words [SEED [CALLS]] */
 #define _DEFAULT_SOURCE
 #include <inttypes.h>
@@ -50,7 +51,7 @@ static struct lent lend(size_t most) {
     return words;
 }
 
-enum { TABLES = 2, PAGES = 3, FRAMES = 5, OBJECTS = 6, ROWS = 10, LIST = 1200, ANSWERS = 72 * 40, OPS = GURTXOZAL_OP_DROP_PLAN + 1, NUMBERS = GURTXOZAL_STALE_PLAN + 1 };
+enum { TABLES = 2, PAGES = 3, FRAMES = 5, OBJECTS = 6, ROWS = 10, LIST = 1200, ANSWERS = 72 * 40, OPS = GURTXOZAL_OP_JUDGE_TRANSFER + 1, NUMBERS = GURTXOZAL_STALE_PLAN + 1, PLACES = GURTXOZAL_PLACE_COPY_AT_LIMIT + 1 };
 /* where the state's regions stand (docs/formats.md); so few frames take one word in each of the three counts */
 enum {
     NEXT_ID = 5,
@@ -68,16 +69,16 @@ enum {
     PLAN = 4
 };
 static struct lent state, list, answers;
-static uint64_t results[21], numbers[NUMBERS], accepted[OPS], refused[OPS], long_transfers, looks, calls_that_kept;
+static uint64_t results[21], numbers[NUMBERS], accepted[OPS], refused[OPS], places[PLACES], judged_and_prepared, long_transfers, looks, calls_that_kept;
 static uint64_t good_state[GOOD];
 
 static const uint64_t must[OPS] = {
     0, GURTXOZAL_MUST_NEW_OBJECT, GURTXOZAL_MUST_DUPLICATE, GURTXOZAL_MUST_RELEASE_PARCEL, GURTXOZAL_MUST_RETIRE_OBJECT, GURTXOZAL_MUST_RESERVE, GURTXOZAL_MUST_TRIM, GURTXOZAL_MUST_ABORT, GURTXOZAL_MUST_PUBLISH,
     GURTXOZAL_MUST_GET_INFO, GURTXOZAL_MUST_RESOLVE, GURTXOZAL_MUST_REPLACE, GURTXOZAL_MUST_CLOSE, GURTXOZAL_MUST_SCAN_HANDLES, GURTXOZAL_MUST_PREPARE_TRANSFER, GURTXOZAL_MUST_PREPARE_CONSUMPTION, GURTXOZAL_MUST_ROLLBACK,
     GURTXOZAL_MUST_COMMIT, GURTXOZAL_MUST_DIRECT_COMMIT, GURTXOZAL_MUST_DIRECT_ROLLBACK, GURTXOZAL_MUST_REMOVE_STOPPING_OWNER, GURTXOZAL_MUST_TEARDOWN_START, GURTXOZAL_MUST_TEARDOWN_STEP, GURTXOZAL_MUST_TEARDOWN_FINISH,
-    GURTXOZAL_MUST_TAKE_EMPTY_PAGE, GURTXOZAL_MUST_MAKE_PLAN, GURTXOZAL_MUST_USE_PLAN, GURTXOZAL_MUST_DROP_PLAN};
+    GURTXOZAL_MUST_TAKE_EMPTY_PAGE, GURTXOZAL_MUST_MAKE_PLAN, GURTXOZAL_MUST_USE_PLAN, GURTXOZAL_MUST_DROP_PLAN, GURTXOZAL_MUST_JUDGE_TRANSFER};
 
-/* The numbers that each request can answer, by document 01's "Orders" and document 02's tickets 1 and 2, as bits. */
+/* The numbers that each request can answer, by document 01's "Orders" and document 02's tickets 1, 2 and 4, as bits. */
 #define N(number) (UINT32_C(1) << (number))
 #define ONLY_MISUSE (N(0) | N(18))
 static const uint32_t possible[OPS] = {
@@ -109,7 +110,13 @@ static const uint32_t possible[OPS] = {
     ONLY_MISUSE | N(1) | N(12) | N(13) | N(15) | N(16) | N(17),
     ONLY_MISUSE | N(12) | N(16) | N(21),
     ONLY_MISUSE,
+    ONLY_MISUSE,
 };
+/* The number at each place of a judged transfer; at the place of the lookup it may be Busy as well. */
+static const uint64_t number_at[PLACES] = {
+    GURTXOZAL_DONE,          GURTXOZAL_TABLE_RETIRED, GURTXOZAL_EMPTY_RESERVATION, GURTXOZAL_RESERVATION_TOO_LARGE,  GURTXOZAL_ALLOCATION,    GURTXOZAL_RESERVATION_ID_EXHAUSTED,
+    GURTXOZAL_INVALID_HANDLE, GURTXOZAL_INVALID_HANDLE, GURTXOZAL_ACCESS_DENIED,     GURTXOZAL_ACCESS_DENIED,          GURTXOZAL_ACCESS_DENIED, GURTXOZAL_ACCESS_DENIED,
+    GURTXOZAL_UNSUPPORTED_TRANSFER, GURTXOZAL_ACCESS_DENIED, GURTXOZAL_UNSUPPORTED_TRANSFER, GURTXOZAL_WRONG_OBJECT_TYPE, GURTXOZAL_OBJECT_RETIRED, GURTXOZAL_ACTIVE_HANDLE_LIMIT};
 
 /* The values of a table's slots with this tag, or of all that are not vacant (0). */
 static size_t slots_of(uint64_t table, uint64_t tag, uint64_t *found) {
@@ -249,7 +256,7 @@ static size_t put_parcel_items(uint64_t *at, size_t room, uint64_t count, uint64
 /* A request, whole, or with a map of its own. */
 static size_t put_request(uint64_t *at, size_t room) {
     /* what ends a table or an object is asked for seldom, what fills them often */
-    static const unsigned char often[OPS] = {0, 20, 70, 12, 1, 50, 15, 20, 80, 15, 15, 20, 20, 15, 90, 40, 20, 30, 45, 30, 3, 4, 20, 10, 10, 30, 45, 10};
+    static const unsigned char often[OPS] = {0, 20, 70, 12, 1, 50, 15, 20, 80, 15, 15, 20, 20, 15, 90, 40, 20, 30, 45, 30, 3, 4, 20, 10, 10, 30, 45, 10, 60};
     uint64_t all = 0, op = 1;
     for (int i = 1; i < OPS; i++) {
         all += often[i];
@@ -261,11 +268,12 @@ static size_t put_request(uint64_t *at, size_t room) {
     uint64_t table = below(40) ? below(TABLES) : next(), map = op < OPS && below(60) ? must[op] : next() & 0x3FFFF;
     uint64_t kind = op == GURTXOZAL_OP_RELEASE_PARCEL ? PARCEL : op >= GURTXOZAL_OP_ROLLBACK && op <= GURTXOZAL_OP_DIRECT_ROLLBACK ? CLAIM : op >= GURTXOZAL_OP_USE_PLAN ? PLAN : RESERVATION;
     uint64_t id = id_of(kind, 0), items = 0;
-    if (op == GURTXOZAL_OP_PREPARE_TRANSFER) {
+    const bool transfer = op == GURTXOZAL_OP_PREPARE_TRANSFER || op == GURTXOZAL_OP_JUDGE_TRANSFER;
+    if (transfer) {
         map |= below(4) ? 0 : next() & GURTXOZAL_MAY_PREPARE_TRANSFER;
     }
     size_t used = put_record(at, room, map, op, table, id), count_at = op == GURTXOZAL_OP_PUBLISH ? 2 : 3;
-    if ((op == GURTXOZAL_OP_PUBLISH || op == GURTXOZAL_OP_PREPARE_TRANSFER) && map == must[op]) {
+    if (op == GURTXOZAL_OP_PUBLISH ? map == must[op] : transfer && (map & must[op]) == must[op]) {
         if (op == GURTXOZAL_OP_PUBLISH) {
             used += put_parcel_items(at + used, room - used, count_of(id), &items);
         } else {
@@ -276,6 +284,12 @@ static size_t put_request(uint64_t *at, size_t room) {
         if (count_at < room) {
             at[count_at] = below(80) ? items : (const uint64_t[]){0, 64, 65, UINT64_MAX, UINT64_MAX / 2, UINT64_C(1) << 32}[below(6)];
         }
+    }
+    if (op == GURTXOZAL_OP_JUDGE_TRANSFER && below(2) && 2 * used <= room) {
+        /* what is judged is prepared */
+        memcpy(at + used, at, used * sizeof *at);
+        at[used + 1] = GURTXOZAL_OP_PREPARE_TRANSFER;
+        used *= 2;
     }
     return used;
 }
@@ -402,7 +416,7 @@ static bool same(const uint64_t *left, const uint64_t *right, size_t from, size_
 /* How many words a record has, and the number of items that follow it. */
 static size_t record_words(const uint64_t *record, uint64_t *items) {
     const uint64_t op = record[1];
-    *items = op == GURTXOZAL_OP_PUBLISH ? record[2] : op == GURTXOZAL_OP_PREPARE_TRANSFER ? record[3] : 0;
+    *items = op == GURTXOZAL_OP_PUBLISH ? record[2] : op == GURTXOZAL_OP_PREPARE_TRANSFER || op == GURTXOZAL_OP_JUDGE_TRANSFER ? record[3] : 0;
     return 1 + (size_t)__builtin_popcountll(record[0]);
 }
 
@@ -431,20 +445,48 @@ static bool names_moved(const uint64_t *words, const uint64_t *record, uint64_t 
     return true;
 }
 
+/* Where a request ends in a list. */
+static size_t end_of(const uint64_t *requests, size_t at) {
+    uint64_t items, ignored;
+    at += record_words(requests + at, &items);
+    for (; items > 0; items--) {
+        at += record_words(requests + at, &ignored);
+    }
+    return at;
+}
+/* A judged transfer's answer: number, position and place belong together. */
+static void check_judged(const uint64_t *record, const uint64_t *out) {
+    const uint64_t number = out[GURTXOZAL_ANSWER_JUDGED_NUMBER], position = out[GURTXOZAL_ANSWER_JUDGED_POSITION], place = out[GURTXOZAL_ANSWER_JUDGED_PLACE];
+    if (place >= PLACES || (number != number_at[place] && !(place == GURTXOZAL_PLACE_LOOKUP && number == GURTXOZAL_BUSY))) {
+        fault("a judged transfer has a place and another place's number");
+        return;
+    }
+    places[place]++;
+    if (place == 0 ? position != 0 : place < GURTXOZAL_PLACE_LISTED_TWICE ? position != GURTXOZAL_NO_ITEM : position >= record[3]) {
+        fault("a judged transfer has a position that its place can't have");
+    }
+    for (size_t i = GURTXOZAL_ANSWER_JUDGED_PLACE + 1; i < GURTXOZAL_ANSWER_WORDS; i++) {
+        if (out[i] != 0) {
+            fault("a judged transfer has a word after its place");
+            return;
+        }
+    }
+}
+
 /* What is known of a call that gave 0: words n before (state.kept) and now, the list, k answer words. */
 static void check_run(const uint64_t *words, size_t n, const uint64_t *requests, size_t m, const uint64_t *out, size_t k) {
     const uint64_t *old = state.kept;
     size_t count = 0, end = GURTXOZAL_STATE_WORDS(old[1], old[8], old[2], old[3], old[4]);
     uint64_t items, may_spend = 0;
     bool quiet = true;
+    size_t judged_at = SIZE_MAX; /* where the request before stands, if it has judged a transfer */
     for (size_t at = 0; at < m; count++) {
         uint64_t op = requests[at + 1], number = (count + 1) * 72 <= k ? out[72 * count] : UINT64_MAX, info[4];
         bool moved = quiet && names_moved(old, requests + at, info); /* while nothing has changed the state */
-        at += record_words(requests + at, &items);
+        const size_t from = at;
+        record_words(requests + at, &items);
+        at = end_of(requests, at);
         bool many = op == GURTXOZAL_OP_PREPARE_TRANSFER && items >= 60;
-        for (uint64_t ignored; items > 0; items--) {
-            at += record_words(requests + at, &ignored);
-        }
         if (op == 0 || op >= OPS || number >= NUMBERS || !(possible[op] >> number & 1)) {
             fault("an answer has a number that its request can't give");
             return;
@@ -467,8 +509,18 @@ static void check_run(const uint64_t *words, size_t n, const uint64_t *requests,
         } else if (moved && number != GURTXOZAL_BUSY && number != GURTXOZAL_ALLOCATION) { /* a row that is lacking comes before the value */
             fault("a moved value is not Busy");
         }
+        if (op == GURTXOZAL_OP_PREPARE_TRANSFER && judged_at != SIZE_MAX && at - from == from - judged_at && requests[from] == requests[judged_at] && same(requests + judged_at, requests + from, 2, at - from)) {
+            judged_and_prepared++;
+            if (number != out[72 * (count - 1) + GURTXOZAL_ANSWER_JUDGED_NUMBER]) {
+                fault("a transfer is prepared with another number than it was judged with");
+            }
+        }
+        judged_at = op == GURTXOZAL_OP_JUDGE_TRANSFER && number == 0 ? from : SIZE_MAX;
+        if (judged_at != SIZE_MAX) {
+            check_judged(requests + from, out + 72 * count);
+        }
         may_spend += number != 0 && op == GURTXOZAL_OP_PREPARE_TRANSFER;
-        quiet = quiet && (number != 0 || op == GURTXOZAL_OP_GET_INFO || op == GURTXOZAL_OP_RESOLVE || op == GURTXOZAL_OP_SCAN_HANDLES);
+        quiet = quiet && (number != 0 || op == GURTXOZAL_OP_GET_INFO || op == GURTXOZAL_OP_RESOLVE || op == GURTXOZAL_OP_SCAN_HANDLES || op == GURTXOZAL_OP_JUDGE_TRANSFER);
     }
     if (!same(out, answers.kept, 72 * count, k)) {
         fault("a word after the last answer has changed");
@@ -562,9 +614,15 @@ int main(int argc, char **argv) {
             lacking = lacking || numbers[number] == 0;
         }
     }
-    printf("\n");
+    printf("\nplaces of judged transfers:");
+    for (int place = 0; place < PLACES; place++) {
+        printf(" %d: %" PRIu64, place, places[place]);
+        lacking = lacking || places[place] == 0;
+    }
+    printf("; prepared next: %" PRIu64 "\n", judged_and_prepared);
+    lacking = lacking || judged_and_prepared == 0;
     if (lacking) {
-        printf("a result, a number, a request accepted or refused, or a look at a moved value was not seen\n");
+        printf("a result, a number, a place, a request accepted or refused, or a look at a moved value was not seen\n");
         return 1;
     }
     return wrong != 0;

@@ -81,6 +81,7 @@ int main(void) {
     PUT(make_plan, (11, 12), 11, 25, 11, 12);
     PUT(use_plan, (11), 129, 26, 11);
     PUT(drop_plan, (11), 129, 27, 11);
+    PUT(judge_transfer, (11, 12, 13, NULL), 4107, 28, 11, 12, 13);
     PUT(creation_counts, (11, 12, 13, 14), 11, 12, 13, 14);
     PUT(creation_table, (11, 12), 11, 12);
     PUT(creation_object, (11, 12, 13, 14, 15, 16), 11, 12, 13, 14, 15, 16);
@@ -98,6 +99,11 @@ int main(void) {
     PUT(prepare_transfer, (11, 12, 13, &object), 4107 + 65536, 14, 11, 12, 13, 21);
     PUT(prepare_transfer, (11, 12, 13, &kind), 4107 + 131072, 14, 11, 12, 13, 22);
     PUT(prepare_transfer, (11, 12, 13, &both), 4107 + 196608, 14, 11, 12, 13, 21, 22);
+    const struct gurtxozal_judge_transfer_may nothing = {0, 21, 22}, no_object = {1 << 16, 21, 22}, no_kind = {1 << 17, 21, 22}, neither = {3 << 16, 21, 22};
+    PUT(judge_transfer, (11, 12, 13, &nothing), 4107, 28, 11, 12, 13);
+    PUT(judge_transfer, (11, 12, 13, &no_object), 4107 + 65536, 28, 11, 12, 13, 21);
+    PUT(judge_transfer, (11, 12, 13, &no_kind), 4107 + 131072, 28, 11, 12, 13, 22);
+    PUT(judge_transfer, (11, 12, 13, &neither), 4107 + 196608, 28, 11, 12, 13, 21, 22);
     const struct gurtxozal_transfer_item_may rights = {1 << 13, 21, 22, 23}, offered = {1 << 14, 21, 22, 23}, expected = {1 << 15, 21, 22, 23}, all = {7 << 13, 21, 22, 23};
     PUT(transfer_item, (0, 11, 12, &rights), 49 + 8192, 0, 11, 12, 21);
     PUT(transfer_item, (0, 11, 12, &offered), 49 + 16384, 0, 11, 12, 22);
@@ -105,9 +111,11 @@ int main(void) {
     PUT(transfer_item, (1, 11, 12, &all), 49 + 57344, 1, 11, 12, 21, 22, 23);
     /* a number of a field where its bit is meant: nothing is written, rather than a transfer that forbids nothing */
     const struct gurtxozal_prepare_transfer_may slip = {GURTXOZAL_FIELD_FORBIDDEN_KIND, 21, 22};
+    const struct gurtxozal_judge_transfer_may judged = {GURTXOZAL_FIELD_FORBIDDEN_OBJECT, 21, 22};
     const struct gurtxozal_transfer_item_may other = {1 << 16, 21, 22, 23};
     clear();
     expect(gurtxozal_put_prepare_transfer(words, ROOM, 11, 12, 13, &slip) == 0 && kept_from(0), "takes other bits", "prepare_transfer");
+    expect(gurtxozal_put_judge_transfer(words, ROOM, 11, 12, 13, &judged) == 0 && kept_from(0), "takes other bits", "judge_transfer");
     expect(gurtxozal_put_transfer_item(words, ROOM, 0, 11, 12, &other) == 0 && kept_from(0), "takes other bits", "transfer_item");
 
     for (size_t at = 0; at < 72; at++) {
@@ -121,7 +129,7 @@ int main(void) {
     NUMBER(new_object), NUMBER(duplicate), NUMBER(release_parcel), NUMBER(retire_object), NUMBER(reserve), NUMBER(trim), NUMBER(abort), NUMBER(publish);
     NUMBER(get_info), NUMBER(resolve), NUMBER(replace), NUMBER(close), NUMBER(scan_handles), NUMBER(prepare_transfer), NUMBER(prepare_consumption);
     NUMBER(rollback), NUMBER(commit), NUMBER(direct_commit), NUMBER(direct_rollback), NUMBER(remove_stopping_owner), NUMBER(teardown_start);
-    NUMBER(teardown_step), NUMBER(teardown_finish), NUMBER(take_empty_page), NUMBER(make_plan), NUMBER(use_plan), NUMBER(drop_plan);
+    NUMBER(teardown_step), NUMBER(teardown_finish), NUMBER(take_empty_page), NUMBER(make_plan), NUMBER(use_plan), NUMBER(drop_plan), NUMBER(judge_transfer);
     READ(new_object, id, 1), READ(duplicate, id, 1), READ(reserve, id, 1), READ(prepare_transfer, id, 1), READ(prepare_consumption, id, 1);
     READ(reserve, count, 2), READ(reserve, values[0], 3), READ(reserve, values[63], 66);
     READ(get_info, koid, 1), READ(get_info, kind, 2), READ(get_info, rights, 3), READ(get_info, flags, 4);
@@ -140,6 +148,7 @@ int main(void) {
     READ(take_empty_page, taken, 1), READ(take_empty_page, page, 2);
     READ(make_plan, id, 1), READ(make_plan, count, 2), READ(make_plan, frames, 3);
     READ(use_plan, id, 1), READ(use_plan, count, 2), READ(use_plan, values[0], 3), READ(use_plan, values[63], 66);
+    READ(judge_transfer, judged, 1), READ(judge_transfer, position, 2), READ(judge_transfer, place, 3);
 
     printf("gurtxozal_calls.h: %u comparisons, %u wrong\n", tried, wrong);
     return wrong != 0;

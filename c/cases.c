@@ -1,4 +1,4 @@
-/* P6, P7 and P9 to P12 of document 01, transfers, looks at what is moved, teardown, plans and the other requests, through the C calls. Prints a line for
+/* P6, P7 and P9 to P12 of document 01, transfers, judgings of them, looks at what is moved, teardown, plans and the other requests, through the C calls. Prints a line for
  * each case; the status is 0 only if all hold. */
 #include <inttypes.h>
 #include <stdbool.h>
@@ -887,11 +887,191 @@ static void plans(void) {
     expect("no id left for a plan", make_plan(1, 1), GURTXOZAL_RESERVATION_ID_EXHAUSTED);
 }
 
+/* The head of a judging from a table; its items are those of a transfer. */
+static void judging_of(uint64_t table, uint64_t count, uint64_t route) {
+    RECORD(GURTXOZAL_MUST_JUDGE_TRANSFER, FIELD(OP, GURTXOZAL_OP_JUDGE_TRANSFER), FIELD(TABLE, table), FIELD(COUNT, count), FIELD(ROUTE, route));
+}
+/* Judges what the list has, twice: the same words, and no word of the state changes. Then it is prepared: the same number. A claim is rolled back. */
+static void judged(const char *what, uint64_t number, uint64_t position, uint64_t place) {
+    uint64_t words[sizeof list / sizeof *list], first[GURTXOZAL_ANSWER_WORDS];
+    const size_t n = used;
+    memcpy(words, list, n * sizeof *list);
+    keep();
+    for (int again = 0; again < 2; again++) {
+        memcpy(list, words, n * sizeof *list);
+        used = n;
+        expect("a judging", run(), GURTXOZAL_DONE);
+        expect(what, answer[GURTXOZAL_ANSWER_JUDGED_NUMBER], number);
+        expect("the position", answer[GURTXOZAL_ANSWER_JUDGED_POSITION], position);
+        expect("the place", answer[GURTXOZAL_ANSWER_JUDGED_PLACE], place);
+        for (size_t i = GURTXOZAL_ANSWER_JUDGED_PLACE + 1; i < GURTXOZAL_ANSWER_WORDS; i++) {
+            expect("a word after the place", answer[i], 0);
+        }
+        kept();
+        if (again) {
+            expect("the answer to the second judging", (uint64_t)(memcmp(first, answer, sizeof first) != 0), 0);
+        }
+        memcpy(first, answer, sizeof first);
+    }
+    memcpy(list, words, n * sizeof *list);
+    list[1] = GURTXOZAL_OP_PREPARE_TRANSFER;
+    used = n;
+    expect(what, run(), number);
+    if (number == GURTXOZAL_DONE) {
+        expect("rollback", rollback(answer[GURTXOZAL_ANSWER_ID]), GURTXOZAL_DONE);
+    }
+}
+
+/* Five items, moves and copies by turns; the one at a position is another, with every field that it may carry. */
+struct judged_item {
+    const char *what;
+    uint64_t operation, handle, rights, offered_rights, kind, offered_kind, number, place;
+};
+static void judged_five(const uint64_t *handles, const struct judged_item *item, uint64_t position, uint64_t route) {
+    judging_of(0, 5, route);
+    for (uint64_t i = 0; i < 5; i++) {
+        if (i == position) {
+            RECORD(GURTXOZAL_MUST_TRANSFER_ITEM | GURTXOZAL_MAY_TRANSFER_ITEM, FIELD(OP, item->operation), FIELD(VALUE, item->handle), FIELD(RIGHTS, item->rights), FIELD(OFFERED_RIGHTS, item->offered_rights),
+                   FIELD(OFFERED_KIND, item->offered_kind), FIELD(EXPECTED_KIND, item->kind));
+        } else {
+            transfer_item(i % 2 ? GURTXOZAL_COPY : GURTXOZAL_MOVE, handles[i], 64);
+        }
+    }
+    judged(item->what, item->number, item->number == GURTXOZAL_DONE ? 0 : position, item->place);
+}
+static uint64_t another(uint64_t handle, uint64_t rights) {
+    expect("duplicate", duplicate(handle, rights), GURTXOZAL_DONE);
+    return place(0, answer[GURTXOZAL_ANSWER_ID]);
+}
+
+/* Each place from 6 to 17, at the first, the middle and the last of five items, with copies between. */
+static void judged_items(void) {
+    fresh();
+    const uint64_t own = publish_first(), shy = new_handle(2), other = new_handle(1), never = new_handle(3);
+    expect("what a judging may carry", GURTXOZAL_MAY_JUDGE_TRANSFER, GURTXOZAL_BIT(GURTXOZAL_FIELD_FORBIDDEN_OBJECT) | GURTXOZAL_BIT(GURTXOZAL_FIELD_FORBIDDEN_KIND));
+    uint64_t five[5];
+    for (int i = 0; i < 5; i++) {
+        five[i] = another(own, RIGHTS);
+    }
+    const uint64_t keeps = another(own, 65), alone = another(own, 66), few = another(own, 3), held = another(own, 3);
+    expect("prepare transfer", prepare(GURTXOZAL_MOVE, held, 2), GURTXOZAL_DONE);
+    const struct judged_item items[] = {
+        {"accepted", GURTXOZAL_MOVE, few, 1, 3, KIND, KIND, GURTXOZAL_DONE, 0},
+        {"accepted, and no DUPLICATE is needed", GURTXOZAL_MOVE, alone, 66, 66, KIND, KIND, GURTXOZAL_DONE, 0},
+        {"a value that names no slot", GURTXOZAL_MOVE, value(40, 1), 0, 0, KIND, KIND, GURTXOZAL_INVALID_HANDLE, GURTXOZAL_PLACE_LOOKUP},
+        {"a value that is being moved", GURTXOZAL_COPY, held, 0, 0, KIND, KIND, GURTXOZAL_BUSY, GURTXOZAL_PLACE_LOOKUP},
+        {"a move without TRANSFER", GURTXOZAL_MOVE, keeps, 4, 6, 0, 0, GURTXOZAL_ACCESS_DENIED, GURTXOZAL_PLACE_NO_TRANSFER},
+        {"a copy without TRANSFER", GURTXOZAL_COPY, keeps, 0, 0, KIND, KIND, GURTXOZAL_ACCESS_DENIED, GURTXOZAL_PLACE_NO_TRANSFER},
+        {"a copy without DUPLICATE", GURTXOZAL_COPY, alone, 4, 6, 0, 0, GURTXOZAL_ACCESS_DENIED, GURTXOZAL_PLACE_NO_DUPLICATE},
+        {"offered beyond the source's", GURTXOZAL_MOVE, few, 4, RIGHTS, 0, 0, GURTXOZAL_ACCESS_DENIED, GURTXOZAL_PLACE_OFFERED_RIGHTS},
+        {"requested beyond the offered", GURTXOZAL_COPY, few, 2, 1, 0, 0, GURTXOZAL_ACCESS_DENIED, GURTXOZAL_PLACE_REQUESTED_RIGHTS},
+        {"every route bars object 3", GURTXOZAL_MOVE, never, 0, 0, 0, 0, GURTXOZAL_UNSUPPORTED_TRANSFER, GURTXOZAL_PLACE_ROUTE},
+        {"another kind offered", GURTXOZAL_MOVE, few, 0, 0, KIND, KIND + 1, GURTXOZAL_WRONG_OBJECT_TYPE, GURTXOZAL_PLACE_OTHER_KIND},
+        {"another kind expected", GURTXOZAL_COPY, few, 0, 0, KIND + 1, KIND, GURTXOZAL_WRONG_OBJECT_TYPE, GURTXOZAL_PLACE_OTHER_KIND},
+    };
+    for (size_t i = 0; i < sizeof items / sizeof *items; i++) {
+        for (uint64_t position = 0; position < 5; position += 2) {
+            judged_five(five, items + i, position, GURTXOZAL_ROUTE_RENDEZVOUS);
+        }
+    }
+    const struct judged_item barred = {"Buffered bars object 2", GURTXOZAL_MOVE, shy, 0, 0, KIND + 2, KIND + 2, GURTXOZAL_UNSUPPORTED_TRANSFER, GURTXOZAL_PLACE_ROUTE};
+    for (uint64_t position = 0; position < 5; position += 2) {
+        judged_five(five, &barred, position, GURTXOZAL_ROUTE_BUFFERED);
+        if (position > 0) {
+            const struct judged_item twice = {"a value listed twice", GURTXOZAL_MOVE, five[position - 1], 0, 0, 0, 0, GURTXOZAL_INVALID_HANDLE, GURTXOZAL_PLACE_LISTED_TWICE};
+            judged_five(five, &twice, position, GURTXOZAL_ROUTE_STAGED_STARTUP);
+        }
+        /* the kind, then the object, then the route, all of one item */
+        for (int forbidden = 0; forbidden < 3; forbidden++) {
+            RECORD(GURTXOZAL_MUST_JUDGE_TRANSFER | GURTXOZAL_MAY_JUDGE_TRANSFER, FIELD(OP, GURTXOZAL_OP_JUDGE_TRANSFER), FIELD(TABLE, 0), FIELD(COUNT, 5), FIELD(ROUTE, GURTXOZAL_ROUTE_BUFFERED),
+                   FIELD(FORBIDDEN_OBJECT, forbidden < 2 ? KOID + 2 : 1), FIELD(FORBIDDEN_KIND, forbidden < 1 ? KIND + 2 : 1));
+            for (uint64_t at = 0; at < 5; at++) {
+                transfer_item(at % 2 ? GURTXOZAL_COPY : GURTXOZAL_MOVE, at == position ? shy : five[at], 0);
+            }
+            judged("forbidden", forbidden == 1 ? GURTXOZAL_ACCESS_DENIED : GURTXOZAL_UNSUPPORTED_TRANSFER, position,
+                   forbidden == 0 ? GURTXOZAL_PLACE_FORBIDDEN_KIND : forbidden == 1 ? GURTXOZAL_PLACE_FORBIDDEN_OBJECT : GURTXOZAL_PLACE_ROUTE);
+        }
+    }
+    /* copies: those of object 2, of which nine handles may be; the copies before one of them count, and items at fault come first */
+    uint64_t shys[8] = {shy};
+    for (int i = 1; i < 8; i++) {
+        shys[i] = another(shy, RIGHTS);
+    }
+    judging_of(0, 4, GURTXOZAL_ROUTE_RENDEZVOUS);
+    transfer_item(GURTXOZAL_MOVE, five[0], 0);
+    transfer_item(GURTXOZAL_COPY, shys[0], 0);
+    transfer_item(GURTXOZAL_MOVE, shys[1], 0);
+    transfer_item(GURTXOZAL_COPY, shys[2], 0);
+    judged("a second copy", GURTXOZAL_ACTIVE_HANDLE_LIMIT, 3, GURTXOZAL_PLACE_COPY_AT_LIMIT);
+    another(shy, 0);
+    RECORD(GURTXOZAL_MUST_RETIRE_OBJECT, FIELD(OP, GURTXOZAL_OP_RETIRE_OBJECT), FIELD(OBJECT, 1));
+    expect("retire object", run(), GURTXOZAL_DONE);
+    const struct judged_item copies_of[] = {
+        {"a copy at the limit", GURTXOZAL_COPY, shy, 0, 0, KIND + 2, KIND + 2, GURTXOZAL_ACTIVE_HANDLE_LIMIT, GURTXOZAL_PLACE_COPY_AT_LIMIT},
+        {"a move at the limit", GURTXOZAL_MOVE, shy, 0, 0, KIND + 2, KIND + 2, GURTXOZAL_DONE, 0},
+        {"a copy of a retired object", GURTXOZAL_COPY, other, 0, 0, KIND + 1, KIND + 1, GURTXOZAL_OBJECT_RETIRED, GURTXOZAL_PLACE_COPY_OF_RETIRED},
+        {"a move of a retired object", GURTXOZAL_MOVE, other, 0, 0, KIND + 1, KIND + 1, GURTXOZAL_DONE, 0},
+    };
+    for (size_t i = 0; i < sizeof copies_of / sizeof *copies_of; i++) {
+        for (uint64_t position = 0; position < 5; position++) {
+            judged_five(five, copies_of + i, position, GURTXOZAL_ROUTE_RENDEZVOUS);
+        }
+    }
+    judging_of(0, 3, GURTXOZAL_ROUTE_RENDEZVOUS);
+    transfer_item(GURTXOZAL_COPY, other, 0);
+    transfer_item(GURTXOZAL_COPY, shy, 0);
+    transfer_item(GURTXOZAL_MOVE, five[0], 4);
+    judged("an item at fault behind copies at fault", GURTXOZAL_ACCESS_DENIED, 2, GURTXOZAL_PLACE_REQUESTED_RIGHTS);
+}
+
+/* The places before any item is looked at, and what refuses the judging itself. */
+static void judged_whole(void) {
+    fresh();
+    const uint64_t first = publish_first();
+    judging_of(0, 0, 0);
+    judged("no item", GURTXOZAL_EMPTY_RESERVATION, GURTXOZAL_NO_ITEM, GURTXOZAL_PLACE_EMPTY_RESERVATION);
+    judging_of(0, GURTXOZAL_MAX_BATCH + 1, 0);
+    for (int i = 0; i < GURTXOZAL_MAX_BATCH + 1; i++) {
+        transfer_item(GURTXOZAL_MOVE, first, 0);
+    }
+    judged("65 items", GURTXOZAL_RESERVATION_TOO_LARGE, GURTXOZAL_NO_ITEM, GURTXOZAL_PLACE_RESERVATION_TOO_LARGE);
+    judging_of(0, GURTXOZAL_MAX_BATCH, 0);
+    for (int i = 0; i < GURTXOZAL_MAX_BATCH; i++) {
+        transfer_item(GURTXOZAL_MOVE, first, 0);
+    }
+    judged("64 items", GURTXOZAL_INVALID_HANDLE, 1, GURTXOZAL_PLACE_LISTED_TWICE);
+    keep();
+    judging_of(TABLES, 1, 0);
+    transfer_item(GURTXOZAL_MOVE, first, 0);
+    expect("an unknown table", run(), GURTXOZAL_MISUSE);
+    kept();
+    const uint64_t next = state[5]; /* the next id (docs/formats.md) */
+    state[5] = UINT64_MAX;
+    judging_of(0, 1, 0);
+    transfer_item(GURTXOZAL_MOVE, 0, 0);
+    judged("no id left", GURTXOZAL_RESERVATION_ID_EXHAUSTED, GURTXOZAL_NO_ITEM, GURTXOZAL_PLACE_NO_ID);
+    state[5] = next;
+    uint64_t rows[ROWS];
+    for (int i = 0; i < ROWS; i++) {
+        expect("reserve 1", reserve(1), GURTXOZAL_DONE);
+        rows[i] = answer[GURTXOZAL_ANSWER_ID];
+    }
+    judging_of(0, 1, 0);
+    transfer_item(GURTXOZAL_MOVE, first, 0);
+    judged("no free row", GURTXOZAL_ALLOCATION, GURTXOZAL_NO_ITEM, GURTXOZAL_PLACE_NO_ROW);
+    for (int i = 0; i < ROWS; i++) {
+        abort_row(rows[i]);
+    }
+    expect("start", TEARDOWN(START), GURTXOZAL_DONE);
+    judging_of(0, 0, 0);
+    judged("a table that is torn down", GURTXOZAL_TABLE_RETIRED, GURTXOZAL_NO_ITEM, GURTXOZAL_PLACE_TABLE_RETIRED);
+}
+
 /* The whole call's numbers, and no word changed by them. */
 static void whole_call(void) {
     fresh();
     keep();
-    const uint64_t unknown[] = {3, GURTXOZAL_OP_DROP_PLAN + 1, 0}, cut[] = {GURTXOZAL_MUST_RESERVE, GURTXOZAL_OP_RESERVE, 0};
+    const uint64_t unknown[] = {3, GURTXOZAL_OP_JUDGE_TRANSFER + 1, 0}, cut[] = {GURTXOZAL_MUST_RESERVE, GURTXOZAL_OP_RESERVE, 0};
     const uint64_t whole[] = {GURTXOZAL_MUST_RESERVE, GURTXOZAL_OP_RESERVE, 0, 1};
     memset(answer, 0xA5, sizeof answer);
     expect("an unknown op", gurtxozal_run(state, state_words, unknown, 3, answer, 72), GURTXOZAL_MALFORMED);
@@ -938,6 +1118,8 @@ int main(void) {
     torn_down(), shown("teardown: start, steps, finish");
     frames_set_aside(), shown("frames set aside: a dry pool does not stop a plan's use; a stale plan keeps its frame until it is dropped");
     plans(), shown("a plan's refusals, fresh again, a held transfer, teardown, no row and no id left");
+    judged_items(), shown("a transfer judged: each place at the first, middle and last of five items, copies between; then prepared, the same number");
+    judged_whole(), shown("a transfer judged: the places before any item, and an unknown table");
     whole_call(), shown("18, 19 and 20 change no word; an empty list is accepted");
     free(state);
     free(before);

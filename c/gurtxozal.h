@@ -72,7 +72,8 @@ enum {
     GURTXOZAL_OP_TAKE_EMPTY_PAGE = 24,
     GURTXOZAL_OP_MAKE_PLAN = 25,
     GURTXOZAL_OP_USE_PLAN = 26,
-    GURTXOZAL_OP_DROP_PLAN = 27
+    GURTXOZAL_OP_DROP_PLAN = 27,
+    GURTXOZAL_OP_JUDGE_TRANSFER = 28
 };
 
 /* Fields of a record, by bit. A record is its bit map, then one word for each bit that stands, lowest first. */
@@ -97,7 +98,7 @@ enum {
     GURTXOZAL_FIELD_FORBIDDEN_KIND = 17
 };
 
-/* The fields that each op must carry, as bit maps, and what a transfer may carry besides. */
+/* The fields that each op must carry, as bit maps, and what a transfer, prepared or judged, may carry besides. */
 #define GURTXOZAL_BIT(field) (UINT64_C(1) << (field))
 #define GURTXOZAL_MUST_NEW_OBJECT UINT64_C(101)
 #define GURTXOZAL_MUST_DUPLICATE UINT64_C(51)
@@ -127,6 +128,8 @@ enum {
 #define GURTXOZAL_MUST_MAKE_PLAN UINT64_C(11)
 #define GURTXOZAL_MUST_USE_PLAN UINT64_C(129)
 #define GURTXOZAL_MUST_DROP_PLAN UINT64_C(129)
+#define GURTXOZAL_MUST_JUDGE_TRANSFER UINT64_C(4107)
+#define GURTXOZAL_MAY_JUDGE_TRANSFER UINT64_C(196608)
 #define GURTXOZAL_MUST_TRANSFER_ITEM UINT64_C(49)
 #define GURTXOZAL_MAY_TRANSFER_ITEM UINT64_C(57344)
 #define GURTXOZAL_MUST_PARCEL_ITEM UINT64_C(129)
@@ -184,7 +187,34 @@ enum {
     GURTXOZAL_ANSWER_TAKEN_PAGE = 2,
     /* make plan */
     GURTXOZAL_ANSWER_PLAN_COUNT = 2,
-    GURTXOZAL_ANSWER_PLAN_FRAMES = 3
+    GURTXOZAL_ANSWER_PLAN_FRAMES = 3,
+    /* judge transfer: the number that preparing would give, GURTXOZAL_DONE if it would be accepted; the position of the item at fault, or GURTXOZAL_NO_ITEM; the
+     * place of the rule, see below. Of a transfer that would be accepted all three are 0. */
+    GURTXOZAL_ANSWER_JUDGED_NUMBER = 1,
+    GURTXOZAL_ANSWER_JUDGED_POSITION = 2,
+    GURTXOZAL_ANSWER_JUDGED_PLACE = 3
+};
+
+/* The position where no item of a judged transfer is at fault, and the places of the rules in the order in which they are looked at. */
+enum {
+    GURTXOZAL_NO_ITEM = 64,
+    GURTXOZAL_PLACE_TABLE_RETIRED = 1,
+    GURTXOZAL_PLACE_EMPTY_RESERVATION = 2,
+    GURTXOZAL_PLACE_RESERVATION_TOO_LARGE = 3,
+    GURTXOZAL_PLACE_NO_ROW = 4,
+    GURTXOZAL_PLACE_NO_ID = 5,
+    GURTXOZAL_PLACE_LISTED_TWICE = 6,
+    GURTXOZAL_PLACE_LOOKUP = 7,
+    GURTXOZAL_PLACE_NO_TRANSFER = 8,
+    GURTXOZAL_PLACE_NO_DUPLICATE = 9,
+    GURTXOZAL_PLACE_OFFERED_RIGHTS = 10,
+    GURTXOZAL_PLACE_REQUESTED_RIGHTS = 11,
+    GURTXOZAL_PLACE_FORBIDDEN_KIND = 12,
+    GURTXOZAL_PLACE_FORBIDDEN_OBJECT = 13,
+    GURTXOZAL_PLACE_ROUTE = 14,
+    GURTXOZAL_PLACE_OTHER_KIND = 15,
+    GURTXOZAL_PLACE_COPY_OF_RETIRED = 16,
+    GURTXOZAL_PLACE_COPY_AT_LIMIT = 17
 };
 
 /* A transfer's routes, and its items' operations. */

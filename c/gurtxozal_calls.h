@@ -668,6 +668,45 @@ static inline struct gurtxozal_drop_plan_answer gurtxozal_read_drop_plan(const u
     return read;
 }
 
+/* 28: judge transfer: op, table, count, route; then `count` transfer items. */
+/* What a judge transfer may carry besides. */
+struct gurtxozal_judge_transfer_may {
+    uint64_t map;
+    uint64_t forbidden_object;
+    uint64_t forbidden_kind;
+};
+static inline size_t gurtxozal_put_judge_transfer(uint64_t *words, size_t room, uint64_t table, uint64_t count, uint64_t route, const struct gurtxozal_judge_transfer_may *may) {
+    const uint64_t map = may == NULL ? 0 : may->map;
+    const size_t needed = 5 + (size_t)(map >> GURTXOZAL_FIELD_FORBIDDEN_OBJECT & 1) + (size_t)(map >> GURTXOZAL_FIELD_FORBIDDEN_KIND & 1);
+    if (room < needed || (map & ~GURTXOZAL_MAY_JUDGE_TRANSFER) != 0) {
+        return 0;
+    }
+    words[0] = GURTXOZAL_MUST_JUDGE_TRANSFER | map;
+    words[1] = GURTXOZAL_OP_JUDGE_TRANSFER;
+    words[2] = table;
+    words[3] = count;
+    words[4] = route;
+    size_t at = 5;
+    if (map >> GURTXOZAL_FIELD_FORBIDDEN_OBJECT & 1) {
+        words[at++] = may->forbidden_object;
+    }
+    if (map >> GURTXOZAL_FIELD_FORBIDDEN_KIND & 1) {
+        words[at++] = may->forbidden_kind;
+    }
+    return needed;
+}
+/* Its answer: 1 the number of its preparation, 2 the position of the item at fault, 3 the place of the rule. */
+struct gurtxozal_judge_transfer_answer {
+    uint64_t number;
+    uint64_t judged;
+    uint64_t position;
+    uint64_t place;
+};
+static inline struct gurtxozal_judge_transfer_answer gurtxozal_read_judge_transfer(const uint64_t *answer) {
+    const struct gurtxozal_judge_transfer_answer read = {answer[0], answer[1], answer[2], answer[3]};
+    return read;
+}
+
 /* transfer item: operation (0 Move, 1 Copy), value, rights. */
 /* What a transfer item may carry besides. */
 struct gurtxozal_transfer_item_may {

@@ -35,6 +35,9 @@ WORDS = {
     "whether a page was taken": "taken",
     "its page number": "page",
     "how many frames it holds": "frames",
+    "the number of its preparation": "judged",
+    "the position of the item at fault": "position",
+    "the place of the rule": "place",
 }
 VALUES = re.compile(r"^(\d+) to (\d+) the future values$")
 ENTRIES = re.compile(r"^then from word (\d+) for each entry: value$")

@@ -28,7 +28,7 @@ struct stack_use {
 static struct stack_use empty, taken;
 static size_t most;
 static const char *deepest = "none";
-static bool measured[GURTXOZAL_OP_DROP_PLAN + 1];
+static bool measured[GURTXOZAL_OP_JUDGE_TRANSFER + 1];
 
 static const uint64_t parameters[] = {TABLES, FRAMES, OBJECTS, ROWS, PAGES, 0, PAGES, 77, PAGES, 78, PAGES, 79, 1, 7, 0, 15, 1, 1000, 2, 7, 0, 15, 1, 1000};
 
@@ -110,15 +110,28 @@ static uint64_t reserve(const char *name, uint64_t table, size_t n, bool kept) {
     }
     return answers[GURTXOZAL_ANSWER_ID];
 }
-/* A transfer of the first handles of those values, with every field that it may carry: the claim. */
-static uint64_t transfer(const char *name, uint64_t table, size_t n, uint64_t operation) {
+/* The record of a transfer of the first handles of those values, with every field that it may carry. */
+static void put_transfer(uint64_t op, uint64_t table, size_t n, uint64_t operation) {
     used = 0;
-    PUT(GURTXOZAL_MUST_PREPARE_TRANSFER | GURTXOZAL_MAY_PREPARE_TRANSFER, GURTXOZAL_OP_PREPARE_TRANSFER, table, n, GURTXOZAL_ROUTE_STAGED_STARTUP, 99, 99);
+    PUT(GURTXOZAL_MUST_PREPARE_TRANSFER | GURTXOZAL_MAY_PREPARE_TRANSFER, op, table, n, GURTXOZAL_ROUTE_STAGED_STARTUP, 99, 99);
     for (size_t i = 0; i < n; i++) {
         PUT(GURTXOZAL_MUST_TRANSFER_ITEM | GURTXOZAL_MAY_TRANSFER_ITEM, operation, values[i], 15, 15, 7, 7);
     }
+}
+/* That transfer prepared: the claim. */
+static uint64_t transfer(const char *name, uint64_t table, size_t n, uint64_t operation) {
+    put_transfer(GURTXOZAL_OP_PREPARE_TRANSFER, table, n, operation);
     measure(name, run);
     return answers[GURTXOZAL_ANSWER_ID];
+}
+/* That transfer judged: it would be accepted, so that every item and every copy is looked at. */
+static void judge(const char *name, uint64_t table, size_t n, uint64_t operation) {
+    put_transfer(GURTXOZAL_OP_JUDGE_TRANSFER, table, n, operation);
+    measure(name, run);
+    if (answers[GURTXOZAL_ANSWER_JUDGED_NUMBER] != GURTXOZAL_DONE) {
+        printf("%s: judged with %" PRIu64 " at position %" PRIu64 "\n", name, answers[GURTXOZAL_ANSWER_JUDGED_NUMBER], answers[GURTXOZAL_ANSWER_JUDGED_POSITION]);
+        exit(1);
+    }
 }
 /* Publishes parcels: what that takes. */
 static struct stack_use publish(const char *name, uint64_t row, size_t n, const uint64_t *parcels) {
@@ -198,6 +211,10 @@ int main(void) {
     REQUEST("replace", REPLACE, 0, first, 15);
     first = answers[GURTXOZAL_ANSWER_NEW_VALUE];
 
+    judge("judge transfer of 1 move", 0, 1, GURTXOZAL_MOVE);
+    judge("judge transfer of 1 copy", 0, 1, GURTXOZAL_COPY);
+    judge("judge transfer of 64 moves", 0, BATCH, GURTXOZAL_MOVE);
+    judge("judge transfer of 64 copies", 0, BATCH, GURTXOZAL_COPY);
     claim = transfer("prepare transfer of 64 copies", 0, BATCH, GURTXOZAL_COPY);
     REQUEST("rollback of 64 copies", ROLLBACK, claim);
     claim = transfer("prepare transfer of 64 moves", 0, BATCH, GURTXOZAL_MOVE);
@@ -253,7 +270,7 @@ int main(void) {
         printf("%" PRIu64 " handles were removed, not 64\n", other);
         return 1;
     }
-    for (int op = 1; op <= GURTXOZAL_OP_DROP_PLAN; op++) {
+    for (int op = 1; op <= GURTXOZAL_OP_JUDGE_TRANSFER; op++) {
         if (!measured[op]) {
             printf("op %d was not measured\n", op);
             return 1;

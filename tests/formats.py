@@ -22,6 +22,8 @@ layout = root / "crates/layout"
 header = (root / "c/gurtxozal.h").read_text()
 KINDS = {"number": 0, "handle value": 0, "64 rights": 0, "reservation id": 0, "32 bits": 1, "koid": 2}
 REFUSALS = "Done Allocation InvalidHandle Busy WrongObjectType AccessDenied UnsupportedRights UnsupportedFlags UnsupportedTransfer ObjectRetired ObjectAlreadyActive ActiveHandleLimit ReservationIdExhausted ReservationTooLarge OutstandingReservation TableFull TableRetired EmptyReservation Misuse Malformed AnswerShort StalePlan".split()
+# The numbers of a transfer's refusals in the order that document 01 prints, the rights rule four times and lookup once (document 02, 4)
+ORDER = [16, 17, 13, 1, 12, 2, 2, 5, 5, 5, 5, 8, 5, 8, 4, 9, 11]
 TABLES = {"region.rt": "RegionNames.antt", "field.rt": "Fields.antt", "value.rt": "Values.antt", "size.rt": "Sizes.antt"}
 # Where the page says the range of a word that stands for a case: the beginning of the cases' names
 RANGES = {"lifecycle": ["life"], "tag": ["tag"], "class and state": ["class", "stage"], "what it is": ["kind"], "operation": ["operation"]}
@@ -53,7 +55,13 @@ WRONG = [
     ("the place of the row of rank i |", "the rank of the row in place i |"),
     ("| 7 | `region_cell`", "| 8 | `region_cell`"),
     ("| 4 | `head_epoch`", "| 3 | `head_epoch`"),
-    ("every op above 27", "every op above 26"),
+    ("every op above 28", "every op above 27"),
+    ("| 28 | judge transfer | op, table, count, route;", "| 28 | judge transfer | op, table, count;"),
+    ("| 9 | `no_duplicate`", "| 8 | `no_duplicate`"),
+    ("| 17 | `copy_at_limit`", "| 18 | `copy_at_limit`"),
+    ("no DUPLICATE | 5 AccessDenied", "no DUPLICATE | 8 UnsupportedTransfer"),
+    ("64 (`no_item`)", "65 (`no_item`)"),
+    ("2 the position of the item at fault, 3", "3 the position of the item at fault, 3"),
     ("StagedStartup | above 2 |", "StagedStartup | above 3 |"),
     ("| 5 | `entry_size`", "| 6 | `entry_size`"),
     ("the length (0 to 8)", "the length (0 to 9)"),
@@ -220,7 +228,7 @@ class Compare:
             self.mays.append(int(may))
             self.names.append(name.strip())
         last = len(self.musts) - 1
-        same("the ops", last, 27)
+        same("the ops", last, 28)
         same("the ops in the definitions", len(re.findall(r"^abbrev pub ", ops, flags=re.M)), len(self.musts))
         same("op_last", defined(ops, "op_last"), last)
         same("OP_LAST", constant(source["op"], "OP_LAST"), last)
@@ -333,6 +341,16 @@ class Compare:
             for part in ("MUST", "MAY"):
                 same(f"the header's {part} of a {item} item", in_c(f"{part}_{item.upper()}_ITEM"), constant(source["maps"], f"{item.upper()}_ITEM_{part}"))
         same("the header's words of an answer", in_c("ANSWER_WORDS"), 72)
+        judged = dict((word, int(number)) for number, word in re.findall(r"(\d) the (number|position|place)\b", self.find(r"^\| 28 judge transfer \| ([^|]+) \|$")[0]))
+        same("the words of a judging's answer", sorted(judged), ["number", "place", "position"])
+        for word, number in judged.items():
+            same(f"the header's word for the {word} of a judging", in_c("ANSWER_JUDGED_" + word.upper()), number)
+        places = self.find(r"^\| (\d+) \| `(\w+)` \| [^|]+ \| (\d+) \w+(?: or (\d+) \w+)? \|$")
+        same("the places", [int(place) for place, *_ in places], list(range(1, 18)))
+        same("the numbers of the places, in the order that document 01 prints", [int(number) for _, _, number, _ in places], ORDER)
+        for place, name, *_ in places:
+            same(f"the header's place {name}", in_c("PLACE_" + name.upper()), int(place))
+        same("the header's position where no item is at fault", [str(in_c("NO_ITEM"))], self.find(r"(\d+) \(`no_item`\)"))
         for number, route in re.findall(r"(\d) ([A-Z]\w+)", self.find(r"^\| \d+ \| route \| ([^|]+) \|")[0]):
             same(f"the header's route {route}", in_c("ROUTE_" + upper(route)), int(number))
         for number, operation in re.findall(r"(\d) ([A-Z]\w+)", self.find(r"^\| transfer item \| operation \(([^)]+)\)")[0]):
