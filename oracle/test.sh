@@ -16,7 +16,7 @@ name=oracle
 # shellcheck source=oracle/common.sh
 . "$here/common.sh"
 
-for file in cases states plain edges scrambled last-page mixed plans looks; do
+for file in cases states plain edges scrambled last-page mixed plans looks judged; do
     if grep -q '^case ' "$recorded/$file.txt" 2>/dev/null; then
         good "recorded/$file.txt has cases"
     else

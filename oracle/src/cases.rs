@@ -7,6 +7,7 @@ use crate::state::*;
 use crate::subject::{Call, Start};
 use crate::words;
 
+pub mod judged;
 pub mod looks;
 pub mod plans;
 

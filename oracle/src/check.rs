@@ -28,7 +28,7 @@ pub const ADVANCE_EPOCH_LINE: u32 = 331;
 
 pub fn run(tally: &mut Tally) {
     let mut oracle = Oracle::default();
-    for case in cases::all().into_iter().chain(cases::plans::all()).chain(cases::looks::all()) {
+    for case in cases::all().into_iter().chain(cases::plans::all()).chain(cases::looks::all()).chain(cases::judged::all()) {
         let calls: Vec<_> = case.asks.iter().map(|ask| ask.call.clone()).collect();
         let trace = oracle.run(&case.start, &calls);
         let read = Reading::new(Slip::None).run(&case.start, &calls);

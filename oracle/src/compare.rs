@@ -8,7 +8,7 @@ use crate::coverage::{Coverage, possible};
 use crate::generate::{KINDS, Kind, Ops, Sequence, last_call, sequence_with, shrink};
 use crate::oracle::Oracle;
 use crate::requests::{ANSWER, NAMES, read_list};
-use crate::{fills, looks, plans};
+use crate::{fills, judged, looks, plans};
 use crate::second_reader;
 use crate::state;
 use crate::subject::{Call, FILL, Runs, Start, Texts, Trace, difference};
@@ -40,7 +40,7 @@ pub fn show(start: &Start, calls: &[Call]) {
 pub fn random(settings: &Settings, mut other: Option<&mut dyn Runs>, tally: &mut Tally) {
     let mut oracle = Oracle::default();
     let mut coverage = Coverage::default();
-    let (mut seen_plans, mut seen_looks, mut seen_fills) = (plans::Seen::default(), looks::Seen::default(), fills::Seen::default());
+    let (mut seen_plans, mut seen_looks, mut seen_fills, mut seen_judged) = (plans::Seen::default(), looks::Seen::default(), fills::Seen::default(), judged::Seen::default());
     let mut violations: BTreeMap<String, u64> = BTreeMap::new();
     let (mut differences, mut unexplained, mut readers, mut reader_faults, mut lists, mut loads) = (0, 0, 0u64, 0, 0u64, 0u64);
     let mut per_kind = [0u64; 4];
@@ -54,7 +54,7 @@ pub fn random(settings: &Settings, mut other: Option<&mut dyn Runs>, tally: &mut
             _ => Kind::Scrambled,
         };
         let length = if kind == Kind::LastPage { 30 } else { settings.length };
-        let Sequence { start, calls, trace, plans, looks, fills } = sequence_with(seed, kind, length, Ops::All, if other.is_some() { Texts::Last } else { Texts::Each });
+        let Sequence { start, calls, trace, plans, looks, fills, judged } = sequence_with(seed, kind, length, Ops::All, if other.is_some() { Texts::Last } else { Texts::Each });
         per_kind[kind as usize] += 1;
         let found = oracle.run(&start, &calls);
         let compared = match other.as_mut() {
@@ -67,6 +67,7 @@ pub fn random(settings: &Settings, mut other: Option<&mut dyn Runs>, tally: &mut
             seen_plans.add(&plans);
             seen_looks.add(&looks);
             seen_fills.add(&fills);
+            seen_judged.add(&judged);
         }
         if let Some(place) = &found.stopped {
             match explained(place) {
@@ -167,7 +168,17 @@ pub fn random(settings: &Settings, mut other: Option<&mut dyn Runs>, tally: &mut
         let lacking = seen_fills.print();
         let lacking: Vec<&str> = lacking.iter().map(String::as_str).collect();
         tally.line(lacking.is_empty(), &format!("{name}: publishes and direct commits of every sort, accepted and refused{}", told(&lacking)));
+        let lacking = seen_judged.print();
+        let lacking: Vec<&str> = lacking.iter().map(String::as_str).collect();
+        tally.line(lacking.is_empty(), &format!("{name}: {} judgings of transfers, of every place and position{}", seen_judged.judged, told(&lacking)));
     }
+    tally.line(
+        seen_judged.other == 0 && seen_judged.other_then == 0 && seen_judged.prepared > 0,
+        &format!(
+            "{name}: {} judgings give the number that the reading's preparation gives on a copy of the state, {} do not; {} of these transfers were prepared next: {} with another number",
+            seen_judged.judged - seen_judged.other, seen_judged.other, seen_judged.prepared, seen_judged.other_then
+        ),
+    );
     tally.line(lists > 0 && differences == 0, &format!("{name}: {lists} of these lists run as one call: the same answers and the same end"));
     if !whole {
         return;

@@ -54,6 +54,7 @@ const POSSIBLE: [&[usize]; OPS] = [
     &[0, 1, 12, 13, 15, 16, 17, 18],
     &[0, 12, 16, 18, 21],
     &[0, 18],
+    &[0, 18],
 ];
 
 /// Which pairs of a request and a number can occur.
@@ -70,6 +71,7 @@ pub fn possible_while_held(op: u64, number: usize) -> bool {
 /// Why a number can't be a request's answer.
 fn why_not(op: u64, number: usize) -> &'static str {
     match number {
+        _ if op == JUDGE => "answers with 0 what it judges, and only an unknown table refuses it",
         1 | 12 if possible(op, number) => "would want a row or an id, which the held run's list does not",
         1 if op == USE_PLAN => "has its frames and its row",
         1 => "takes no row and no frame",

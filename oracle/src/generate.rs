@@ -2,6 +2,7 @@
 //! of them. The reading's state says which values and ids there are; every answer that counts is the other side's.
 
 use crate::fills;
+use crate::judged;
 use crate::looks::{self, Moved, moved};
 use crate::plans::{self, is_stale};
 use crate::reading::{Reading, Slip};
@@ -88,13 +89,25 @@ fn parameters(rng: &mut Rng) -> Vec<u64> {
 }
 
 /// Which requests a list may hold, and from which states it may start. The lists that were recorded before there were plans are made without them, those that were recorded before a
-/// moved value could be looked at have no more such looks than come by chance, and no recorded list starts with as many parcels as a batch has slots, so that they stay as they are.
+/// moved value could be looked at have no more such looks than come by chance, those from before a transfer could be judged judge none, and no recorded list starts with as many parcels as a
+/// batch has slots, so that they stay as they are.
 #[derive(Clone, Copy, Debug, Eq, PartialEq, PartialOrd)]
 pub enum Ops {
     WithoutPlans,
     WithPlans,
     WithLooks,
+    WithJudging,
     All,
+}
+impl Ops {
+    /// How many requests there were.
+    fn known(self) -> u64 {
+        match self {
+            Ops::WithoutPlans => MAKE_PLAN,
+            Ops::WithPlans | Ops::WithLooks => JUDGE,
+            _ => OPS as u64,
+        }
+    }
 }
 
 /// What a request can name in a state.
@@ -256,11 +269,11 @@ impl View<'_> {
     }
 
     fn request(&mut self) -> Request {
-        let weights: [(u64, u64); 27] = [
+        let weights: [(u64, u64); OPS - 1] = [
             (NEW_OBJECT, 60), (DUPLICATE, 160), (RELEASE, 10), (RETIRE, 2), (RESERVE, 110), (TRIM, 15), (ABORT, 15), (PUBLISH, 170),
             (GET_INFO, 25), (RESOLVE, 25), (REPLACE, 35), (CLOSE, 30), (SCAN, 30), (TRANSFER, 120), (CONSUME, 25), (ROLLBACK, 45),
             (COMMIT, 45), (DIRECT_COMMIT, 60), (DIRECT_ROLLBACK, 25), (STOPPING, 6), (TEARDOWN_START, 2), (TEARDOWN_STEP, 25),
-            (TEARDOWN_FINISH, 10), (TAKE_PAGE, 40), (MAKE_PLAN, 70), (USE_PLAN, 75), (DROP_PLAN, 20),
+            (TEARDOWN_FINISH, 10), (TAKE_PAGE, 40), (MAKE_PLAN, 70), (USE_PLAN, 75), (DROP_PLAN, 20), (JUDGE, 110),
         ];
         if self.ops >= Ops::WithLooks
             && self.rng.chance(80)
@@ -268,7 +281,7 @@ impl View<'_> {
         {
             return look;
         }
-        let weights = if self.ops == Ops::WithoutPlans { &weights[..24] } else { &weights[..] };
+        let weights = &weights[..self.ops.known() as usize - 1];
         let total: u64 = weights.iter().map(|(_, weight)| weight).sum();
         let mut op = TAKE_PAGE;
         // Requests that have nothing to work on are mostly passed over.
@@ -364,6 +377,7 @@ impl View<'_> {
                 if op == SCAN { scan(table, cursor) } else { stopping(table, cursor) }
             }
             TRANSFER => self.transfer(),
+            JUDGE => self.judging(),
             CONSUME => {
                 let table = self.full_table();
                 let (value, handle) = self.value(table);
@@ -481,7 +495,7 @@ impl View<'_> {
         };
         match op {
             NEW_OBJECT => free_row && self.s.objects.iter().any(|object| object.state == NEW),
-            DUPLICATE | TRANSFER | CONSUME => free_row && handles(),
+            DUPLICATE | TRANSFER | CONSUME | JUDGE => free_row && handles(),
             GET_INFO | RESOLVE | REPLACE | CLOSE => handles(),
             RESERVE | MAKE_PLAN => free_row,
             USE_PLAN | DROP_PLAN => row(is_plan),
@@ -637,10 +651,155 @@ impl View<'_> {
     }
 }
 
+/// What an item of an aimed transfer is made of: a value and its handle.
+type Source = (u64, Handle);
+
+impl View<'_> {
+    /// A transfer to be judged: any, or one that is aimed at a place of the order and an item of it.
+    fn judging(&mut self) -> Request {
+        if self.rng.chance(200) {
+            return judging(&self.transfer());
+        }
+        let aim = 1 + self.rng.below(17);
+        let idle: Vec<u64> = (0..self.s.tables.len() as u64).filter(|table| self.s.tables[*table as usize].life != Life::Active).collect();
+        let table = match self.rng.pick(&idle).copied() {
+            Some(table) if aim == 1 => table,
+            _ => self.full_table(),
+        };
+        let route = if aim == 14 { self.rng.below(2) } else { self.rng.below(3) };
+        let s = self.s;
+        let of = |handle: &Handle| &s.objects[handle.object as usize];
+        let fits = |handle: &Handle| of(handle).class == 0 || of(handle).class == 1 && route != 0;
+        let mut sources: Vec<Source> = Vec::new();
+        for (slot, generation, what) in self.slots(table, |slot| matches!(slot, Slot::Occupied(..))) {
+            if let Slot::Occupied(_, handle) = what {
+                sources.push((self.encoded(table as usize, slot, generation), handle));
+            }
+        }
+        self.rng.shuffle(&mut sources);
+        // The item that is meant to be at fault.
+        let spare = |handle: &Handle| of(handle).limit - of(handle).count;
+        let wanted = |source: &&Source| {
+            let handle = &source.1;
+            let (moves, copies) = (handle.rights & 2 == 2, handle.rights & 3 == 3);
+            match aim {
+                8 => !moves,
+                9 => moves && !copies,
+                14 => moves && !fits(handle),
+                16 => copies && fits(handle) && of(handle).state == RETIRED,
+                17 => copies && fits(handle) && of(handle).state != RETIRED && spare(handle) < 6,
+                _ => moves && fits(handle),
+            }
+        };
+        let Some(target) = sources.iter().find(wanted).copied() else {
+            return judging(&self.transfer());
+        };
+        let same = |source: &Source| match aim {
+            12 => of(&source.1).kind == of(&target.1).kind,
+            13 => of(&source.1).koid == of(&target.1).koid,
+            _ => false,
+        };
+        // Others that may stand before it, those of the same object first where copies are to meet the limit.
+        let mut front: Vec<Source> = sources.iter().filter(|source| source.0 != target.0 && source.1.rights & 2 == 2 && fits(&source.1) && !same(source)).copied().collect();
+        if aim == 17 {
+            front.sort_by_key(|source| (source.1.object != target.1.object, source.1.rights & 1 == 0));
+        }
+        let mut count = match self.rng.below(12) {
+            0 => 1,
+            1 => 64,
+            2..=4 => 2 + self.rng.below(62),
+            _ => 2 + self.rng.below(6),
+        };
+        let mut position = match self.rng.below(3) {
+            0 => 0,
+            1 => count - 1,
+            _ => self.rng.below(count),
+        };
+        if front.len() > 62 && [1, 4, 5].contains(&aim) && self.rng.chance(500) {
+            count = 64;
+        } else if front.len() > 32 && self.rng.chance(400) {
+            count = 33 + self.rng.below(32);
+            position = 32 + self.rng.below(count - 32);
+        }
+        let position = if aim == 17 { position.max(spare(&target.1)) } else { position } as usize;
+        let exhausted = |handle: &Handle| handle.rights & 1 == 1 && (of(handle).state == RETIRED || spare(handle) == 0);
+        let behind = (7..16).contains(&aim) && position > 0 && self.rng.chance(250);
+        if behind {
+            // A copy that would be refused when all items are right comes first.
+            front.sort_by_key(|source| !exhausted(&source.1));
+        }
+        let mut left: Vec<u64> = s.objects.iter().map(|object| if object.state == RETIRED { 0 } else { object.limit - object.count }).collect();
+        let lean = self.rng.below(3);
+        let mut items: Vec<Record> = Vec::new();
+        for (at, (value, handle)) in front.iter().take(count as usize - 1).enumerate() {
+            let room = &mut left[handle.object as usize];
+            let may_copy = handle.rights & 1 == 1 && *room > 0;
+            let copy = behind && at == 0 && exhausted(handle) || may_copy && (aim == 17 && handle.object == target.1.object || lean == 1 || lean == 2 && self.rng.chance(500));
+            *room = room.saturating_sub(u64::from(copy));
+            let wanted = handle.rights & self.rng.next();
+            let mut record = item(u64::from(copy), *value, wanted);
+            if self.rng.chance(150) {
+                record = record.with(OFFERED_RIGHTS, wanted | handle.rights & self.rng.next());
+            }
+            for field in [OFFERED_KIND, EXPECTED_KIND] {
+                if self.rng.chance(100) {
+                    record = record.with(field, u64::from(of(handle).kind));
+                }
+            }
+            items.push(record);
+        }
+        let position = position.min(items.len());
+        let has = target.1.rights;
+        let lacking = !has & (1 << self.rng.below(64) | self.rng.next() & self.rng.next());
+        let any = has & self.rng.next();
+        let operation = if [9, 16, 17].contains(&aim) || has & 1 == 1 && left[target.1.object as usize] > 0 && self.rng.chance(400) { 1 } else { 0 };
+        let mut record = item(operation, target.0, any);
+        let mut head = transfer(table, route, Vec::new());
+        match aim {
+            6 => {
+                if let Some(earlier) = self.rng.pick(&items[..position]) {
+                    record = record.with(VALUE, earlier.get(VALUE));
+                }
+            }
+            7 => {
+                let moving = self.slots(table, |slot| matches!(slot, Slot::Moving(_)));
+                let other = match self.rng.pick(&moving).copied() {
+                    Some((slot, generation, _)) if self.rng.chance(500) => self.encoded(table as usize, slot, generation),
+                    _ => self.value(table).0,
+                };
+                record = record.with(VALUE, other);
+            }
+            10 => record = record.with(OFFERED_RIGHTS, any | lacking),
+            11 if self.rng.chance(500) => record = record.with(OFFERED_RIGHTS, any).with(RIGHTS, any | !any & (1 << self.rng.below(64))),
+            11 => record = record.with(RIGHTS, any | lacking),
+            12 => head = head.with(FORBIDDEN_KIND, u64::from(of(&target.1).kind)),
+            13 => head = head.with(FORBIDDEN_OBJECT, of(&target.1).koid),
+            15 => record = record.with([OFFERED_KIND, EXPECTED_KIND][self.rng.below(2) as usize], 5 + self.rng.below(9)),
+            _ => {}
+        }
+        items.insert(position, record);
+        // At times another is at fault behind it.
+        if position + 1 < items.len() && self.rng.chance(250) {
+            let behind = position + 1 + self.rng.below((items.len() - position - 1) as u64) as usize;
+            items[behind] = match self.rng.below(3) {
+                0 => items[behind].clone().with(VALUE, self.rng.next()),
+                1 => items[behind].clone().with(EXPECTED_KIND, 14),
+                _ => items[behind].clone().with(VALUE, items[position].get(VALUE)),
+            };
+        }
+        match aim {
+            2 => items.clear(),
+            3 => items.resize(65 + self.rng.below(3) as usize, item(0, target.0, 0)),
+            _ => {}
+        }
+        judging(&head.with(COUNT, items.len() as u64).with_items(items))
+    }
+}
+
 /// A list spoilt on purpose: most of these are malformed.
 fn spoil(rng: &mut Rng, words: &mut Vec<u64>, ops: Ops) {
-    let last = OPS as u64 - 1;
-    let edges = if ops == Ops::WithoutPlans { [0, 99, u64::MAX, TAKE_PAGE] } else { [0, last + 1, u64::MAX, last] };
+    let known = ops.known();
+    let edges = [0, if ops == Ops::WithoutPlans { 99 } else { known }, u64::MAX, known - 1];
     match rng.below(8) {
         0 => {
             words.pop();
@@ -1061,6 +1220,7 @@ pub struct Sequence {
     pub plans: plans::Seen,
     pub looks: looks::Seen,
     pub fills: fills::Seen,
+    pub judged: judged::Seen,
 }
 
 /// A state some requests old, changed as its kind says.
@@ -1142,20 +1302,24 @@ pub fn sequence_with(seed: u64, kind: Kind, length: usize, ops: Ops, texts: Text
     let mut reading = Reading::new(Slip::None);
     let mut trace = Trace { start: reading.start(&start), text: reading.text().unwrap_or_default(), ..Trace::default() };
     let mut calls = Vec::new();
-    let (mut plans, mut looks, mut fills) = (plans::Watch::default(), looks::Watch::default(), fills::Watch::default());
+    let (mut plans, mut looks, mut fills, mut judged) = (plans::Watch::default(), looks::Watch::default(), fills::Watch::default(), judged::Watch::default());
     for at in 0..length {
         let Some(state) = reading.state() else { break };
         // At times a value whose claim has ended is looked at.
         let ended = if ops >= Ops::WithLooks && rng.chance(12) { looks.ended(|count| rng.below(count)) } else { None };
-        let call = match ended {
-            Some((table, value)) => Call::one(get_info(table, value).words()),
-            None => next_call(&mut rng, state, ops),
+        // And at times what was judged is prepared.
+        let again = if ops >= Ops::WithJudging && rng.chance(350) { judged.last() } else { None };
+        let call = match (ended, again) {
+            (_, Some(transfer)) => Call::one(transfer.words()),
+            (Some((table, value)), None) => Call::one(get_info(table, value).words()),
+            (None, None) => next_call(&mut rng, state, ops),
         };
         let requests = read_list(&call.list).unwrap_or_default();
         if let [request] = requests.as_slice() {
             plans.before(state, request);
             looks.before(state, request);
             fills.before(state, request);
+            judged.before(state, request);
         }
         let mut answers = vec![FILL; call.lent];
         let result = reading.call(&call.list, &mut answers);
@@ -1163,12 +1327,13 @@ pub fn sequence_with(seed: u64, kind: Kind, length: usize, ops: Ops, texts: Text
             plans.after(state, request, &answers);
             looks.after(state, request, &answers);
             fills.after(request, &answers);
+            judged.after(request, &answers);
         }
         let text = if texts == Texts::Each || at + 1 == length { reading.text().unwrap_or_default() } else { String::new() };
         trace.steps.push(Step { result, answers, text });
         calls.push(call);
     }
-    Sequence { start, calls, trace, plans: plans.seen, looks: looks.seen, fills: fills.seen }
+    Sequence { start, calls, trace, plans: plans.seen, looks: looks.seen, fills: fills.seen, judged: judged.seen }
 }
 
 /// The calls kept, with the ids and values that their answers give now in place of those that they gave in the whole list.

@@ -4,6 +4,7 @@
 
 use crate::coverage::{Coverage, possible_while_held};
 use crate::generate::{Kind, Ops, Rng, any_state, next_request, words_of};
+use crate::judged::PLACES;
 use crate::reading::{Reading, Slip};
 use crate::requests::*;
 use crate::state::{self, Life, RowKind, Slot, State};
@@ -26,14 +27,18 @@ pub enum Mistake {
     ClosedBackwards,
     ListCutShort,
     OtherLookedAt,
+    JudgedWithoutARow,
+    JudgedWithoutAnId,
 }
-const MISTAKES: [(Mistake, &str); 6] = [
+const MISTAKES: [(Mistake, &str); 8] = [
     (Mistake::ListNotLowered, "the plain run's list keeps the held run's ids"),
     (Mistake::AnswersNotLowered, "the held run's answers keep their ids"),
     (Mistake::EndNotLowered, "the held run's end keeps its ids"),
     (Mistake::ClosedBackwards, "the plain run closes the moved values in the opposite order"),
     (Mistake::ListCutShort, "the plain run's list lacks its last request"),
     (Mistake::OtherLookedAt, "the plain run looks at another of the moved values"),
+    (Mistake::JudgedWithoutARow, "a transfer is judged where the held run has no free row"),
+    (Mistake::JudgedWithoutAnId, "a transfer is judged where the held run has no id left"),
 ];
 
 /// "Ids above the transfer's, the next id included, are one lower in P, in list, answers and state."
@@ -90,6 +95,13 @@ fn permitted(request: &Request, table: u64, values: &[u64], held: u64) -> bool {
     !names && !(there && [SCAN, TEARDOWN_START, STOPPING].contains(&request.op()))
 }
 
+/// Whether a request may stand in the list in a state of the held run. Judging a transfer "may stand in the held and plain runs' list where the held run has a free row and an id left".
+fn may_stand(request: &Request, state: &State, mistake: Mistake) -> bool {
+    let row = (state.rows.len() as u64) < state.row_capacity || mistake == Mistake::JudgedWithoutARow;
+    let id = state.next < u64::MAX || mistake == Mistake::JudgedWithoutAnId;
+    request.op() != JUDGE || row && id
+}
+
 /// "It wants a row if it gives 1 with frames enough for the pages it needs, an id if it gives 12." The state is the one it was refused in.
 fn wants(request: &Request, number: u64, state: &State) -> bool {
     let lacks_frames = || {
@@ -120,7 +132,7 @@ fn plans_of(state: &State) -> Vec<u64> {
 }
 
 /// The transfer of moves, accepted, and the list, made along the reading's held run. None if nothing can be moved in the state.
-fn pair(seed: u64) -> Option<Pair> {
+fn pair(seed: u64, mistake: Mistake) -> Option<Pair> {
     let kind = match seed % 8 {
         _ if seed % 1000 == 7 => Kind::LastPage,
         0..=1 => Kind::Plain,
@@ -198,7 +210,7 @@ fn pair(seed: u64) -> Option<Pair> {
             Some(value) if rng.chance(LOOKS) => get_info(table, value),
             _ => next_request(&mut rng, now, Ops::All),
         };
-        if !permitted(&request, table, &values, id) {
+        if !permitted(&request, table, &values, id) || !may_stand(&request, now, mistake) {
             continue;
         }
         reading.call(&request.words(), &mut answer);
@@ -288,6 +300,9 @@ struct Seen {
     plans: [u64; 2],
     /// Looks at moved values, and of these at such whose receiver gets other rights.
     looks: [u64; 2],
+    /// Transfers judged: by the place, 0 where it would be accepted; and of all those in the table of the held transfer.
+    judged: [u64; PLACES.len() + 1],
+    judged_there: u64,
 }
 
 /// Whether a plan is stale after some requests: whether using it then gives 21. At the end of the epoch the Rust stops where it has found the plan fresh.
@@ -398,6 +413,12 @@ fn compare(pair: &Pair, seed: u64, subject: &mut dyn Runs, mistake: Mistake, see
         if !possible_while_held(request.op(), given[0] as usize) {
             faults.push(format!("answer {place} ({}): {} is no number of it", NAMES[request.op() as usize], given[0]));
         }
+        if request.op() == JUDGE && given[0] == 0 {
+            if let Some(count) = seen.judged.get_mut(given[3] as usize) {
+                *count += 1;
+            }
+            seen.judged_there += u64::from(request.record.option(TABLE) == Some(pair.table));
+        }
         if looks(request, pair.table, &pair.values) {
             let at = pair.values.iter().position(|value| *value == request.get(VALUE)).unwrap_or(0);
             seen.looks[0] += 1;
@@ -451,7 +472,7 @@ fn pairs(settings: &Settings, subject: &mut dyn Runs, mistake: Mistake, seen: &m
     let (mut compared, mut wrong, mut stopped, mut seed) = ([0u64; 2], 0u64, 0u64, settings.seed);
     while compared[0] + compared[1] < settings.pairs && (wrong < 5 || !loud) {
         seed += 1;
-        let Some(pair) = pair(seed) else { continue };
+        let Some(pair) = pair(seed, mistake) else { continue };
         let faults = match compare(&pair, seed, subject, mistake, seen) {
             Shown::Faults(faults) => faults,
             Shown::NotComparable => {
@@ -484,6 +505,16 @@ pub fn run(settings: &Settings, subject: &mut dyn Runs, tally: &mut Tally) {
         println!("the requests of the lists between the transfer and its end, and what they answered:");
         let (unseen, strange) = seen.coverage.print(possible_while_held);
         tally.line(unseen == 0 && strange == 0, &format!("held and plain run on {name}: coverage, {unseen} possible cells unseen, {strange} impossible cells seen"));
+        // No free row and no id left are not among them: there a judging does not stand in the list.
+        let (judged, none) = (seen.judged, [4, 5]);
+        let lacking: Vec<usize> = (0..judged.len()).filter(|place| (judged[*place] == 0) != none.contains(place)).collect();
+        tally.line(
+            lacking.is_empty(),
+            &format!(
+                "held and plain run on {name}: {} transfers judged, {} of them in the held transfer's table; {} would be accepted, by place {:?}; not so often as they should be: {lacking:?}",
+                judged.iter().sum::<u64>(), seen.judged_there, judged[0], &judged[1..]
+            ),
+        );
     }
     tally.line(
         wrong == 0 && compared.iter().chain(&seen.plans).chain(&seen.looks).all(|count| *count > 0) && seen.there > 0 && seen.long > 0,

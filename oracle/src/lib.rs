@@ -20,6 +20,7 @@ pub mod coverage;
 pub mod fills;
 pub mod generate;
 pub mod held;
+pub mod judged;
 pub mod looks;
 pub mod plans;
 pub mod reading;

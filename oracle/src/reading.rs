@@ -1,10 +1,12 @@
-//! Document 01 and the first two requests of document 02, read directly on plain lists: no links, no tokens, nothing of the Rust. It is compared with the oracle, and the
+//! Document 01 and requests 1, 2 and 4 of document 02, read directly on plain lists: no links, no tokens, nothing of the Rust. It is compared with the oracle, and the
 //! recorded lists are replayed against it where there is no Rust. A `Slip` makes it wrong on purpose.
 
 use crate::requests::{self as rq, ANSWER, Request, read_list};
 use crate::state::*;
 use crate::subject::{Start, Subject};
 use crate::words;
+
+mod judge;
 
 const PREFIX: u64 = 0x4800_0000_0000_0000;
 const PREFIX_MASK: u64 = 0xFF00_0000_0000_0000;
@@ -59,9 +61,22 @@ pub enum Slip {
     PublishStopsAfterOneParcel,
     PublishDropsRowsFirst,
     DirectCommitLaysBackwards,
+    JudgingSpendsAnId,
+    JudgedAmongCopies,
+    DuplicateJudgedFirst,
+    FirstItemJudgedAlone,
+    LookupIsTwoPlaces,
+    JudgedCopiesStayCounted,
+    CopiesJudgedOneByOne,
+    NoItemForCopies,
+    CopiesJudgedWithItems,
+    JudgedFromOne,
+    RowNotJudged,
+    IdNotJudged,
+    RetiredMovesRefused,
 }
 
-pub const SLIPS: [(Slip, &str); 44] = [
+pub const SLIPS: [(Slip, &str); 57] = [
     (Slip::RollbackByPlaceAmongMoves, "rollback takes a moved handle by its place among the moves"),
     (Slip::ScanStopsAt255, "a scan stops after 255 slots"),
     (Slip::NewPageDownward, "a new page is published downward"),
@@ -106,6 +121,19 @@ pub const SLIPS: [(Slip, &str); 44] = [
     (Slip::PublishStopsAfterOneParcel, "publish stops after the first parcel"),
     (Slip::PublishDropsRowsFirst, "publish drops a parcel's row before its handles are laid"),
     (Slip::DirectCommitLaysBackwards, "direct commit lays the last handle first"),
+    (Slip::JudgingSpendsAnId, "judging a transfer spends an id"),
+    (Slip::JudgedAmongCopies, "a refused copy's position is counted among the copies"),
+    (Slip::DuplicateJudgedFirst, "a copy without DUPLICATE is judged before one without TRANSFER"),
+    (Slip::FirstItemJudgedAlone, "only the first item of a transfer is judged"),
+    (Slip::LookupIsTwoPlaces, "lookup is two places, so that the last place is 18"),
+    (Slip::JudgedCopiesStayCounted, "copies that were judged stay counted"),
+    (Slip::CopiesJudgedOneByOne, "a copy is judged without the earlier copies of its transfer"),
+    (Slip::NoItemForCopies, "a refused copy is answered with no item at fault"),
+    (Slip::CopiesJudgedWithItems, "a copy is judged with its item, before the items behind it"),
+    (Slip::JudgedFromOne, "the position of an item is counted from 1"),
+    (Slip::RowNotJudged, "a transfer is judged as if there were a free row"),
+    (Slip::IdNotJudged, "a transfer is judged as if there were an id left"),
+    (Slip::RetiredMovesRefused, "a move of a retired object's handle is judged as a copy"),
 ];
 
 pub struct Reading {
@@ -816,6 +844,11 @@ impl State {
                 Ok(words)
             }
             rq::TRANSFER => self.transfer(request, slip),
+            rq::JUDGE => {
+                let answer = self.judge(request, slip)?;
+                self.judged(request, &answer, slip);
+                Ok(answer)
+            }
             rq::CONSUME => {
                 let table = self.table_of(request)?;
                 self.tables[table].active()?;

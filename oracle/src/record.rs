@@ -3,7 +3,7 @@
 use std::collections::BTreeMap;
 
 use crate::cases;
-use crate::generate::{KINDS, Kind, Ops, Rng, sequence};
+use crate::generate::{KINDS, Kind, Ops, Rng, Sequence, sequence};
 use crate::oracle::Oracle;
 use crate::reading::{Reading, Slip};
 use crate::recorded::{Case, from_traces, write};
@@ -15,12 +15,15 @@ use crate::words;
 /// How many random lists of each kind, and how long.
 const RANDOM: [(Kind, u64, usize); 4] = [(Kind::Plain, 40, 110), (Kind::Edges, 32, 60), (Kind::Scrambled, 32, 60), (Kind::LastPage, 4, 40)];
 /// The same for the lists that the Rattle program `replay` runs too.
-const MIXED: [(Kind, u64, usize); 3] = [(Kind::Plain, 24, 110), (Kind::Edges, 16, 60), (Kind::Scrambled, 16, 60)];
+const MIXED: [(Kind, u64, usize); 3] = [(Kind::Plain, 16, 110), (Kind::Edges, 12, 60), (Kind::Scrambled, 12, 60)];
 /// The same with plans, for plans.txt.
 const PLANS: [(Kind, u64, usize); 4] = [(Kind::Plain, 12, 110), (Kind::Edges, 6, 60), (Kind::Scrambled, 6, 60), (Kind::LastPage, 2, 30)];
 /// The same for looks.txt: lists that look at moved values this often or more.
 const LOOKS: [(Kind, u64, usize); 3] = [(Kind::Plain, 4, 110), (Kind::Edges, 3, 60), (Kind::Scrambled, 3, 60)];
 const OFTEN: u64 = 6;
+/// The same for judged.txt: lists in which transfers are judged this often or more.
+const JUDGED: [(Kind, u64, usize); 3] = [(Kind::Plain, 2, 110), (Kind::Edges, 2, 60), (Kind::Scrambled, 2, 60)];
+const JUDGED_OFTEN: u64 = 8;
 const SEED: u64 = 0x5EED_0000;
 
 /// File names and contents.
@@ -48,16 +51,19 @@ pub fn all() -> Vec<(String, String)> {
     changed.extend(states(&mut oracle, "plan-state", 8, small_planned_state));
     files.push(("states.txt".to_string(), write(&changed)));
     for kind in RANDOM {
-        files.push((format!("{}.txt", name_of(kind.0)), write(&random(&mut oracle, "", SEED, Ops::WithoutPlans, kind, 0))));
+        files.push((format!("{}.txt", name_of(kind.0)), write(&random(&mut oracle, "", SEED, Ops::WithoutPlans, kind, ANY))));
     }
-    let mixed: Vec<Case> = MIXED.into_iter().flat_map(|kind| random(&mut oracle, "mixed-", SEED + 0x1000, Ops::WithoutPlans, kind, 0)).collect();
+    let mixed: Vec<Case> = MIXED.into_iter().flat_map(|kind| random(&mut oracle, "mixed-", SEED + 0x1000, Ops::WithoutPlans, kind, ANY)).collect();
     files.push(("mixed.txt".to_string(), write(&mixed)));
     let mut plans = of_cases(&mut oracle, cases::plans::all());
-    plans.extend(PLANS.into_iter().flat_map(|kind| random(&mut oracle, "plans-", SEED + 0x2000, Ops::WithPlans, kind, 0)));
+    plans.extend(PLANS.into_iter().flat_map(|kind| random(&mut oracle, "plans-", SEED + 0x2000, Ops::WithPlans, kind, ANY)));
     files.push(("plans.txt".to_string(), write(&plans)));
     let mut looks = of_cases(&mut oracle, cases::looks::all());
-    looks.extend(LOOKS.into_iter().flat_map(|kind| random(&mut oracle, "looks-", SEED + 0x3000, Ops::WithLooks, kind, OFTEN)));
+    looks.extend(LOOKS.into_iter().flat_map(|kind| random(&mut oracle, "looks-", SEED + 0x3000, Ops::WithLooks, kind, |made| made.looks.looks >= OFTEN)));
     files.push(("looks.txt".to_string(), write(&looks)));
+    let mut judged = of_cases(&mut oracle, cases::judged::all());
+    judged.extend(JUDGED.into_iter().flat_map(|kind| random(&mut oracle, "judged-", SEED + 0x4000, Ops::WithJudging, kind, |made| made.judged.judged >= JUDGED_OFTEN)));
+    files.push(("judged.txt".to_string(), write(&judged)));
     files
 }
 
@@ -65,9 +71,13 @@ fn name_of(kind: Kind) -> &'static str {
     KINDS.iter().find(|(known, _)| *known == kind).map_or("", |(_, name)| name)
 }
 
-/// Random lists of a kind, from a seed on: the first that look at moved values so often or more.
-fn random(oracle: &mut Oracle, prefix: &str, from: u64, ops: Ops, (kind, count, length): (Kind, u64, usize), often: u64) -> Vec<Case> {
-    let made = (from..).map(|seed| (seed, sequence(seed, kind, length, ops))).filter(|(_, made)| made.looks.looks >= often);
+/// Which random lists are taken.
+type Taken = fn(&Sequence) -> bool;
+const ANY: Taken = |_| true;
+
+/// Random lists of a kind, from a seed on: the first that are to be taken.
+fn random(oracle: &mut Oracle, prefix: &str, from: u64, ops: Ops, (kind, count, length): (Kind, u64, usize), taken: Taken) -> Vec<Case> {
+    let made = (from..).map(|seed| (seed, sequence(seed, kind, length, ops))).filter(|(_, made)| taken(made));
     made.take(count as usize)
         .enumerate()
         .map(|(number, (seed, made))| {

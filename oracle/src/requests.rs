@@ -1,7 +1,9 @@
 //! Request lists in words (docs/formats.md): reading, and building for tests. Number 19 is decided here, not by the Rust.
 
 pub const ANSWER: usize = 72;
-pub const OPS: usize = 28;
+pub const OPS: usize = 29;
+/// The position in the answer to a judging where no item is at fault.
+pub const NO_ITEM: u64 = 64;
 
 pub const NEW_OBJECT: u64 = 1;
 pub const DUPLICATE: u64 = 2;
@@ -30,12 +32,13 @@ pub const TAKE_PAGE: u64 = 24;
 pub const MAKE_PLAN: u64 = 25;
 pub const USE_PLAN: u64 = 26;
 pub const DROP_PLAN: u64 = 27;
+pub const JUDGE: u64 = 28;
 
 pub const NAMES: [&str; OPS] = [
     "-", "new object", "duplicate", "release parcel", "retire object", "reserve", "trim", "abort", "publish", "get_info",
     "resolve", "replace", "close", "scan_handles", "prepare transfer", "prepare consumption", "rollback", "commit",
     "direct commit", "direct rollback", "remove_stopping_owner", "teardown start", "teardown step", "teardown finish",
-    "take_empty_page", "make plan", "use plan", "drop plan",
+    "take_empty_page", "make plan", "use plan", "drop plan", "judge transfer",
 ];
 
 // Bits of a record.
@@ -63,7 +66,7 @@ pub const FIELDS: usize = 18;
 pub const MUST_MAY: [(u64, u64); OPS] = [
     (0, 0), (101, 0), (51, 0), (129, 0), (5, 0), (11, 0), (137, 0), (129, 0), (137, 0), (19, 0), (563, 0), (51, 0), (19, 0),
     (2051, 0), (4107, 196_608), (1587, 0), (129, 0), (129, 0), (385, 0), (385, 0), (2051, 0), (3, 0), (3, 0), (3, 0), (3, 0),
-    (11, 0), (129, 0), (129, 0),
+    (11, 0), (129, 0), (129, 0), (4107, 196_608),
 ];
 pub const TRANSFER_ITEM: (u64, u64) = (49, 57_344);
 pub const PARCEL_ITEM: (u64, u64) = (129, 0);
@@ -115,6 +118,10 @@ impl Request {
     }
     pub fn with(mut self, field: usize, word: u64) -> Self {
         self.record = self.record.with(field, word);
+        self
+    }
+    pub fn with_items(mut self, items: Vec<Record>) -> Self {
+        self.items = items;
         self
     }
     pub fn item(mut self, item: Record) -> Self {
@@ -174,14 +181,14 @@ pub fn read_list(words: &[u64]) -> Option<Vec<Request>> {
         .ok()?;
         let op = head.get(OP);
         let mut items = Vec::new();
-        if op == TRANSFER || op == PUBLISH {
+        if [TRANSFER, JUDGE, PUBLISH].contains(&op) {
             // A count beyond the words that are left can't be met: the list ends inside a record.
             if head.get(COUNT) > words.len() as u64 {
                 return None;
             }
             for _ in 0..head.get(COUNT) {
                 let item = record(words, &mut at, |operation| match op {
-                    TRANSFER if operation <= 1 => Some(TRANSFER_ITEM),
+                    TRANSFER | JUDGE if operation <= 1 => Some(TRANSFER_ITEM),
                     PUBLISH if operation == 0 => Some(PARCEL_ITEM),
                     _ => None,
                 })
@@ -246,6 +253,14 @@ pub fn transfer(table: u64, route: u64, items: Vec<Record>) -> Request {
     let mut request = Request::new(TRANSFER).with(TABLE, table).with(COUNT, items.len() as u64).with(ROUTE, route);
     request.items = items;
     request
+}
+/// The same fields and items, judged: "a request that judges a transfer without preparing it".
+pub fn judging(transfer: &Request) -> Request {
+    transfer.clone().with(OP, JUDGE)
+}
+/// The transfer that a request judges.
+pub fn judged(request: &Request) -> Request {
+    request.clone().with(OP, TRANSFER)
 }
 pub fn consume(table: u64, value: u64, rights: u64, kind: u64, koid: u64) -> Request {
     Request::new(CONSUME).with(TABLE, table).with(VALUE, value).with(RIGHTS, rights).with(KIND, kind).with(KOID, koid)

@@ -80,6 +80,8 @@ const NOT_REMEMBERED: u64 = 1001;
 const NOT_AS_BEFORE: u64 = 1002;
 /// The Rust gives another thing than Busy to a look at a value that an open claim moves.
 const NOT_BUSY: u64 = 1003;
+/// The Rust refuses a transfer and, of its first items alone, not with that number; or with a number that no transfer gives.
+const NO_STOP: u64 = 1004;
 
 fn number_of(error: HandleError) -> u64 {
     match error {
@@ -703,6 +705,101 @@ impl Machine {
         }
     }
 
+    /// The Rust's preparation of a transfer: the claim, with what it said before of the values that are moved.
+    fn prepare(&mut self, table: usize, request: &Request) -> Result<(HandleTransferClaim, Before), u64> {
+        let refuse = number_of;
+        self.tables[table].table.ensure_active().map_err(refuse)?;
+        HandleTransferStorage::validate_count(request.items.len()).map_err(refuse)?;
+        self.free_row()?;
+        let items: Vec<HandleTransferRequest> = request
+            .items
+            .iter()
+            .map(|item| HandleTransferRequest {
+                value: self.value(table, item.get(rq::VALUE)),
+                offered_rights: item.option(rq::OFFERED_RIGHTS).map(rights),
+                rights: rights(item.get(rq::RIGHTS)),
+                offered_kind: item.option(rq::OFFERED_KIND).map(|kind| ObjectKind::Number(kind as u32)),
+                expected_kind: item.option(rq::EXPECTED_KIND).map(|kind| ObjectKind::Number(kind as u32)),
+                operation: if item.get(rq::OP) == 0 { HandleTransferOperation::Move } else { HandleTransferOperation::Copy },
+            })
+            .collect();
+        let mut storage = Some(HandleTransferStorage::try_new(items.len()).map_err(refuse)?);
+        let moves = items.iter().filter(|item| item.operation == HandleTransferOperation::Move);
+        let before = self.ask_before(table, moves.map(|item| item.value));
+        let claim = self.tables[table].table.prepare_transfer_with_storage(
+            &items,
+            request.record.option(rq::FORBIDDEN_OBJECT).map(Koid),
+            request.record.option(rq::FORBIDDEN_KIND).map(|kind| ObjectKind::Number(kind as u32)),
+            match request.get(rq::ROUTE) {
+                0 => HandleTransferRoute::Buffered,
+                1 => HandleTransferRoute::Rendezvous,
+                _ => HandleTransferRoute::StagedStartup,
+            },
+            &mut storage,
+        );
+        // DRIVER: storage handed back is dropped at once, and with it the copies that it owns (a listed difference).
+        drop(storage);
+        Ok((claim.map_err(refuse)?, before))
+    }
+
+    /// A transfer is prepared on the Rust and, where that is accepted, rolled back: 0, or the Rust's refusal. DRIVER: the id that this spends is given back.
+    fn tried(&mut self, table: usize, request: &Request) -> Result<u64, u64> {
+        let next = NEXT_RESERVATION_ID.load(Ordering::Relaxed);
+        let number = match self.prepare(table, request) {
+            Ok((claim, before)) => self.roll_back(table, claim, &before).map(|()| 0),
+            Err(number) => Ok(number),
+        };
+        NEXT_RESERVATION_ID.store(next, Ordering::Relaxed);
+        number
+    }
+
+    /// Where the Rust's preparation stops and by which rule, when it gives this number: found by what the Rust says of other transfers, of the first items alone and of one item alone.
+    fn stop(&mut self, table: usize, request: &Request, number: u64) -> Result<(u64, u64), u64> {
+        if let Some(place) = [16, 17, 13, 1, 12].iter().position(|whole| *whole == number) {
+            return Ok((rq::NO_ITEM, place as u64 + 1));
+        }
+        // The copies come after all items: their refusals do not count before another item's.
+        let of_copies = |number| number == 9 || number == 11;
+        let counts = |found: u64| found != 0 && (of_copies(number) || !of_copies(found));
+        // So many first items are let pass, and so many are not.
+        let (mut pass, mut stop) = (0, request.items.len());
+        while pass + 1 < stop {
+            let half = (pass + stop) / 2;
+            if counts(self.tried(table, &Request { items: request.items[..half].to_vec(), ..request.clone() })?) { stop = half } else { pass = half }
+        }
+        let position = stop - 1;
+        if self.tried(table, &Request { items: request.items[..stop].to_vec(), ..request.clone() })? != number {
+            return Err(NO_STOP);
+        }
+        let item = &request.items[position];
+        let head = |fields: &[usize]| rq::Record { map: request.record.map & !fields.iter().fold(0, |map, field| map | 1 << field), ..request.record.clone() };
+        let free = head(&[rq::FORBIDDEN_OBJECT, rq::FORBIDDEN_KIND]);
+        // The same value, moved or copied with no right asked for and nothing said of its kind.
+        let bare = |operation| rq::item(operation, item.get(rq::VALUE), 0);
+        let mut alone = |record: rq::Record, item: rq::Record| self.tried(table, &Request { record, items: alloc::vec![item] });
+        let place = match number {
+            2 if alone(request.record.clone(), item.clone())? != 2 => 6,
+            2 | 3 => 7,
+            5 if alone(free.clone(), bare(0))? == 5 => 8,
+            5 if alone(free.clone(), bare(item.get(rq::OP)))? == 5 => 9,
+            5 if item.has(rq::OFFERED_RIGHTS) && alone(free.clone(), bare(0).with(rq::OFFERED_RIGHTS, item.get(rq::OFFERED_RIGHTS)))? == 5 => 10,
+            5 if alone(free.clone(), item.clone())? == 5 => 11,
+            5 => 13,
+            8 => {
+                // The kind is looked at before the object, and the object before the route.
+                let value = self.value(table, item.get(rq::VALUE));
+                let koid = self.tables[table].table.get_info(value).map_err(number_of)?.koid.0;
+                let forbids = request.record.clone().with(rq::FORBIDDEN_OBJECT, koid);
+                if self.tried(table, &Request { record: forbids, items: alloc::vec![item.clone()] })? == 8 { 12 } else { 14 }
+            }
+            4 => 15,
+            9 => 16,
+            11 => 17,
+            _ => return Err(NO_STOP),
+        };
+        Ok((position as u64, place))
+    }
+
     fn run(&mut self, request: &Request) -> Step {
         let refuse = number_of;
         match request.op() {
@@ -925,41 +1022,23 @@ impl Machine {
             }
             rq::TRANSFER => {
                 let table = self.table(request)?;
-                self.tables[table].table.ensure_active().map_err(refuse)?;
-                HandleTransferStorage::validate_count(request.items.len()).map_err(refuse)?;
-                self.free_row()?;
-                let items: Vec<HandleTransferRequest> = request
-                    .items
-                    .iter()
-                    .map(|item| HandleTransferRequest {
-                        value: self.value(table, item.get(rq::VALUE)),
-                        offered_rights: item.option(rq::OFFERED_RIGHTS).map(rights),
-                        rights: rights(item.get(rq::RIGHTS)),
-                        offered_kind: item.option(rq::OFFERED_KIND).map(|kind| ObjectKind::Number(kind as u32)),
-                        expected_kind: item.option(rq::EXPECTED_KIND).map(|kind| ObjectKind::Number(kind as u32)),
-                        operation: if item.get(rq::OP) == 0 { HandleTransferOperation::Move } else { HandleTransferOperation::Copy },
-                    })
-                    .collect();
-                let mut storage = Some(HandleTransferStorage::try_new(items.len()).map_err(refuse)?);
-                let moves = items.iter().filter(|item| item.operation == HandleTransferOperation::Move);
-                let before = self.ask_before(table, moves.map(|item| item.value));
-                let claim = self.tables[table].table.prepare_transfer_with_storage(
-                    &items,
-                    request.record.option(rq::FORBIDDEN_OBJECT).map(Koid),
-                    request.record.option(rq::FORBIDDEN_KIND).map(|kind| ObjectKind::Number(kind as u32)),
-                    match request.get(rq::ROUTE) {
-                        0 => HandleTransferRoute::Buffered,
-                        1 => HandleTransferRoute::Rendezvous,
-                        _ => HandleTransferRoute::StagedStartup,
-                    },
-                    &mut storage,
-                );
-                // DRIVER: storage handed back is dropped at once, and with it the copies that it owns (a listed difference).
-                drop(storage);
-                let claim = claim.map_err(refuse)?;
+                let (claim, before) = self.prepare(table, request)?;
                 let id = claim.transfer.0.get();
                 self.rows.push(Row { id, token: Token::Claim(table, claim, before) });
                 Ok(alloc::vec![id])
+            }
+            rq::JUDGE => {
+                let table = self.table(request)?;
+                let number = self.tried(table, request)?;
+                match (number, self.remembers) {
+                    (0, _) => Ok(alloc::vec![0, 0, 0]),
+                    // Where it is timed, the Rust is asked once.
+                    (_, false) => Ok(alloc::vec![number]),
+                    _ => {
+                        let (position, place) = self.stop(table, request, number)?;
+                        Ok(alloc::vec![number, position, place])
+                    }
+                }
             }
             rq::CONSUME => {
                 let table = self.table(request)?;
