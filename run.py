@@ -8,13 +8,13 @@
 The list is turned into the words of docs/formats.md and run by the proved code, through its C calls; the first time, that code is proved and compiled, which
 takes some minutes. With --oracle it is run by the oracle instead: on the Rust where its sources stand beside the repository, else on the plain reading of
 document 01. A line of FILE is a table (`table name=till pages=4 seed=0`), an object (`object name=scale koid=70 kind=3 class=0 rights=15 exportable=1 limit=100`), the
-pool (`frames 8`, `rows 8`) or a request (`reserve table=till count=1`); names are optional, tables and objects count from 0. An item of a publish or a transfer
-follows its request on a line that starts with `-` (`- parcel id=1`, `- move value=V rights=3`, `- copy value=V rights=1`). A value can be given as `@N`, the first
+pool (`frames 8`, `rows 8`) or a request (`reserve table=till count=1`); names are optional, tables and objects count from 0. An item of a publish or a transfer,
+prepared or judged, follows its request on a line that starts with `-` (`- parcel id=1`, `- move value=V rights=3`, `- copy value=V rights=1`). A value can be given as `@N`, the first
 value of the answer to request N, or `@N.K`, an id as `@N`, the id in the answer to request N. `#` starts a comment.
 
 For --held a line `hold` stands before the prepare_transfer that is held, and the last line is `end rollback` or `end commit`. What comes before `hold` both runs
 share; then run H prepares the transfer, runs the list and ends the transfer, and run P runs the list alone (after a commit in H it closes the moved values). Ids
-in the file are those of run H. The list may look at moved values with get_info (document 02, 2), and name them in no other request. The status is 1 if the runs differ
+in the file are those of run H. The list may look at moved values with get_info (document 02, 2), and name them in no other request; it may judge transfers where run H has a free row and an id left (document 02, 4). The status is 1 if the runs differ
 although no condition of document 01, "Runs H and P", is broken; a list that cannot be read or run gives 2.
 """
 import signal

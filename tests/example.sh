@@ -12,8 +12,8 @@ example() { # example NAME OPTION..
   fi
 }
 examples() { # examples OPTION..: all of them
-  for name in old-value two-counters look plans; do example "$name" "$@"; done
-  for name in held-rollback held-commit held-broken held-look held-look-commit held-plans; do example "$name" "$@" --held; done
+  for name in old-value two-counters look plans judge; do example "$name" "$@"; done
+  for name in held-rollback held-commit held-broken held-look held-look-commit held-plans held-judge held-judge-full; do example "$name" "$@" --held; done
   example state "$@" --state
 }
 if [ "${1:-}" != oracle ]; then

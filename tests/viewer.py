@@ -121,7 +121,10 @@ BROKEN = [
     ("make_plan table=till count=1\nuse_plan id=3", "names the transfer's id, 3"),
     ("drop_plan id=@5", "names the transfer's id, 3"),
     ("reserve table=till count=1\nmake_plan table=till count=1\nmake_plan table=till count=1", 'refuses it "for want of a row"'),
+    ("judge_transfer table=scale route=0\n- copy value=@2.1 rights=1\n- move value=@2 rights=1", "names a moved value"),
+    ("reserve table=till count=1\nreserve table=till count=1\njudge_transfer table=scale route=0", "judges a transfer where H has no free row"),  # refused alike in both
 ]
+JUDGED = "judge_transfer table=scale route=0\n- move value=@2.1 rights=1\njudge_transfer table=scale route=0\njudge_transfer table=2 route=0"
 KEPT = [
     "get_info table=till value=@2",  # the same number in another table
     "get_info table=scale value=@2",  # a look at the moved value
@@ -135,6 +138,8 @@ KEPT = [
     "make_plan table=till count=2\nreserve table=till count=1\nuse_plan id=@6\ndrop_plan id=@6",  # the last frame: refused for want of a frame, not of a row
     "make_plan table=scale count=63\nreserve table=scale count=1\nuse_plan id=@6\nabort id=@7\nuse_plan id=@6",  # stale, and fresh again
     "make_plan table=till count=1\nteardown_start table=till\nuse_plan id=@6\nteardown_finish table=till\ndrop_plan id=@6",
+    JUDGED,  # refused, and an unknown table
+    "judge_transfer table=till route=0\n- move value=@2 rights=1\nreserve table=till count=1\njudge_transfer table=till route=0\n- copy value=@2 rights=1",  # the same number in another table, and the last free row
 ]
 
 
@@ -168,14 +173,15 @@ class Forks:
         return Changed(self.inner.fork(), **self.changes)
 
 
-def held(oracle, requests, ending, item="move", **changes):
-    """Whether the two runs are found as they should be, and what is said."""
+def held(oracle, requests, ending, item="move", shown=None, **changes):
+    """Whether the two runs are found as they should be, and what is said; the words of run H's state are shown as `shown` gives them."""
     with tempfile.TemporaryDirectory() as work:
         path = Path(work) / "list.txt"
         path.write_text(HEAD.replace("ITEM", item) + requests + f"\nend {ending}\n")
         this = parse(path, True)
     engine = oracle.fork()
     engine.create, engine.lists = this.create(), []
+    engine = Changed(engine, words=shown) if shown else engine
     said = io.StringIO()
     with contextlib.redirect_stdout(said):
         good = Held(this, Forks(engine, **changes)).all()
@@ -193,6 +199,8 @@ def two_runs(oracle):
             expect(requests, held(oracle, requests, ending), True, "condition broken, line ", what)
         for requests in KEPT:
             expect(requests, held(oracle, requests, ending), True, agree)
+    last_id = lambda words: words[:5] + [2**64 - 1] + words[6:]
+    expect("no id left", held(oracle, JUDGED, "rollback", shown=last_id), True, "condition broken, line 14: judges a transfer where H has no id left")
     expect("a copy", held(oracle, "", "rollback", "copy"), True, 'not "of moves only"')
     expect("a refused transfer", held(oracle, "", "rollback", "move offered_kind=9 expected_kind=9"), True, 'not "accepted": it gives 4 WrongObjectType')
     # an engine that gives a difference: in an answer's last word, in the rights that a look shows, in a table, in an object, in the next id, in a plan
@@ -202,6 +210,7 @@ def two_runs(oracle):
     for what, requests, changes, endings in (
         ("an answer's last word", KEPT[0], {"answer": flip(71)}, ("rollback", "commit")),
         ("the rights of a moved handle", KEPT[1], {"answer": flip(3)}, ("rollback", "commit")),
+        ("the place of a judged transfer", JUDGED, {"answer": flip(3)}, ("rollback", "commit")),
         ("an epoch", KEPT[0], {"words": flip(head + 4)}, ("rollback", "commit")),
         ("a limit", KEPT[0], {"words": flip(objects + 7)}, ("rollback",)),
         ("the next id", KEPT[0], {"words": flip(5)}, ("rollback",)),
@@ -210,7 +219,7 @@ def two_runs(oracle):
     ):
         for ending in endings:
             expect(what, held(oracle, requests, ending, **changes), False, contradict)
-    print(f"{2 * len(BROKEN) + 2} broken conditions, {2 * len(KEPT)} pairs of runs that agree and 10 that are made to differ")
+    print(f"{2 * len(BROKEN) + 3} broken conditions, {2 * len(KEPT)} pairs of runs that agree and 12 that are made to differ")
 
 
 RT = """#!/bin/sh

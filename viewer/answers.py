@@ -4,6 +4,20 @@ NUMBERS = (
     "ReservationIdExhausted ReservationTooLarge OutstandingReservation TableFull TableRetired EmptyReservation Misuse Malformed AnswerShort StalePlan"
 ).split()
 INFO = ["koid", "kind", "rights", "flags"]
+# the rules that a transfer is judged by, in their order, and the position where no item is at fault
+PLACES = [
+    "the table is not active", "no item", "more than 64 items", "no free row", "no id left", "a value listed twice", "lookup", "no TRANSFER", "a copy without DUPLICATE", "offered beyond the source's",
+    "requested beyond the offered", "the forbidden kind", "the forbidden object", "the route bars the class", "another kind", "a copy of a retired object", "a copy at the limit",
+]  # fmt: skip
+NO_ITEM = 64
+
+
+def judged(number, position, place):
+    """What is said of a transfer that was judged; items are counted from 0."""
+    if number == 0:
+        return "would be accepted"
+    where = ", no item at fault" if position == NO_ITEM else f" at item {position}"
+    return f"refused: {number} {NUMBERS[number]}{where}, place {place}: {PLACES[place - 1]}"
 
 
 def told(op, words):
@@ -29,6 +43,8 @@ def told(op, words):
         return f"done, cursor {words[2]}, " + (f"{words[3]:016x}: {info(4)}" if words[1] else "none")
     if op == "teardown_step":
         return "done, " + (info(2) if words[1] else "none")
+    if op == "judge_transfer":
+        return judged(*words[1:4])
     if op == "take_empty_page":
         return "done, " + (f"page {words[2]}" if words[1] else "none")
     return "done"

@@ -1,6 +1,6 @@
-"""The held and the plain run (document 00, demand 3; document 01, "Runs H and P"; document 02, 2) of a list, side by side. Run H prepares the transfer after `hold`, runs the
+"""The held and the plain run (document 00, demand 3; document 01, "Runs H and P"; document 02, 2 and 4) of a list, side by side. Run H prepares the transfer after `hold`, runs the
 list and ends the transfer; run P runs the same list without it, with ids above the transfer's one lower, and where H commits closes the moved values. The list may look at
-the moved values with get_info, and names them in no other request."""
+the moved values with get_info, and names them in no other request; it may judge transfers where the held run has a free row and an id left."""
 import textwrap
 
 from viewer import state as states
@@ -9,6 +9,8 @@ from viewer.lists import ID_AT, IDS, Fault, Request
 
 WIDTH = 58
 LOOK = "get_info"  # the request that may name a moved value
+JUDGE = "judge_transfer"  # the request that may stand only where H has a free row and an id left
+LAST_ID = 2**64 - 1
 WALKS = {"scan_handles": "scans", "teardown_start": "starts tearing down", "remove_stopping_owner": "removes for a stopping owner in"}
 
 
@@ -97,6 +99,10 @@ class Held:
             yield f"{WALKS[request.op]} {self.list.named('table', self.b)}"
         if answer[0] == 1 and self.pages_needed(request, before, number) <= len(before.free_frames):
             yield 'H refuses it "for want of a row": it gives 1 with frames enough for the pages it needs'
+        if request.op == JUDGE and len(before.rows) == before.capacity:
+            yield "judges a transfer where H has no free row"
+        if request.op == JUDGE and before.next == LAST_ID:
+            yield "judges a transfer where H has no id left"
         if answer[0] == 12:
             yield 'H refuses it "for want of an id": it gives 12'
 

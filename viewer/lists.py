@@ -5,9 +5,9 @@ from dataclasses import dataclass, field
 FIELDS = "op table object count value rights flags id destination kind koid cursor route offered_rights offered_kind expected_kind forbidden_object forbidden_kind".split()
 OPS = [""] + (
     "new_object duplicate release_parcel retire_object reserve trim abort publish get_info resolve replace close scan_handles prepare_transfer prepare_consumption rollback commit "
-    "direct_commit direct_rollback remove_stopping_owner teardown_start teardown_step teardown_finish take_empty_page make_plan use_plan drop_plan"
+    "direct_commit direct_rollback remove_stopping_owner teardown_start teardown_step teardown_finish take_empty_page make_plan use_plan drop_plan judge_transfer"
 ).split()
-ITEMS = {"publish": ("parcel",), "prepare_transfer": ("move", "copy")}
+ITEMS = {"publish": ("parcel",), "prepare_transfer": ("move", "copy"), "judge_transfer": ("move", "copy")}
 IDS = ("id", "destination")
 TABLE = ("pages", "seed")
 OBJECT = ("koid", "kind", "class", "rights", "exportable", "limit")
@@ -143,7 +143,7 @@ def take(this, at, words):
         kind, *rest = (head[1:].split() or []) + rest or [""]
         kinds = ITEMS.get(this.requests[-1].op, ()) if this.requests else ()
         if kind not in kinds:
-            raise Fault("an item is '- parcel' below a publish, '- move' or '- copy' below a prepare_transfer")
+            raise Fault("an item is '- parcel' below a publish, '- move' or '- copy' below a prepare_transfer or a judge_transfer")
         this.requests[-1].items.append((kind, at, fields_of(rest, FIELDS[1:])))
     elif head in ("table", "object"):
         known, numbers = (TABLE, this.tables) if head == "table" else (OBJECT, this.objects)
