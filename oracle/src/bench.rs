@@ -2,7 +2,7 @@
 //! same 72 answer words for each request. A call of the port checks the whole state first: its requests are timed in long lists, less the time of
 //! an empty list. The Rust's time is given as it is, and less what its driver takes to read the words of the list. A request that can't be repeated
 //! alone is timed in a cycle, and, at 64 slots, by the difference of two lists that share their first part. The Rust is timed as it is: it is not asked
-//! what a value shows before it is moved, and refuses a look at it (Busy), which the port answers; these rows say so. The state check is timed beside a
+//! what a value shows before it is moved, and refuses a look at it (Busy), which the port answers; these rows say so. A transfer that the port judges the Rust, which has no such call, prepares and rolls back; these rows say that. The state check is timed beside a
 //! plain read of the same words, on states that differ in which objects have handles and in how many rows are open.
 
 use std::hint::black_box;
@@ -240,10 +240,11 @@ fn middle(passes: &[Vec<Row>]) -> Vec<Row> {
     rows
 }
 
-/// The end of a row's name in which the Rust refuses what the port does, so that its ratios compare no like work.
+/// The ends of the names of rows in which the Rust refuses what the port does, or does more, so that their ratios compare no like work.
 const RUST_REFUSES: &str = "(the Rust: Busy)";
+const RUST_PREPARES: &str = "(the Rust: prepare, rollback)";
 
-/// Prints a table as text or as docs/performance.md has it, then of both ratios least, geometric mean and greatest, and the rows above the bounds; rows in which the Rust refuses are left out
+/// Prints a table as text or as docs/performance.md has it, then of both ratios least, geometric mean and greatest, and the rows above the bounds; rows of no like work are left out
 /// of these.
 fn print_table(markdown: bool, what: &str, sum: &str, rows: &[Row]) {
     if markdown {
@@ -259,7 +260,7 @@ fn print_table(markdown: bool, what: &str, sum: &str, rows: &[Row]) {
             println!("{slots:>9} {name:48} {port:>10.0} {rust:>10.0} {less:>10.0} {ratio:>7.2} {ratio_less:>7.2}");
         }
     }
-    let (refused, alike): (Vec<&Row>, Vec<&Row>) = rows.iter().partition(|row| row.name.ends_with(RUST_REFUSES));
+    let (other, alike): (Vec<&Row>, Vec<&Row>) = rows.iter().partition(|row| row.name.ends_with(RUST_REFUSES) || row.name.ends_with(RUST_PREPARES));
     let told = |bound: f64, ratio: fn(&Row) -> f64| {
         let all: Vec<f64> = alike.iter().map(|row| ratio(row)).collect();
         let mean = (all.iter().map(|ratio| ratio.ln()).sum::<f64>() / all.len() as f64).exp();
@@ -267,7 +268,7 @@ fn print_table(markdown: bool, what: &str, sum: &str, rows: &[Row]) {
         let above = all.iter().filter(|ratio| **ratio > bound).count();
         format!("least {:.2}, geometric mean {mean:.2}, greatest {:.2}; above {bound:.1}: {above} of {}", ends.0, ends.1, all.len())
     };
-    println!("\n{sum}: {} rows{}", alike.len(), if refused.is_empty() { String::new() } else { format!(", and {} in which the Rust refuses", refused.len()) });
+    println!("\n{sum}: {} rows{}", alike.len(), if other.is_empty() { String::new() } else { format!(", and {} in which the Rust refuses or does more", other.len()) });
     if !alike.is_empty() {
         println!("- with the driver: {}", told(1.0, |row| row.port / row.rust));
         println!("- less words: {}", told(1.5, |row| row.port / row.less));
@@ -624,6 +625,9 @@ fn pass(settings: Settings) -> Pass {
                 2.0,
                 list_of(&start, 2 * turns, |at, answers| if at % 2 == 0 { claim(0, &held) } else { rollback(answers[at - 1][1]) }),
             ));
+            for (operation, what) in [(0, "a transfer"), (1, "copies")] {
+                lists.push((format!("judge {what} of {count} {RUST_PREPARES}"), 1.0, list_of(&start, turns, |_, _| judging(&claim(operation, &held)))));
+            }
             lists.push((
                 format!("prepare copies of {count}, commit, release parcel"),
                 3.0,
