@@ -2,7 +2,7 @@
 """Replays recorded lists on the model: the checker computes every answer and the whole end state from the definitions, and each is held to what the
 Rust gave (recorded/, see docs/oracle.md). Writes a crate `computed` with a table of cases for each recorded list, and has it proved.
 
-  model_replay.py [FILE..]     recorded files (default: cases.txt, plain.txt, edges.txt, scrambled.txt, plans.txt and looks.txt)
+  model_replay.py [FILE..]     recorded files (default: cases.txt, plain.txt, edges.txt, scrambled.txt, plans.txt, looks.txt and judged.txt)
 """
 import re
 import subprocess
@@ -115,7 +115,7 @@ use Rattle.model.specs.Base.{bit, pick, or_else, is_some, range, same_list}
 use Rattle.model.specs.State.{Handle, Slot, Slot.absent, Slot.vacant, Slot.reserved, Slot.transfer_reserved, Slot.occupied, Page, Lifecycle, Lifecycle.active, Lifecycle.tearing_down, Lifecycle.retired, Table, Class, Class.leaf, Class.rendezvous_only, Class.never, Stage, Stage.still_new, Stage.now_active, Stage.now_retired, Object, Entry, Entry.moved, Entry.copied, Body, Body.reservation, Body.claim, Body.parcel, Body.plan, StorageSnapshot, Row, State, till, no_page, no_table, no_object, max_tables, max_frames, max_objects, max_rows, max_batch, max_slots, max_limit, known_flags, last_id}
 use Rattle.model.specs.Storage.{place, vacate, take_free, pages_for, attach, detach, slots_of}
 use Rattle.model.specs.Request.{Answer, Request}
-use Rattle.model.specs.Step.{decide, step, run, new_object_of, duplicate_of, release_parcel_of, retire_object_of, reserve_of, trim_of, abort_of, publish_of, get_info_of, resolve_of, replace_of, close_of, scan_handles_of, prepare_transfer_of, prepare_consumption_of, rollback_of, commit_of, direct_commit_of, direct_rollback_of, remove_stopping_owner_of, teardown_start_of, teardown_step_of, teardown_finish_of, take_empty_page_of, make_plan_of, use_plan_of, drop_plan_of}
+use Rattle.model.specs.Step.{decide, step, run, new_object_of, duplicate_of, release_parcel_of, retire_object_of, reserve_of, trim_of, abort_of, publish_of, get_info_of, resolve_of, replace_of, close_of, scan_handles_of, prepare_transfer_of, prepare_consumption_of, rollback_of, commit_of, direct_commit_of, direct_rollback_of, remove_stopping_owner_of, teardown_start_of, teardown_step_of, teardown_finish_of, take_empty_page_of, make_plan_of, use_plan_of, drop_plan_of, judge_transfer_of}
 use Rattle.model.specs.Create.{Parameters, TableParameters, ObjectParameters, permitted, created, create}
 use Rattle.model.specs.Words.{read_request, read_list, used_words, words_of, answer_short, call}
 """
@@ -221,7 +221,7 @@ UNFOLD = (
     "max_batch max_slots max_limit known_flags last_id\n  place vacate take_free pages_for attach detach decide step used_words words_of answer_short read_request read_list call musts mays "
     "field_kinds field_fits known_op permitted created\n  new_object_of duplicate_of release_parcel_of retire_object_of reserve_of trim_of abort_of publish_of get_info_of resolve_of replace_of close_of "
     "scan_handles_of prepare_transfer_of prepare_consumption_of\n  rollback_of commit_of direct_commit_of direct_rollback_of remove_stopping_owner_of teardown_start_of teardown_step_of teardown_finish_of "
-    "take_empty_page_of make_plan_of use_plan_of drop_plan_of\n"
+    "take_empty_page_of make_plan_of use_plan_of drop_plan_of judge_transfer_of\n"
 )
 
 
@@ -319,7 +319,7 @@ ROW, BLOCK = 390, 6
 
 
 def main():
-    names = sys.argv[1:] or ["cases.txt", "plain.txt", "edges.txt", "scrambled.txt", "plans.txt", "looks.txt"]
+    names = sys.argv[1:] or ["cases.txt", "plain.txt", "edges.txt", "scrambled.txt", "plans.txt", "looks.txt", "judged.txt"]
     modules, requests, lists, calls, refused = [], 0, 0, 0, []
     left = Counter()
     made = {}

@@ -1,7 +1,8 @@
 #!/usr/bin/env python3
 """The recorded lists on the port: what the program `replay` reads, and what it wrote (crates/replay/src/main.rt has the form of both).
 
-  replay.py --write    writes crates/replay/stdin from recorded/cases.txt, recorded/mixed.txt, recorded/plans.txt and recorded/looks.txt
+  replay.py --write    writes crates/replay/stdin from recorded/cases.txt, recorded/mixed.txt, recorded/plans.txt, recorded/looks.txt and
+                       recorded/judged.txt
   replay.py --run      runs the proved program on it (`rt run`) and writes crates/replay/stdout
   replay.py            crates/replay/stdin is what would be written, and crates/replay/stdout, to which the check of the crates holds the program's output, says
                        what the recorded lists say: each result, each answer, and each end state, whose words are read by `words_to_text`
@@ -21,7 +22,7 @@ from recorded import cases, words
 from scratch import root
 
 CRATE = root / "crates" / "replay"
-FILES = ("cases.txt", "mixed.txt", "plans.txt", "looks.txt")
+FILES = ("cases.txt", "mixed.txt", "plans.txt", "looks.txt", "judged.txt")
 ANSWER = 72  # words of an answer; a call of one request is lent one word more
 HEADER = 16
 
