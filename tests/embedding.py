@@ -166,7 +166,7 @@ def numbers(text):
     formats = (root / "docs/formats.md").read_text()
     maps = re.findall(r"^\| .* \| (\d+) \|[^|]*\| (\d+) \|$", formats, flags=re.M)
     longest = max(1 + bin(int(must) | int(may)).count("1") for must, may in maps)
-    require(len(maps) == 29 and f"at most {longest} words" in text and f"at most {65 * longest}" in text, f"the longest of {len(maps)} records has {longest} words")
+    require(len(maps) == 30 and f"at most {longest} words" in text and f"at most {65 * longest}" in text, f"the longest of {len(maps)} records has {longest} words")
     bound = re.search(r"BOUND = (\d+)", (root / "c/stack.c").read_text()).group(1)
     require(f"{int(bound):,} bytes of stack" in text, f"c/stack.c's bound is {bound}")
     deepest = re.search(r"^\| stack at most[^|]*\| ([\d,]+) \|", text, flags=re.M).group(1)

@@ -111,6 +111,7 @@ pub fn run(tally: &mut Tally) {
     table_full(tally, &mut oracle);
     stale_plans(tally, &mut oracle);
     moved_values(tally, &mut oracle);
+    judgings(tally, &mut oracle);
 }
 
 /// Runs on the Rust and brings a result back; Err with the place of a violation.
@@ -373,6 +374,46 @@ fn moved_values(tally: &mut Tally, oracle: &mut Oracle) {
     tally.line(
         matches!(&found, Ok((_, wrong)) if *wrong == [1001, 1003, 1002]),
         "difference-look on the Rust: Busy on a value of which nothing is remembered, another answer than Busy on one that is, and another info after the rollback: the driver answers 1001, 1003, 1002, no numbers",
+    );
+}
+
+/// Judging a transfer is preparing it on the Rust and rolling it back: what that leaves of the state, and of the ids, which the driver gives back.
+fn judgings(tally: &mut Tally, oracle: &mut Oracle) {
+    let found = ask(oracle, |direct| {
+        let mut slots = vec![state::Slot::Vacant(1); 64];
+        for slot in slots.iter_mut().take(3) {
+            *slot = state::Slot::Occupied(1, state::Handle { object: 0, rights: u64::MAX, flags: 0 });
+        }
+        let mut state = cases::all_in_one_page(1, slots);
+        state.objects[0].limit = 4;
+        direct.start(&Start::Words(crate::words::encode(&state)));
+        let run = |direct: &mut crate::oracle::Direct, request: requests::Request| {
+            let mut answers = [0; ANSWER];
+            direct.call(&request.words(), &mut answers);
+            (answers[..4].to_vec(), direct.text())
+        };
+        let of = |operations: [u64; 3]| requests::transfer(0, 0, (0..).zip(operations).map(|(slot, operation)| requests::item(operation, v(slot, 1), 1)).collect());
+        let before = direct.text();
+        let next = match before.as_deref().map(state::parse) {
+            Ok(Ok(state)) => state.next,
+            _ => 0,
+        };
+        // One more than before, and nothing else.
+        let one_id_spent = |after: &Result<String, String>, spent: u64| {
+            let (line, other) = (format!("next {next}\n"), format!("next {}\n", next + spent));
+            before.as_ref().is_ok_and(|before| after.as_ref() == Ok(&before.replacen(&line, &other, 1)))
+        };
+        let (accepted, refused) = (run(direct, requests::judging(&of([0, 1, 0]))), run(direct, requests::judging(&of([1, 0, 1]))));
+        let judged = accepted == (vec![0, 0, 0, 0], before.clone()) && refused == (vec![0, 11, 2, 17], before.clone());
+        let (claim, _) = run(direct, of([0, 1, 0]));
+        let (rolled, after) = run(direct, requests::rollback(next));
+        let prepared = claim[..2] == [0, next] && rolled[0] == 0 && one_id_spent(&after, 1);
+        let (denied, after) = run(direct, of([1, 0, 1]));
+        (judged, prepared, denied[0] == 11 && one_id_spent(&after, 2))
+    });
+    tally.line(
+        found == Ok((true, true, true)),
+        &format!("difference-judge on the Rust: a transfer prepared and rolled back, and one refused at its second copy, leave the state as it was but for the next id; judged, for that too ({found:?})"),
     );
 }
 

@@ -377,7 +377,7 @@ impl View<'_> {
                 if op == SCAN { scan(table, cursor) } else { stopping(table, cursor) }
             }
             TRANSFER => self.transfer(),
-            JUDGE => self.judging(),
+            JUDGE => self.judge(),
             CONSUME => {
                 let table = self.full_table();
                 let (value, handle) = self.value(table);
@@ -656,7 +656,7 @@ type Source = (u64, Handle);
 
 impl View<'_> {
     /// A transfer to be judged: any, or one that is aimed at a place of the order and an item of it.
-    fn judging(&mut self) -> Request {
+    fn judge(&mut self) -> Request {
         if self.rng.chance(200) {
             return judging(&self.transfer());
         }

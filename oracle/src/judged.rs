@@ -179,7 +179,7 @@ impl Watch {
         }
         let Some(coming) = self.coming.take() else { return };
         self.seen.judged += 1;
-        let [_, number, position, place] = [answer[0], answer[1], answer[2], answer[3]];
+        let (number, position, place) = (answer[1], answer[2], answer[3]);
         if answer[0] != 0 {
             self.seen.other += u64::from(answer[0] != coming.number);
             self.seen.count(18, UNKNOWN);

@@ -369,7 +369,7 @@ fn shrink(tally: &mut Tally, seed: u64) -> Result<(), String> {
     use oracle::generate::{Kind, Ops, last_call, sequence, shrink};
     use oracle::subject::difference;
     let mut rust = oracle::oracle::Oracle::default();
-    for slip in [Slip::RollbackByPlaceAmongMoves, Slip::ReplaceLeavesHighMark, Slip::CommitPutsSlotsBackwards, Slip::LookShowsWhatTheReceiverGets, Slip::LookByPlaceAmongMoves] {
+    for slip in [Slip::RollbackByPlaceAmongMoves, Slip::ReplaceLeavesHighMark, Slip::CommitPutsSlotsBackwards, Slip::LookShowsWhatTheReceiverGets, Slip::LookByPlaceAmongMoves, Slip::LookupIsTwoPlaces, Slip::NoItemForCopies] {
         let mut reading = Reading::new(slip);
         let mut line = (false, format!("{slip:?}: not found by 400 random lists"));
         for seed in seed..seed + 400 {
