@@ -122,15 +122,14 @@ module _ (z : Sizes) (fits : z.scan_entries ≤ till.scan_entries) (s : State) (
       accepts (scan_short z fits s b c)
   decide_short (prepare_transfer b route o k qs) =
       let t : Table = s.tables b in
-      let hs : List Handle = copies_of (map (entry_for t) qs) in
       checked (ltb b s.table_count) 18 tt λ e.
       checked (is_active t.life) 16 tt λ e.
       checked (ltb 0 (length qs)) 17 tt λ e.
       checked (at_most (length qs) max_batch) 13 tt λ e.
       checked (free_row s) 1 tt λ e.
       checked (id_left s) 12 tt λ e.
-      after_id (items_fault s t route o k [] qs) (λ n e. tt) λ e.
-      after_id (copies_fault s.objects hs) (λ n e. tt) λ e.
+      after_id (items_fault s t route o k [] 0 qs) (λ n e. tt) λ e.
+      after_id (copies_fault s.objects 0 (map (entry_for t) qs)) (λ n e. tt) λ e.
       accepts (omega arith)
   decide_short (prepare_consumption b v r kind koid) =
       checked (ltb b s.table_count) 18 tt λ e.

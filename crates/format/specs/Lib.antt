@@ -3,3 +3,4 @@ pub mod Ops
 pub mod Format
 pub mod Refusals
 pub mod Kinds
+pub mod Rules

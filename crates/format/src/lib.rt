@@ -11,6 +11,7 @@ pub mod field;
 pub mod maps;
 pub mod op;
 pub mod refusal;
+pub mod rule;
 pub mod size;
 
 // The fields that an op must carry, as a bit map; 0 for an unknown op.

@@ -18,7 +18,7 @@ use Rattle.model.specs.Request.{Request.close, Request.scan_handles, Request.pre
 use Rattle.model.specs.Request.{Request.commit, Request.direct_commit, Request.direct_rollback, Request.remove_stopping_owner, Request.teardown_start}
 use Rattle.model.specs.Request.{Request.teardown_step, Request.teardown_finish, Request.take_empty_page, Request.make_plan, Request.use_plan, Request.drop_plan}
 use Rattle.model.specs.Change.{with_table, with_frames}
-use Rattle.model.specs.Book.{add_row, drop_row, drop_id, free_row, id_left, copies_of, find}
+use Rattle.model.specs.Book.{add_row, drop_row, drop_id, free_row, id_left, find}
 use Rattle.model.specs.Decision.{handles_of, distinct}
 use Rattle.model.specs.Lookup.{lookup}
 use Rattle.model.specs.Transfer.{items_fault, copies_fault, entry_for}
@@ -158,16 +158,16 @@ module _ (z : Sizes) (sane : Sane z) (s : State) (w : WellFormed z s) where
       checked (at_most (length qs) max_batch) _ tt λ e₂.
       checked (free_row s) _ tt λ fr.
       checked (id_left s) _ tt λ id.
-      after_id (items_fault s t route bo bk [] qs) (λ n q. id) λ e.
-      after_id (copies_fault s.objects (copies_of es)) (λ n q. id) λ c.
+      after_id (items_fault s t route bo bk [] 0 qs) (λ n q. id) λ e.
+      after_id (copies_fault s.objects 0 es) (λ n q. id) λ c.
       let m : b < s.table_count = ltb-true b s.table_count l in
       accepts (claim_good z s g b es m a fr id (
         omega (arith, length-map qs (entry_for t), ltb-true 0 (length qs) e₁),
         omega (arith, length-map qs (entry_for t), at_most_law (length qs) max_batch e₂),
       )
-      (items_range s t route bo bk (g.slots b) [] qs e) (items_stand s t route bo bk [] qs e) (items_once s t route bo bk [] qs e) c
+      (items_range s t route bo bk (g.slots b) [] 0 qs e) (items_stand s t route bo bk [] 0 qs e) (items_once s t route bo bk [] 0 qs e) c
       (λ o p. items_count s t route bo bk o (1 ≤ (s.objects o).count) (λ k n h st y. omega (arith, slot_counted s g b k n h m st o p, of_same o h y))
-      [] qs e))
+      [] 0 qs e))
 
   consume_kept : (b v r kind koid : ℕ) → Keeps s (prepare_consumption_of z s b v r kind koid)
   unfolding prepare_consumption_of

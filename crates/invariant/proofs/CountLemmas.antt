@@ -1,12 +1,14 @@
 -- Objects whose counts rise and fall, and the handles of slots, by object.
-use Rattle.std.specs.Prelude.{◌≡◌, refl, false, List, [], ◌∷◌, ℕ, ◌+◌, ◌-◌, ◌≤◌, ◌<◌, length, ltb, eqb}
+use Rattle.std.specs.Prelude.{◌≡◌, refl, false, List, [], ◌∷◌, ℕ, suc, ◌+◌, ◌-◌, ◌≤◌, ◌<◌, length, ltb, eqb}
 use Rattle.std.proofs.Common.{sym, ◌∙◌, arith, ltb-true, eq-eqb, ne_eqb}
 use Rattle.std.proofs.Math.Option.{Option, none, some}
 use Rattle.std.proofs.lemmas.Bool.{eqb-false}
 use Rattle.model.specs.Base.{bit, pick, occurs, sum}
-use Rattle.model.specs.State.{Handle, Slot, Slot.absent, Slot.vacant, Slot.reserved, Slot.transfer_reserved, Slot.occupied, Table, Stage}
+use Rattle.model.specs.State.{Handle, Slot, Slot.absent, Slot.vacant, Slot.reserved, Slot.transfer_reserved, Slot.occupied, Table, Stage, Entry, Entry.moved, Entry.copied}
 use Rattle.model.specs.State.{Stage.still_new, Stage.now_active, Stage.now_retired, Object, is_occupied, max_slots}
 use Rattle.model.specs.Objects.{is_now_retired, activated, raise, lower, retired_by_owner, change, change_all}
+use Rattle.model.specs.Book.{copies_of}
+use Rattle.model.specs.Request.{Fault}
 use Rattle.model.specs.Transfer.{copies_fault}
 use Rattle.model.specs.WellFormed.{ObjectRange, StageCount, of_object, in_slot, in_handles}
 use Rattle.model.proofs.Tests.{apart, bool, same, put_at}
@@ -85,17 +87,19 @@ module _ (n : ℕ) where
       (r.0, omega (arith, r.1, c o l))
 
   -- the counts of copies raised
-  pub raise_all : (hs : List Handle) (os : ℕ → Object) → ((o : ℕ) → o < n → Fit (os o)) → ((o : ℕ) → o < n → 0 < in_handles o hs → 1 ≤ (os o).count)
-      → copies_fault os hs ≡ none → (o : ℕ) → o < n → Fit (change_all raise hs os o) × ((change_all raise hs os o).count ≡ (os o).count + in_handles o hs)
-  raise_all [] os f h e o l = (f o l, omega arith)
-  raise_all (g ∷ hs) os f h e o l =
+  pub raise_all : (es : List Entry) (j : ℕ) (os : ℕ → Object) → ((o : ℕ) → o < n → Fit (os o)) → ((o : ℕ) → o < n → 0 < in_handles o (copies_of es) → 1 ≤ (os o).count)
+      → copies_fault os j es ≡ none
+      → (o : ℕ) → o < n → Fit (change_all raise (copies_of es) os o) × ((change_all raise (copies_of es) os o).count ≡ (os o).count + in_handles o (copies_of es))
+  raise_all [] j os f h e o l = (f o l, omega arith)
+  raise_all (moved k x r ∷ es) j os f h e o l = raise_all es (suc j) os f h e o l
+  raise_all (copied g ∷ es) j os f h e o l =
       let k : ℕ = g.object in
       let ns : ℕ → Object = change raise os k in
       let c : (p : ℕ) → p < n → (ns p).count ≡ (os p).count + of_object p g = λ p m. change_at (λ x. x.count ≡ (os p).count + of_object p g) raise os k p
       (λ q. omega (arith, of_same p g q)) (λ q. omega (arith, of_other p g q)) in
-      bool (is_now_retired (os k).stage) (λ q. let y : some 9 ≡ none = rw q at e in apart (cc)) (λ q.
-      bool (eqb (os k).count (os k).limit) (λ d. let y : some 11 ≡ none = rw (q, d) at e in apart (cc)) (λ d.
-      let r = raise_all hs ns
+      bool (is_now_retired (os k).stage) (λ q. let x : Fault = record { number = 9; position = j; place = 16 } in let y : some x ≡ none = rw q at e in apart (cc)) (λ q.
+      bool (eqb (os k).count (os k).limit) (λ d. let x : Fault = record { number = 11; position = j; place = 17 } in let y : some x ≡ none = rw (q, d) at e in apart (cc)) (λ d.
+      let r = raise_all es (suc j) ns
       (λ p m. change_at Fit raise os k p (λ y. raise_fit (os p) (f p m) (h p m (omega (arith, of_same p g y)))
       (rw (← y) at (eqb-false (os k).count (os k).limit d))) (λ y. f p m))
       (λ p m i. omega (arith, c p m, h p m (omega arith))) (rw (q, d) at e) o l in

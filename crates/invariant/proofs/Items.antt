@@ -1,5 +1,5 @@
 -- What a lookup, a claim's moved entries and the checks of a transfer's items tell of slots.
-use Rattle.std.specs.Prelude.{◌≡◌, refl, true, false, not, ◌||◌, Bool, List, [], ◌∷◌, map, ℕ, ◌+◌, ◌≤◌, ◌<◌, drop, eqb}
+use Rattle.std.specs.Prelude.{◌≡◌, refl, true, false, not, ◌||◌, Bool, List, [], ◌∷◌, map, ℕ, ◌+◌, ◌≤◌, ◌<◌, suc, drop, eqb}
 use Rattle.std.proofs.Common.{ap, ◌∙◌, arith, eqb-true}
 use Rattle.std.proofs.Math.Option.{Option, none, some}
 use Rattle.std.specs.Int.Bits.{bit_and}
@@ -11,11 +11,11 @@ use Rattle.codec.proofs.Laws.{same_value}
 use Rattle.model.specs.Base.{pick, bit, or_else, member, occurs}
 use Rattle.model.specs.State.{Handle, Slot, Slot.absent, Slot.vacant, Slot.reserved, Slot.transfer_reserved, Slot.occupied, Table, Entry}
 use Rattle.model.specs.State.{Entry.moved, Entry.copied, State, is_active}
-use Rattle.model.specs.Request.{Answer, Route, Operation, Operation.as_move, Operation.as_copy, Item}
+use Rattle.model.specs.Request.{Answer, Route, Operation, Operation.as_move, Operation.as_copy, Item, Fault}
 use Rattle.model.specs.Book.{moved_of, copies_of}
 use Rattle.model.specs.Decision.{Decision}
 use Rattle.model.specs.Lookup.{View, View.invalid, View.busy, View.holds, view_slot, lookup, handle_or}
-use Rattle.model.specs.Transfer.{Check, ◌or◌, first_fault, is_copy, is_known, is_busy_now, held_in, item_checks, first_of, items_fault, entry_by, entry_for}
+use Rattle.model.specs.Transfer.{Check, ◌or◌at◌, first_fault, is_copy, is_known, is_busy_now, held_in, item_checks, first_of, items_fault, entry_by, entry_for}
 use Rattle.model.specs.WellFormed.{HandleRange, SlotRange, EntryRange, All, of_object, in_handles}
 use Rattle.model.proofs.Tests.{apart, bool, clash, same}
 use Rattle.model.proofs.Decided.{Decided, Any, on_handle, with_handle}
@@ -84,15 +84,15 @@ taken f (moved j h r ∷ es) k a q = bool (eqb k j)
 taken f (copied h ∷ es) k a q = taken f es k a.1 q
 
 -- no fault in two parts
-pub both_none : (a b : Option ℕ) → first_of a b ≡ none → (a ≡ none) × (b ≡ none)
+pub both_none : (a b : Option Fault) → first_of a b ≡ none → (a ≡ none) × (b ≡ none)
 both_none none b e = (refl, e)
-both_none (some n) b e = apart (cc)
+both_none (some f) b e = apart (cc)
 
 -- checks that all hold
-pub fault_head : (c : Check) (cs : List Check) → first_fault (c ∷ cs) ≡ none → (c.holds ≡ true) × (first_fault cs ≡ none)
-fault_head c cs e = bool c.holds
+pub fault_head : (j : ℕ) (c : Check) (cs : List Check) → first_fault j (c ∷ cs) ≡ none → (c.holds ≡ true) × (first_fault j cs ≡ none)
+fault_head j c cs e = bool c.holds
     (λ q. (q, rw q at e))
-    (λ q. let y : some c.number ≡ none = rw q at e in apart (cc))
+    (λ q. let f : Fault = record { number = c.number; position = j; place = c.place } in let y : some f ≡ none = rw q at e in apart (cc))
 
 pub held_view : (w : View) → is_known w ≡ true → not (is_busy_now w) ≡ true → (k : ℕ) × (w ≡ holds k (held_in w))
 held_view invalid e d = apart (cc)
@@ -108,19 +108,19 @@ pub record Passed (t : Table) (earlier : List ℕ) (q : Item) : Type 0 where
   pub rights : q.rights ≤ held.rights
 
 module _ (s : State) (t : Table) (route : Route) (bo bk : Option ℕ) where
-  passed : (earlier : List ℕ) (q : Item) → first_fault (item_checks s route bo bk earlier q (lookup t q.value)) ≡ none → Passed t earlier q
-  passed earlier q e =
+  passed : (earlier : List ℕ) (j : ℕ) (q : Item) → first_fault j (item_checks s route bo bk earlier q (lookup t q.value)) ≡ none → Passed t earlier q
+  passed earlier j q e =
       let w : View = lookup t q.value in
       let h : Handle = held_in w in
       let offered : ℕ = or_else q.offered_rights h.rights in
       let cs : List Check = item_checks s route bo bk earlier q w in
-      let once = fault_head (not (member q.value earlier) or 2) (drop 1 cs) e in
-      let found = fault_head (is_known w or 2) (drop 2 cs) once.1 in
-      let idle = fault_head (not (is_busy_now w) or 3) (drop 3 cs) found.1 in
-      let transfer = fault_head (contains h.rights transfer_right or 5) (drop 4 cs) idle.1 in
-      let copy = fault_head ((not (is_copy q.operation) || contains h.rights duplicate_right) or 5) (drop 5 cs) transfer.1 in
-      let source = fault_head (contains h.rights offered or 5) (drop 6 cs) copy.1 in
-      let asked = fault_head (contains offered q.rights or 5) (drop 7 cs) source.1 in
+      let once = fault_head j (not (member q.value earlier) or 2 at 6) (drop 1 cs) e in
+      let found = fault_head j (is_known w or 2 at 7) (drop 2 cs) once.1 in
+      let idle = fault_head j (not (is_busy_now w) or 3 at 7) (drop 3 cs) found.1 in
+      let transfer = fault_head j (contains h.rights transfer_right or 5 at 8) (drop 4 cs) idle.1 in
+      let copy = fault_head j ((not (is_copy q.operation) || contains h.rights duplicate_right) or 5 at 9) (drop 5 cs) transfer.1 in
+      let source = fault_head j (contains h.rights offered or 5 at 10) (drop 6 cs) copy.1 in
+      let asked = fault_head j (contains offered q.rights or 5 at 11) (drop 7 cs) source.1 in
       let v = held_view w found.0 idle.0 in
       let n : Named t q.value v.0 h = named t q.value v.0 h v.1 in
       record {
@@ -131,10 +131,10 @@ module _ (s : State) (t : Table) (route : Route) (bo bk : Option ℕ) where
         rights = omega (arith, contains_le h.rights offered source.0, contains_le offered q.rights asked.0);
       }
 
-  items_head : (earlier : List ℕ) (q : Item) (qs : List Item) → items_fault s t route bo bk earlier (q ∷ qs) ≡ none
-      → Passed t earlier q × (items_fault s t route bo bk (q.value ∷ earlier) qs ≡ none)
-  items_head earlier q qs e = let r = both_none (first_fault (item_checks s route bo bk earlier q (lookup t q.value))) (items_fault s t route bo bk (q.value ∷ earlier) qs) e in
-      (passed earlier q r.0, r.1)
+  items_head : (earlier : List ℕ) (j : ℕ) (q : Item) (qs : List Item) → items_fault s t route bo bk earlier j (q ∷ qs) ≡ none
+      → Passed t earlier q × (items_fault s t route bo bk (q.value ∷ earlier) (suc j) qs ≡ none)
+  items_head earlier j q qs e = let r = both_none (first_fault j (item_checks s route bo bk earlier q (lookup t q.value))) (items_fault s t route bo bk (q.value ∷ earlier) (suc j) qs) e in
+      (passed earlier j q r.0, r.1)
 
   -- the entry of an item, by its operation
   module _ (ranges : (k : ℕ) → SlotRange s (t.slots k)) where
@@ -144,12 +144,12 @@ module _ (s : State) (t : Table) (route : Route) (bo bk : Option ℕ) where
     item_range as_copy k g h r x e w l = let w' : HandleRange s h = rw e at w in
         rw e (record { object = w'.object; rights = omega (arith, w'.rights); flags = w'.flags })
 
-    pub items_range : (earlier : List ℕ) (qs : List Item) → items_fault s t route bo bk earlier qs ≡ none → All (EntryRange s) (map (entry_for t) qs)
-    items_range earlier [] e = tt
-    items_range earlier (q ∷ qs) e = let r = items_head earlier q qs e in let p : Passed t earlier q = r.0 in
+    pub items_range : (earlier : List ℕ) (j : ℕ) (qs : List Item) → items_fault s t route bo bk earlier j qs ≡ none → All (EntryRange s) (map (entry_for t) qs)
+    items_range earlier j [] e = tt
+    items_range earlier j (q ∷ qs) e = let r = items_head earlier j q qs e in let p : Passed t earlier q = r.0 in
         let k : ℕ = slot_in t.mask q.value in (
           item_range q.operation k (generation_in t.mask q.value) p.held q.rights (t.slots k) p.stands (ranges k) p.rights,
-          items_range (q.value ∷ earlier) qs r.1,
+          items_range (q.value ∷ earlier) (suc j) qs r.1,
         )
 
   item_stands : (op : Operation) (k g : ℕ) (h : Handle) (r : ℕ) → t.slots k ≡ occupied g h
@@ -157,11 +157,11 @@ module _ (s : State) (t : Table) (route : Route) (bo bk : Option ℕ) where
   item_stands as_move k g h r e = rw e (g, refl)
   item_stands as_copy k g h r e = tt
 
-  pub items_stand : (earlier : List ℕ) (qs : List Item) → items_fault s t route bo bk earlier qs ≡ none → All (Stands t.slots) (map (entry_for t) qs)
-  items_stand earlier [] e = tt
-  items_stand earlier (q ∷ qs) e = let r = items_head earlier q qs e in let p : Passed t earlier q = r.0 in
+  pub items_stand : (earlier : List ℕ) (j : ℕ) (qs : List Item) → items_fault s t route bo bk earlier j qs ≡ none → All (Stands t.slots) (map (entry_for t) qs)
+  items_stand earlier j [] e = tt
+  items_stand earlier j (q ∷ qs) e = let r = items_head earlier j q qs e in let p : Passed t earlier q = r.0 in
       let k : ℕ = slot_in t.mask q.value in
-      (item_stands q.operation k (generation_in t.mask q.value) p.held q.rights p.stands, items_stand (q.value ∷ earlier) qs r.1)
+      (item_stands q.operation k (generation_in t.mask q.value) p.held q.rights p.stands, items_stand (q.value ∷ earlier) (suc j) qs r.1)
 
   -- a copy's object has a handle in a slot
   module _ (o : ℕ) (C : Type 0) (counts : (k g : ℕ) (h : Handle) → t.slots k ≡ occupied g h → o ≡ h.object → C) where
@@ -173,13 +173,13 @@ module _ (s : State) (t : Table) (route : Route) (bo bk : Option ℕ) where
         (λ q. counts k g h e (eqb-true o h.object q))
         (λ q. c (omega (arith, of_other o h (eqb-false o h.object q))))
 
-    pub items_count : (earlier : List ℕ) (qs : List Item) → items_fault s t route bo bk earlier qs ≡ none
+    pub items_count : (earlier : List ℕ) (j : ℕ) (qs : List Item) → items_fault s t route bo bk earlier j qs ≡ none
         → 0 < in_handles o (copies_of (map (entry_for t) qs)) → C
-    items_count earlier [] e l = absurd (omega arith)
-    items_count earlier (q ∷ qs) e l = let r = items_head earlier q qs e in let p : Passed t earlier q = r.0 in
+    items_count earlier j [] e l = absurd (omega arith)
+    items_count earlier j (q ∷ qs) e l = let r = items_head earlier j q qs e in let p : Passed t earlier q = r.0 in
         let k : ℕ = slot_in t.mask q.value in
         item_counts q.operation k (generation_in t.mask q.value) p.held q.rights p.stands (map (entry_for t) qs)
-        (items_count (q.value ∷ earlier) qs r.1) l
+        (items_count (q.value ∷ earlier) (suc j) qs r.1) l
 
 entry_occurs : (op : Operation) (j : ℕ) (h : Handle) (r k : ℕ) (es : List Entry)
     → occurs k (moved_of (entry_by op j h r ∷ es)) ≤ bit (eqb k j) + occurs k (moved_of es)
@@ -190,18 +190,18 @@ entry_occurs as_copy j h r k es = omega arith
 module _ (s : State) (t : Table) (route : Route) (bo bk : Option ℕ) where
   items_apart : (v : ℕ) (h : Handle) → decodes t.mask v ≡ true → t.slots (slot_in t.mask v) ≡ occupied (generation_in t.mask v) h
       → (earlier : List ℕ) → member v earlier ≡ true
-      → (qs : List Item) → items_fault s t route bo bk earlier qs ≡ none → occurs (slot_in t.mask v) (moved_of (map (entry_for t) qs)) ≡ 0
-  items_apart v h d st earlier m [] e = refl
-  items_apart v h d st earlier m (q ∷ qs) e =
-      let r = items_head s t route bo bk earlier q qs e in
+      → (j : ℕ) (qs : List Item) → items_fault s t route bo bk earlier j qs ≡ none → occurs (slot_in t.mask v) (moved_of (map (entry_for t) qs)) ≡ 0
+  items_apart v h d st earlier m j [] e = refl
+  items_apart v h d st earlier m i (q ∷ qs) e =
+      let r = items_head s t route bo bk earlier i q qs e in
       let p : Passed t earlier q = r.0 in
       let k : ℕ = slot_in t.mask v in
       let j : ℕ = slot_in t.mask q.value in
       let rest : occurs k (moved_of (map (entry_for t) qs)) ≡ 0 = items_apart v h d st (q.value ∷ earlier)
-      (bool (eqb v q.value) (λ y. rw y) (λ y. rw y m)) qs r.1 in
+      (bool (eqb v q.value) (λ y. rw y) (λ y. rw y m)) (suc i) qs r.1 in
       bool (eqb k j)
       (λ y. let ey : k ≡ j = eqb-true k j y in
-      let at : t.slots k ≡ t.slots j = ap t.slots ey in
+      let one : t.slots k ≡ t.slots j = ap t.slots ey in
       let st' : t.slots j ≡ occupied (generation_in t.mask q.value) p.held = p.stands in
       let g : generation_in t.mask v ≡ generation_in t.mask q.value = cc in
       let ev : v ≡ q.value = same_value t.mask v q.value d p.decoded ey g in
@@ -210,17 +210,17 @@ module _ (s : State) (t : Table) (route : Route) (bo bk : Option ℕ) where
       let c' : occurs k (moved_of (map (entry_for t) (q ∷ qs))) ≤ bit (eqb k j) + occurs k (moved_of (map (entry_for t) qs)) = c in
       let z : bit (eqb k j) ≡ 0 = rw y in omega arith)
 
-  pub items_once : (earlier : List ℕ) (qs : List Item) → items_fault s t route bo bk earlier qs ≡ none → (k : ℕ)
+  pub items_once : (earlier : List ℕ) (j : ℕ) (qs : List Item) → items_fault s t route bo bk earlier j qs ≡ none → (k : ℕ)
       → occurs k (moved_of (map (entry_for t) qs)) ≤ 1
-  items_once earlier [] e k = omega arith
-  items_once earlier (q ∷ qs) e k =
-      let r = items_head s t route bo bk earlier q qs e in
+  items_once earlier i [] e k = omega arith
+  items_once earlier i (q ∷ qs) e k =
+      let r = items_head s t route bo bk earlier i q qs e in
       let p : Passed t earlier q = r.0 in
       let j : ℕ = slot_in t.mask q.value in
       let c : occurs k (moved_of (map (entry_for t) (q ∷ qs))) ≤ bit (eqb k j) + occurs k (moved_of (map (entry_for t) qs)) =
       entry_occurs q.operation j (handle_or (t.slots j)) q.rights k (map (entry_for t) qs) in
       bool (eqb k j)
       (λ y. let n : occurs j (moved_of (map (entry_for t) qs)) ≡ 0 = items_apart q.value p.held p.decoded p.stands (q.value ∷ earlier)
-      (rw (same q.value)) qs r.1 in
+      (rw (same q.value)) (suc i) qs r.1 in
       let n' : occurs k (moved_of (map (entry_for t) qs)) ≡ 0 = rw (eqb-true k j y) n in let z : bit (eqb k j) ≡ 1 = rw y in omega arith)
-      (λ y. let z : bit (eqb k j) ≡ 0 = rw y in omega (arith, items_once (q.value ∷ earlier) qs r.1 k))
+      (λ y. let z : bit (eqb k j) ≡ 0 = rw y in omega (arith, items_once (q.value ∷ earlier) (suc i) qs r.1 k))

@@ -103,7 +103,7 @@ module _ (z : Sizes) (s : State) (w : Good s) where
   -- handles that stand in slots are taken, copies raise counts
   pub claim_good : (b : ℕ) (es : List Entry) → b < s.table_count → is_active (s.tables b).life ≡ true → free_row s ≡ true → id_left s ≡ true → Batch es
       → All (EntryRange s) es → All (Stands (s.tables b).slots) es → ((k : ℕ) → occurs k (moved_of es) ≤ 1)
-      → copies_fault s.objects (copies_of es) ≡ none
+      → copies_fault s.objects 0 es ≡ none
       → ((o : ℕ) → o < s.object_count → 0 < in_handles o (copies_of es) → 1 ≤ (s.objects o).count)
       → Good (add_row (claim b es) (with_objects (with_table s b (keep_all z (λ g. transfer_reserved g s.book.next) (moved_of es) (s.tables b)))
       (change_all raise (copies_of es) s.objects)))
@@ -118,7 +118,7 @@ module _ (z : Sizes) (s : State) (w : Good s) where
       let stood : (k : ℕ) → 0 < occurs k ks → Taken (old k) (given ks hs k) = λ k c. taken old es k stands c in
       let was : (k : ℕ) → 0 < occurs k ks → (bare (old k) ≡ true) × (is_absent (old k) ≡ false) = λ k c. rw (stood k c).stood (refl, refl) in
       let y : Keys false b ks (claim b es) = keys_claim b es in
-      let r = raise_all s.object_count (copies_of es) s.objects w.fit counts fault in
+      let r = raise_all s.object_count es 0 s.objects w.fit counts fault in
       opens_step b false ks (claim b es) y t l lives once was at (change_all raise (copies_of es) s.objects)
       (book_add s w (claim b es) fr id (l, size, range) (not_its s w b a))
       (λ o m. (

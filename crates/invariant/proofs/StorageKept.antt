@@ -128,16 +128,16 @@ module _ (z : Sizes) (sane : Sane z) (s : State) (w : WellFormed z s) where
       checked (at_most (length qs) max_batch) _ tt λ e3.
       checked (free_row s) _ tt λ e4.
       checked (id_left s) _ tt λ e5.
-      after_id (items_fault s t route bo bk [] qs) (λ n e. tt) λ e6.
-      after_id (copies_fault s.objects (copies_of es)) (λ n e. tt) λ e7.
+      after_id (items_fault s t route bo bk [] 0 qs) (λ n e. tt) λ e6.
+      after_id (copies_fault s.objects 0 es) (λ n e. tt) λ e7.
       let m : b < s.table_count = ltb-true b s.table_count l in
       let f : ℕ → Slot = λ g. transfer_reserved g s.book.next in
       accepts (table_kept z s w b (keep_all z f (moved_of es) t) m (keep_all_alike z f (moved_of es) t)
       (order_is z (keep_all z f (moved_of es) t) t.free (keep_all z f (moved_of es) t).free (sym (keep_all_free z f (moved_of es) t))
       (keep_all_sound z sane f (λ g. refl) (λ g. refl) (moved_of es) t t.free (sound_at z s w b m)
-      (λ j k. rw (taken t.slots es j (items_stand s t route bo bk [] qs e6) k).stood)))
+      (λ j k. rw (taken t.slots es j (items_stand s t route bo bk [] 0 qs e6) k).stood)))
       (change_all raise (copies_of es) s.objects) (change_all_rest raise s.object_count (copies_of es) s.objects
-      (copies_range s es (items_range s t route bo bk (w.ranges.tables b m).slots [] qs e6)) w.at_rest.objects) _ _ (opened z s w _ refl tt))
+      (copies_range s es (items_range s t route bo bk (w.ranges.tables b m).slots [] 0 qs e6)) w.at_rest.objects) _ _ (opened z s w _ refl tt))
 
   -- a claim's and a reservation's rows go
   both_ended : (u : State) (v : Kept z s u) (i j : ℕ) (x y : Body) → u.book ≡ s.book → find i s.book.rows ≡ some x → find j s.book.rows ≡ some y

@@ -6,7 +6,7 @@ use Rattle.std.proofs.Common.{ltb-true}
 use Rattle.model.specs.Base.{pick, at_most}
 use Rattle.model.specs.State.{Sizes, Handle, Lifecycle, Lifecycle.active, Lifecycle.tearing_down, Lifecycle.retired, Table, Entry, Body}
 use Rattle.model.specs.State.{Body.reservation, Body.claim, Body.parcel, Body.plan, StorageSnapshot, State, is_active, max_batch}
-use Rattle.model.specs.Request.{Answer}
+use Rattle.model.specs.Request.{Fault, Answer}
 use Rattle.model.specs.Storage.{snapshot_for}
 use Rattle.model.specs.Book.{free_row, id_left, spend_id}
 use Rattle.model.specs.Decision.{Decision, Decision.refusal, Decision.refusal_after_id, Decision.accept, unless◌refuse◌then◌, given◌refuse◌then◌}
@@ -129,9 +129,9 @@ module _ {N R : ℕ → Type 0} {A : State → Answer → Type 0} where
   while_tearing (tearing_down c) r h = h c refl
   while_tearing retired r h = refuses r
 
-  pub after_id : (x : Option ℕ) {d : Decision} → ((n : ℕ) → x ≡ some n → R n) → (x ≡ none → Decided N R A d) → Decided N R A (refuse_after_id x then d)
+  pub after_id : (x : Option Fault) {d : Decision} → ((f : Fault) → x ≡ some f → R f.number) → (x ≡ none → Decided N R A d) → Decided N R A (refuse_after_id x then d)
   after_id none r h = h refl
-  after_id (some n) r h = record { leaves = r n refl }
+  after_id (some f) r h = record { leaves = r f refl }
 
   pub either_way : (x : Bool) {d e : Decision} → (x ≡ true → Decided N R A d) → Decided N R A e → Decided N R A (pick x d e)
   either_way true p q = p refl

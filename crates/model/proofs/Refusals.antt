@@ -1,6 +1,6 @@
 -- Demand 1 on the definitions: "a refused request carries a number from document 01 and changes nothing, save the one reservation id spent by
 -- a transfer preparation refused after its id step".
-use Rattle.std.specs.Prelude.{◌≡◌, Bool, true, false, not, ◌&&◌, ◌||◌, ℕ, length, drop, eqb, ltb}
+use Rattle.std.specs.Prelude.{◌≡◌, Bool, true, false, not, ◌&&◌, ◌||◌, ℕ, suc, length, drop, eqb, ltb}
 use Rattle.std.proofs.Math.Path.{refl}
 use Rattle.std.proofs.Common.{ap}
 use mathlib.Core.List.{List, [], ◌∷◌, map}
@@ -8,9 +8,9 @@ use Rattle.std.proofs.Math.Option.{Option, none, some}
 use Rattle.std.proofs.lemmas.Bool.{not-true}
 use Rattle.authority.specs.Rights.{contains, duplicate_right}
 use Rattle.model.specs.Base.{pick, between, at_most, is_some, member}
-use Rattle.model.specs.State.{Sizes, Handle, Table, Object, State, is_active, max_batch, known_flags}
+use Rattle.model.specs.State.{Sizes, Handle, Table, Object, Entry, Entry.moved, Entry.copied, State, is_active, max_batch, known_flags}
 use Rattle.model.specs.Storage.{is_stale}
-use Rattle.model.specs.Request.{Route, Item, Answer, Answer.refused, Answer.done, Answer.opened, Answer.batch, Answer.info_of, Answer.resolved}
+use Rattle.model.specs.Request.{Route, Item, Fault, Answer, Answer.refused, Answer.done, Answer.opened, Answer.batch, Answer.info_of, Answer.resolved}
 use Rattle.model.specs.Request.{Answer.renewed, Answer.scanned, Answer.removed, Answer.closed, Answer.taken, Answer.planned, Request, Request.new_object}
 use Rattle.model.specs.Request.{Request.duplicate, Request.release_parcel, Request.retire_object, Request.reserve, Request.trim, Request.abort}
 use Rattle.model.specs.Request.{Request.publish, Request.get_info, Request.resolve, Request.replace, Request.close, Request.scan_handles}
@@ -18,7 +18,7 @@ use Rattle.model.specs.Request.{Request.prepare_transfer, Request.prepare_consum
 use Rattle.model.specs.Request.{Request.direct_rollback, Request.remove_stopping_owner, Request.teardown_start, Request.teardown_step}
 use Rattle.model.specs.Request.{Request.teardown_finish, Request.take_empty_page, Request.make_plan, Request.use_plan, Request.drop_plan}
 use Rattle.model.specs.Objects.{is_now_active, is_now_retired, change, raise}
-use Rattle.model.specs.Book.{find, free_row, id_left, any_open, spend_id, copies_of}
+use Rattle.model.specs.Book.{find, free_row, id_left, any_open, spend_id}
 use Rattle.model.specs.Decision.{Decision, Decision.refusal, Decision.refusal_after_id, Decision.accept, as_parcel}
 use Rattle.model.specs.Decision.{handles_of, distinct}
 use Rattle.model.specs.Lookup.{View, View.invalid, View.busy, View.holds, lookup}
@@ -93,11 +93,11 @@ Fits transfer d =
     Decided (λ n. numbered n && not (transfer && judged n) ≡ true) (λ n. transfer && (numbered n && judged n) ≡ true) (λ u a. is_refused a ≡ false) d
 
 -- the faults of a transfer's items and copies are numbered so
-abbrev Faults : Option ℕ → Type 0
+abbrev Faults : Option Fault → Type 0
 Faults none = Unit {0}
-Faults (some n) = numbered n && judged n ≡ true
+Faults (some f) = numbered f.number && judged f.number ≡ true
 
-faults_pick : (b : Bool) (x y : Option ℕ) → Faults x → Faults y → Faults (pick b x y)
+faults_pick : (b : Bool) (x y : Option Fault) → Faults x → Faults y → Faults (pick b x y)
 faults_pick true x y p q = p
 faults_pick false x y p q = q
 
@@ -105,28 +105,29 @@ abbrev AllNumbered : List Check → Type 0
 AllNumbered [] = Unit {0}
 AllNumbered (c ∷ cs) = (numbered c.number && judged c.number ≡ true) × AllNumbered cs
 
-faults_first : (cs : List Check) → AllNumbered cs → Faults (first_fault cs)
-faults_first [] h = tt
-faults_first (c ∷ cs) h = faults_pick c.holds (first_fault cs) (some c.number) (faults_first cs h.1) h.0
+faults_first : (j : ℕ) (cs : List Check) → AllNumbered cs → Faults (first_fault j cs)
+faults_first j [] h = tt
+faults_first j (c ∷ cs) h = faults_pick c.holds (first_fault j cs) (some (record { number = c.number; position = j; place = c.place })) (faults_first j cs h.1) h.0
 
-faults_of : (a b : Option ℕ) → Faults a → Faults b → Faults (first_of a b)
+faults_of : (a b : Option Fault) → Faults a → Faults b → Faults (first_of a b)
 faults_of none b p q = q
-faults_of (some n) b p q = p
+faults_of (some f) b p q = p
 
-faults_items : (s : State) (t : Table) (route : Route) (o k : Option ℕ) (earlier : List ℕ) (qs : List Item) → Faults (items_fault s t route o k earlier qs)
-faults_items s t route o k earlier [] = tt
-faults_items s t route o k earlier (q ∷ qs) =
+faults_items : (s : State) (t : Table) (route : Route) (o k : Option ℕ) (earlier : List ℕ) (j : ℕ) (qs : List Item) → Faults (items_fault s t route o k earlier j qs)
+faults_items s t route o k earlier j [] = tt
+faults_items s t route o k earlier j (q ∷ qs) =
     let cs : List Check = item_checks s route o k earlier q (lookup t q.value) in
-    faults_of (first_fault cs) (items_fault s t route o k (q.value ∷ earlier) qs)
-    (faults_first cs (refl, (refl, (refl, (refl, (refl, (refl, (refl, (refl, (refl, (refl, (refl, tt))))))))))))
-    (faults_items s t route o k (q.value ∷ earlier) qs)
+    faults_of (first_fault j cs) (items_fault s t route o k (q.value ∷ earlier) (suc j) qs)
+    (faults_first j cs (refl, (refl, (refl, (refl, (refl, (refl, (refl, (refl, (refl, (refl, (refl, tt))))))))))))
+    (faults_items s t route o k (q.value ∷ earlier) (suc j) qs)
 
-faults_copies : (os : ℕ → Object) (hs : List Handle) → Faults (copies_fault os hs)
-faults_copies os [] = tt
-faults_copies os (h ∷ hs) =
-    faults_of (first_fault (copy_checks (os h.object))) (copies_fault (change raise os h.object) hs)
-    (faults_first (copy_checks (os h.object)) (refl, (refl, tt)))
-    (faults_copies (change raise os h.object) hs)
+faults_copies : (os : ℕ → Object) (j : ℕ) (es : List Entry) → Faults (copies_fault os j es)
+faults_copies os j [] = tt
+faults_copies os j (moved k h r ∷ es) = faults_copies os (suc j) es
+faults_copies os j (copied h ∷ es) =
+    faults_of (first_fault j (copy_checks (os h.object))) (copies_fault (change raise os h.object) (suc j) es)
+    (faults_first j (copy_checks (os h.object)) (refl, (refl, tt)))
+    (faults_copies (change raise os h.object) (suc j) es)
 
 module _ (z : Sizes) (s : State) where
   pub decide_fits : (r : Request) → Fits (is_transfer r) (decide z s r)
@@ -228,15 +229,14 @@ module _ (z : Sizes) (s : State) where
       accepts refl
   decide_fits (prepare_transfer b route o k qs) =
       let t : Table = s.tables b in
-      let hs : List Handle = copies_of (map (entry_for t) qs) in
       checked (ltb b s.table_count) 18 refl λ e.
       checked (is_active t.life) 16 refl λ e.
       checked (ltb 0 (length qs)) 17 refl λ e.
       checked (at_most (length qs) max_batch) 13 refl λ e.
       checked (free_row s) 1 refl λ e.
       checked (id_left s) 12 refl λ e.
-      after_id (items_fault s t route o k [] qs) (λ n e. rw e at (faults_items s t route o k [] qs)) λ e.
-      after_id (copies_fault s.objects hs) (λ n e. rw e at (faults_copies s.objects hs)) λ e.
+      after_id (items_fault s t route o k [] 0 qs) (λ f e. rw e at (faults_items s t route o k [] 0 qs)) λ e.
+      after_id (copies_fault s.objects 0 (map (entry_for t) qs)) (λ f e. rw e at (faults_copies s.objects 0 (map (entry_for t) qs))) λ e.
       accepts refl
   decide_fits (remove_stopping_owner b c) =
       let t : Table = s.tables b in

@@ -3,7 +3,7 @@ use Rattle.std.specs.Prelude.{Bool, true, false, not, ◌&&◌, List, [], ◌∷
 use Rattle.std.proofs.Math.Option.{Option, none, some}
 use Rattle.model.specs.Base.{pick, member}
 use Rattle.model.specs.State.{Handle, Lifecycle, Lifecycle.active, Lifecycle.tearing_down, Lifecycle.retired, Table, Object, Entry, Body, Body.reservation, Body.claim, Body.parcel, Body.plan, StorageSnapshot, Row, State}
-use Rattle.model.specs.Request.{Answer}
+use Rattle.model.specs.Request.{Fault, Answer}
 use Rattle.model.specs.Book.{find}
 
 -- A request is decided: refused with a number; refused after the id step of a transfer preparation; or accepted, with the state that it
@@ -104,9 +104,9 @@ plan_row◌of◌refuse◌then◌ i s n f = as_plan (find i s.book.rows) n f
 
 infixr 5 refuse_after_id◌then◌
 -- "`prepare_transfer_with_storage` spends its id before it looks at any value": refuse with the number of a fault, if there is one, after the id step
-abbrev pub refuse_after_id◌then◌ : Option ℕ → Decision → Decision
+abbrev pub refuse_after_id◌then◌ : Option Fault → Decision → Decision
 refuse_after_id◌then◌ none d = d
-refuse_after_id◌then◌ (some n) d = refusal_after_id n
+refuse_after_id◌then◌ (some f) d = refusal_after_id f.number
 
 infixr 5 teardown_cursor◌refuse◌then◌
 -- the cursor of a table that is being torn down

@@ -22,6 +22,13 @@ pub record Item : Type 0 where
   pub offered_kind : Option ℕ
   pub expected_kind : Option ℕ
 
+-- where a transfer's checks stop: the number, "the position from 0 of the item where preparation stops (64 where no item is at fault), and the rule's place in
+-- the printed order" (document 02, 4)
+pub record Fault : Type 0 where
+  pub number : ℕ
+  pub position : ℕ
+  pub place : ℕ
+
 -- a request with its fields by the names of docs/formats.md, not always in its order; items stand as a list, without their count
 pub data Request : Type 0 where
   new_object : (object rights flags : ℕ) → Request

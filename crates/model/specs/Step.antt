@@ -22,7 +22,7 @@ use Rattle.model.specs.Effect.{◌setting_table◌to◌, ◌setting_frames◌, �
 use Rattle.model.specs.Decision.{Decision, Decision.refusal, Decision.refusal_after_id, Decision.accept, leave◌answer◌, unless◌leaving◌answering◌then◌, unless◌refuse◌then◌, when◌refuse◌then◌, given◌refuse◌then◌, table◌of◌refuse◌then◌, object◌of◌refuse◌then◌}
 use Rattle.model.specs.Decision.{reservation_row◌of◌refuse◌then◌, claim_row◌of◌refuse◌then◌, parcel_row◌of◌refuse◌then◌, plan_row◌of◌refuse◌then◌, refuse_after_id◌then◌, teardown_cursor◌refuse◌then◌, handles_of, distinct}
 use Rattle.model.specs.Lookup.{handle◌of◌refuse◌or_busy◌then◌, look_at, value_at, handle_or, snapshot_at}
-use Rattle.model.specs.Transfer.{items_fault, copies_fault, entry_for}
+use Rattle.model.specs.Transfer.{all◌then◌, batch_checks, items_fault, copies_fault, transfer_fault, entry_for}
 
 module _ (z : Sizes) where
   -- handles into slots, in order
@@ -235,19 +235,15 @@ module _ (z : Sizes) where
       leave s answer scanned (snapshot_page s t c)
 
   -- "Transfer: 16, 17, 13, 1, 12; then item by item 2 (twice), 2 or 3 (lookup), 5 (rights), 8 (kind), 5 (object), 8 (route), 4; then
-  -- copies 9, 11": the numbers of items and copies stand in `item_checks` and `copy_checks`
+  -- copies 9, 11": the checks, each with its number, stand in `batch_checks`, `item_checks` and `copy_checks`
   unfoldable pub prepare_transfer_of : State → (table_number : ℕ) → Route → (forbidden_object forbidden_kind : Option ℕ) → List Item → Decision
   prepare_transfer_of s b route banned_object banned_kind qs =
       table b of s refuse 18 then λ t.
-      unless is_active t.life refuse 16 then
-      unless ltb 0 (length qs) refuse 17 then
-      unless at_most (length qs) max_batch refuse 13 then
-      unless free_row s refuse 1 then
-      unless id_left s refuse 12 then
-      refuse_after_id items_fault s t route banned_object banned_kind [] qs then
+      all batch_checks s t (length qs) then
+      refuse_after_id items_fault s t route banned_object banned_kind [] 0 qs then
       let i : ℕ = s.book.next in
       let es : List Entry = map (entry_for t) qs in
-      refuse_after_id copies_fault s.objects (copies_of es) then
+      refuse_after_id copies_fault s.objects 0 es then
       leave s
       setting_table b to keep_all z (λ g. transfer_reserved g i) (moved_of es) t
       raising copies_of es

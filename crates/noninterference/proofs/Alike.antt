@@ -3,13 +3,14 @@ use Rattle.std.specs.Prelude.{◌≡◌, Bool, true, false, ◌&&◌, ◌||◌, 
 use Rattle.std.proofs.Math.Path.{refl}
 use Rattle.std.proofs.Common.{sym, ap, ◌∙◌, arith}
 use Rattle.std.proofs.Math.Option.{Option, none, some}
-use borrow.Author.Tests.{ltb-true, eqb-true, eqb-false, lt-ltb, eq-eqb, ne_eqb}
+use borrow.Author.Tests.{ltb-true, eqb-true, eqb-false, lt-ltb, ne_eqb}
 use Rattle.codec.specs.Codec.{decodes, slot_in, generation_in}
 use Rattle.codec.proofs.Laws.{same_value}
 use Rattle.model.specs.Base.{bit, member, occurs}
 use Rattle.model.specs.State.{Sizes, Handle, Slot, Slot.absent, Slot.vacant, Slot.reserved, Slot.transfer_reserved, Slot.occupied, Table, Entry, Entry.moved, Entry.copied, Body, Body.reservation, Body.claim, Body.parcel, Body.plan, StorageSnapshot, State, last_id}
 use Rattle.model.specs.State.{is_active, is_occupied}
 use Rattle.model.specs.Book.{find, free_row, id_left, moved_of, spend_id}
+use Rattle.model.specs.Request.{Fault}
 use Rattle.model.specs.Decision.{Decision, Decision.refusal, Decision.refusal_after_id, Decision.accept, unless◌refuse◌then◌, given◌refuse◌then◌, as_reservation, as_claim, as_plan, reservation_row◌of◌refuse◌then◌, claim_row◌of◌refuse◌then◌, plan_row◌of◌refuse◌then◌, refuse_after_id◌then◌}
 use Rattle.model.specs.Lookup.{View, View.invalid, View.busy, View.holds, view_slot, lookup, on_view, handle_or, kept_for, kept_at, on_look, look_at}
 use Rattle.model.specs.WellFormed.{WellFormed, is_moving_by, in_claim}
@@ -271,9 +272,9 @@ module _ (x : Case) where
   spend_erase = rw (lowered_next t s.book.next below)
 
   -- a fault found after the id step
-  pub faults : {e : Bool} {a a₀ : Option ℕ} (d d₀ : Decision) → a₀ ≡ a → (a ≡ none → Alike e d d₀) → Alike e (refuse_after_id a then d) (refuse_after_id a₀ then d₀)
+  pub faults : {e : Bool} {a a₀ : Option Fault} (d d₀ : Decision) → a₀ ≡ a → (a ≡ none → Alike e d d₀) → Alike e (refuse_after_id a then d) (refuse_after_id a₀ then d₀)
   faults {e} {a} d d₀ p k = rw p (go a refl)
     where
-      go : (w : Option ℕ) → a ≡ w → Alike e (refuse_after_id w then d) (refuse_after_id w then d₀)
+      go : (w : Option Fault) → a ≡ w → Alike e (refuse_after_id w then d) (refuse_after_id w then d₀)
       go none q = k q
-      go (some n) q = record { twin = λ w. refl }
+      go (some f) q = record { twin = λ w. refl }

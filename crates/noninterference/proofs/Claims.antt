@@ -1,5 +1,5 @@
 -- Requests on claims are decided alike.
-use Rattle.std.specs.Prelude.{◌≡◌, true, false, ◌&&◌, ℕ, length, ltb, eqb}
+use Rattle.std.specs.Prelude.{◌≡◌, true, false, ◌&&◌, ℕ, suc, length, ltb, eqb}
 use Rattle.std.proofs.Math.Path.{refl}
 use mathlib.Core.List.{List, [], ◌∷◌, map}
 use Rattle.std.proofs.Math.Option.{Option}
@@ -42,10 +42,10 @@ module _ (x : Case) where
     abbrev y₀ : Table
     y₀ = s₀.tables c
 
-    items_same : (earlier : List ℕ) (qs : List Item) → Clear x.b x.vs c qs
-        → items_fault s₀ y₀ route bo bk earlier qs ≡ items_fault s y route bo bk earlier qs
-    items_same earlier [] n = refl
-    items_same earlier (q ∷ qs) n = rw (lookup_same x c q.value n.0, items_same (q.value ∷ earlier) qs n.1)
+    items_same : (earlier : List ℕ) (j : ℕ) (qs : List Item) → Clear x.b x.vs c qs
+        → items_fault s₀ y₀ route bo bk earlier j qs ≡ items_fault s y route bo bk earlier j qs
+    items_same earlier j [] n = refl
+    items_same earlier j (q ∷ qs) n = rw (lookup_same x c q.value n.0, items_same (q.value ∷ earlier) (suc j) qs n.1)
 
     entries_same : (qs : List Item) → AllName s y route bo bk qs → map (entry_for y₀) qs ≡ map (entry_for y) qs
     entries_same [] n = refl
@@ -54,14 +54,14 @@ module _ (x : Case) where
         rw (e, entries_same qs n.1)
 
     claimed : (xs xs₀ : List Entry) → xs₀ ≡ xs → Alike x true
-        (refuse_after_id copies_fault s.objects (copies_of xs) then accept (add_row (claim c xs) (with_objects (with_table s c
+        (refuse_after_id copies_fault s.objects 0 xs then accept (add_row (claim c xs) (with_objects (with_table s c
         (keep_all x.z (λ g. transfer_reserved g s.book.next) (moved_of xs) y)) (change_all raise (copies_of xs) s.objects)))
         (opened s.book.next))
-        (refuse_after_id copies_fault s₀.objects (copies_of xs₀) then accept (add_row (claim c xs₀) (with_objects (with_table s₀ c
+        (refuse_after_id copies_fault s₀.objects 0 xs₀ then accept (add_row (claim c xs₀) (with_objects (with_table s₀ c
         (keep_all x.z (λ g. transfer_reserved g s₀.book.next) (moved_of xs₀) y₀)) (change_all raise (copies_of xs₀) s₀.objects)))
         (opened s₀.book.next))
     claimed xs xs₀ e = rw e (
-        faults x {a = copies_fault s.objects (copies_of xs)} _ _ refl λ q.
+        faults x {a = copies_fault s.objects 0 xs} _ _ refl λ q.
         changes x c (all_marked x (moved_of xs) y) (added x _ (same_book x)) refl refl)
 
     pub alike_prepare_transfer : (qs : List Item) → Clear x.b x.vs c qs
@@ -74,8 +74,8 @@ module _ (x : Case) where
         check x (at_most (length qs) max_batch) 13 λ q.
         row_left_law x (
         id_left_law x (
-        faults x _ _ (items_same [] qs n) λ q.
-        claimed (map (entry_for y) qs) (map (entry_for y₀) qs) (entries_same qs (all_name s y route bo bk [] qs q))))
+        faults x _ _ (items_same [] 0 qs n) λ q.
+        claimed (map (entry_for y) qs) (map (entry_for y₀) qs) (entries_same qs (all_name s y route bo bk [] 0 qs q))))
 
   pub alike_prepare_consumption : (c v r kind koid : ℕ) → (eqb c x.b && member v x.vs) ≡ false
       → Alike x true (prepare_consumption_of x.z s c v r kind koid) (prepare_consumption_of x.z s₀ c v r kind koid)

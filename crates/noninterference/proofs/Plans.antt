@@ -11,7 +11,7 @@ use Rattle.model.specs.State.{is_active, max_batch}
 use Rattle.model.specs.Storage.{is_stale}
 use Rattle.model.specs.Change.{with_table, with_objects}
 use Rattle.model.specs.Request.{Route, Item, Request, Request.close, Request.prepare_transfer, Request.prepare_consumption, Request.rollback, Request.commit, Answer, Answer.opened}
-use Rattle.model.specs.Book.{find, drop_id, swap_id, add_row, spend_id, free_row, id_left, moved_of, copies_of, sent_of}
+use Rattle.model.specs.Book.{find, drop_id, swap_id, add_row, spend_id, free_row, id_left, moved_of, sent_of}
 use Rattle.model.specs.Decision.{Decision}
 use Rattle.model.proofs.Decided.{Decided, Any, accepts, checked, with_handle, with_view, with_claim, after_id, carried}
 use Rattle.model.specs.Lookup.{lookup}
@@ -94,8 +94,8 @@ module _ (z : Sizes) (s : State) where
       checked (at_most (length qs) max_batch) 13 tt λ p.
       checked (free_row s) 1 tt λ p.
       checked (id_left s) 12 tt λ p.
-      after_id (items_fault s y route bo bk [] qs) (λ n e. tt) λ p.
-      after_id (copies_fault s.objects (copies_of es)) (λ n e. tt) λ p.
+      after_id (items_fault s y route bo bk [] 0 qs) (λ n e. tt) λ p.
+      after_id (copies_fault s.objects 0 es) (λ n e. tt) λ p.
       accepts (claims b _ _ _ (storage_keep_all z (λ g. transfer_reserved g s.book.next) (moved_of es) y))
 
   consumes : (b v r kind koid : ℕ) → Left (prepare_consumption_of z s b v r kind koid)

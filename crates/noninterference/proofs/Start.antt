@@ -6,7 +6,7 @@ use mathlib.Core.List.{List, [], ◌∷◌, map}
 use Rattle.std.proofs.Math.Option.{Option, none, some}
 use borrow.Author.Tests.{ltb-true, ltb-false, eqb-true, eq-eqb, ne_eqb, not-true}
 use Rattle.codec.specs.Codec.{slot_in, generation_in}
-use Rattle.model.specs.Base.{bit, put, every, occurs, at_most}
+use Rattle.model.specs.Base.{put, every, occurs, at_most}
 use Rattle.model.specs.State.{Sizes, Slot, Slot.absent, Slot.vacant, Slot.reserved, Slot.transfer_reserved, Slot.occupied, Table, Entry, Body.claim, State}
 use Rattle.model.specs.State.{generation, is_active, max_batch}
 use Rattle.model.specs.Storage.{place, keep, keep_all}
@@ -214,9 +214,9 @@ module _ (z : Sizes) (s : State) (w : WellFormed z s) where
         checked (at_most (length qs) max_batch) 13 tt λ q.
         checked (free_row s) 1 tt λ q.
         checked (id_left s) 12 tt λ q.
-        after_id (items_fault s y route bo bk [] qs) (λ m e. tt) λ q.
-        after_id (copies_fault s.objects (copies_of (entries qs))) (λ m e. tt) λ r.
-        accepts λ e. f (ltb-true b s.table_count l) a (all_name s y route bo bk [] qs q) (let i : n ≡ t = cc in i))
+        after_id (items_fault s y route bo bk [] 0 qs) (λ m e. tt) λ q.
+        after_id (copies_fault s.objects 0 (entries qs)) (λ m e. tt) λ r.
+        accepts λ e. f (ltb-true b s.table_count l) a (all_name s y route bo bk [] 0 qs q) (let i : n ≡ t = cc in i))
 
     pub opens : (qs : List Item) → every is_move qs ≡ true → (t : ℕ) → (step z s (prepare_transfer b route bo bk qs)).1 ≡ opened t
         → WellFormed z (step z s (prepare_transfer b route bo bk qs)).0

@@ -222,8 +222,8 @@ module _ (t : ℕ) where
         checked (at_most (length qs) max_batch) 13 tt λ e.
         checked (free_row s) 1 tt λ e.
         checked (id_left s) 12 tt λ e.
-        after_id (items_fault s y route o k [] qs) (λ m e. tt) λ e.
-        after_id (copies_fault s.objects (copies_of es)) (λ m e. tt) λ e.
+        after_id (items_fault s y route o k [] 0 qs) (λ m e. tt) λ e.
+        after_id (copies_fault s.objects 0 es) (λ m e. tt) λ e.
         accepts (adds (changes_all (sets still b _ (stems_keep_all t z (λ g. transfer_reserved g s.book.next) bare (moved_of es) y)) raise raises (copies_of es)) _ fresh)
     decide_stays (prepare_consumption b v r kind koid) n =
         checked (ltb b s.table_count) 18 tt λ e.

@@ -64,7 +64,7 @@ step_is f ws sh o x y vs e a b c = c ∙ ap (λ (z : ObjectRecord). writes ws sh
 
 -- ---- refusals of one handle more
 
--- "9, 11" of a copy, beside `copy_checks` of the model; 0 for none
+-- "9, 11" of a duplicate; 0 for none
 unfoldable pub raise_refusal : Mem → ℕ → ℕ
 raise_refusal m o =
     pick (eqb (record_at m o).stage stage_retired) 9

@@ -1,8 +1,9 @@
 // Objects: records by value, a lent list of them that is updated by number, and the same over the state's words.
 #![tactic(auto)]
 
-ghost use Rattle.std.specs.Prelude.{◌≡◌};
+ghost use Rattle.std.specs.Prelude.{◌≡◌, eqb};
 ghost use Rattle.layout.specs.Layout.{load as loadAt, writes};
+ghost use Rattle.layout.specs.Values.{stage_retired};
 ghost use Rattle.format.specs.Refusals.{number_of};
 ghost use Rattle.object.specs.Record.{activated_by, raised_by, lowered_by, retired_by, count_in, list_by, answer_by, Stepped};
 ghost use Rattle.object.specs.Words.{record_at, standing_at, record_p, activate_w, raise_w, lower_w, retire_w, raise_refusal, WordsStepped};
@@ -209,18 +210,32 @@ pub fn retire_object(s: &mut [u64], sh: Shape, o: u64)
     step_object(s, sh, o, ObjectRecord::retired);
 }
 
-// "9, 11" of a copy: whether object o can get one handle more.
-#[tactic(auto, unfolding(crate::specs::Words::raise_refusal, crate::specs::Words::record_at))]
+// Whether object o is retired.
+#[tactic(auto, unfolding(crate::specs::Words::record_at))]
+pub fn is_retired(s: &[u64], sh: Shape, o: u64) -> bool
+    ensures { result ≡ eqb (record_at (loadAt s.now sh) o).stage stage_retired }
+{
+    layout::object_word(s, sh, o, field::OBJECT_STAGE) == value::STAGE_RETIRED
+}
+
+// Whether object o has as many handles as it may.
+#[tactic(auto, unfolding(crate::specs::Words::record_at))]
+pub fn is_full(s: &[u64], sh: Shape, o: u64) -> bool
+    ensures { result ≡ eqb (record_at (loadAt s.now sh) o).count (record_at (loadAt s.now sh) o).limit }
+{
+    layout::object_word(s, sh, o, field::OBJECT_ACTIVE)
+        == layout::object_word(s, sh, o, field::OBJECT_LIMIT)
+}
+
+// "9, 11" of a duplicate: whether object o can get one handle more.
+#[tactic(auto, unfolding(crate::specs::Words::raise_refusal))]
 pub fn may_raise(s: &[u64], sh: Shape, o: u64) -> Result<(), Refusal>
     ensures { number_of result ≡ raise_refusal (loadAt s.now sh) o }
 {
-    let stage = layout::object_word(s, sh, o, field::OBJECT_STAGE);
-    if stage == value::STAGE_RETIRED {
+    if is_retired(s, sh, o) {
         return Err(Refusal::ObjectRetired);
     }
-    let count = layout::object_word(s, sh, o, field::OBJECT_ACTIVE);
-    let limit = layout::object_word(s, sh, o, field::OBJECT_LIMIT);
-    if count == limit {
+    if is_full(s, sh, o) {
         return Err(Refusal::ActiveHandleLimit);
     }
     Ok(())

@@ -125,15 +125,14 @@ module _ (z : Sizes) (s : State) where
       accepts refl
   decide_gives (prepare_transfer b route o k qs) =
       let t : Table = s.tables b in
-      let hs : List Handle = copies_of (map (entry_for t) qs) in
       checked (ltb b s.table_count) 18 tt λ e.
       checked (is_active t.life) 16 tt λ e.
       checked (ltb 0 (length qs)) 17 tt λ e.
       checked (at_most (length qs) max_batch) 13 tt λ e.
       checked (free_row s) 1 tt λ e.
       checked (id_left s) 12 tt λ e.
-      after_id (items_fault s t route o k [] qs) (λ n e. tt) λ e.
-      after_id (copies_fault s.objects hs) (λ n e. tt) λ e.
+      after_id (items_fault s t route o k [] 0 qs) (λ n e. tt) λ e.
+      after_id (copies_fault s.objects 0 (map (entry_for t) qs)) (λ n e. tt) λ e.
       accepts refl
   decide_gives (remove_stopping_owner b c) =
       let t : Table = s.tables b in
@@ -181,15 +180,14 @@ module _ (z : Sizes) (s : State) where
   unfolding decide prepare_transfer_of
   prepare_opens b route o k qs =
       let t : Table = s.tables b in
-      let hs : List Handle = copies_of (map (entry_for t) qs) in
       checked (ltb b s.table_count) 18 tt λ e.
       checked (is_active t.life) 16 tt λ e.
       checked (ltb 0 (length qs)) 17 tt λ e.
       checked (at_most (length qs) max_batch) 13 tt λ e.
       checked (free_row s) 1 tt λ e.
       checked (id_left s) 12 tt λ e.
-      after_id (items_fault s t route o k [] qs) (λ n e. tt) λ e.
-      after_id (copies_fault s.objects hs) (λ n e. tt) λ e.
+      after_id (items_fault s t route o k [] 0 qs) (λ n e. tt) λ e.
+      after_id (copies_fault s.objects 0 (map (entry_for t) qs)) (λ n e. tt) λ e.
       accepts refl
 
   pub prepare_answers : (b : ℕ) (route : Route) (o k : Option ℕ) (qs : List Item) → is_refused (step z s (prepare_transfer b route o k qs)).1 ≡ false

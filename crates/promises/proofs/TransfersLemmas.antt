@@ -316,8 +316,8 @@ module _ (z : Sizes) (s : State) (w : WellFormed z s) where
       checked (at_most (length qs) max_batch) _ tt λ e.
       checked (free_row s) _ tt λ e.
       checked (id_left s) _ tt λ e.
-      after_id (items_fault s t route bo bk [] qs) (λ n e. tt) λ f.
-      after_id (copies_fault s.objects (copies_of (map (entry_for t) qs))) (λ n e. tt) λ e.
+      after_id (items_fault s t route bo bk [] 0 qs) (λ n e. tt) λ f.
+      after_id (copies_fault s.objects 0 (map (entry_for t) qs)) (λ n e. tt) λ e.
       accepts (record {
         es = map (entry_for t) qs;
         answer = refl;
@@ -325,8 +325,8 @@ module _ (z : Sizes) (s : State) (w : WellFormed z s) where
         marked = λ c. refl;
         within = ltb-true b s.table_count l;
         live = a;
-        once = items_once s t route bo bk [] qs f;
-        stood = λ k c. let x = taken t.slots (map (entry_for t) qs) k (items_stand s t route bo bk [] qs f) c in
+        once = items_once s t route bo bk [] 0 qs f;
+        stood = λ k c. let x = taken t.slots (map (entry_for t) qs) k (items_stand s t route bo bk [] 0 qs f) c in
             (x.held, own_generation (t.slots k) x.gen x.held x.stood);
         values_are = moves_are s t route bo bk qs (all_name s t route bo bk [] qs f);
       })

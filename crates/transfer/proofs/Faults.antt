@@ -9,11 +9,11 @@ use Rattle.authority.specs.Rights.{contains, duplicate_right, transfer_right}
 use Rattle.codec.specs.Codec.{decodes, slot_in, generation_in}
 use Rattle.model.specs.Base.{or_else, agrees, bans, member}
 use Rattle.model.specs.State.{till, Handle, Slot, Slot.absent, Slot.vacant, Slot.reserved, Slot.transfer_reserved, Slot.occupied, Table, Class, Class.leaf, Class.rendezvous_only, Class.never, Object, State}
-use Rattle.model.specs.Request.{Route, Item}
+use Rattle.model.specs.Request.{Route, Item, Fault}
 use Rattle.model.specs.Words.{route_of}
 use Rattle.model.specs.Objects.{is_now_retired}
 use Rattle.model.specs.Lookup.{View as Named, View.invalid, View.busy, View.holds, view_slot, lookup}
-use Rattle.model.specs.Transfer.{Check, ◌or◌, first_fault, permits, is_copy, is_known, is_busy_now, held_in, item_checks, copy_checks, first_of, items_fault, entry_by, entry_for}
+use Rattle.model.specs.Transfer.{Check, ◌or◌at◌, first_fault, permits, is_copy, is_known, is_busy_now, held_in, item_checks, copy_checks, first_of, items_fault, entry_by, entry_for}
 use Rattle.model.specs.WellFormed.{WellFormed, All}
 use Rattle.model.proofs.Tests.{apart}
 use Rattle.invariant.proofs.Items.{stands_at, fault_head, held_view, both_none}
@@ -21,7 +21,7 @@ use Rattle.layout.specs.declared.Shape.{Shape}
 use Rattle.layout.specs.Layout.{Mem}
 use Rattle.representation.specs.Represents.{class_word, ObjectIs, Represents}
 use Rattle.representation.specs.Told.{retired_tells}
-use Rattle.object.specs.Words.{record_at, raise_refusal}
+use Rattle.object.specs.Words.{record_at}
 use Rattle.lookup.specs.declared.PreparedHandle.{PreparedHandle}
 use Rattle.lookup.specs.View.{View}
 use Rattle.lookup.specs.View.{View.Invalid, View.Busy, View.Holds}
@@ -29,44 +29,49 @@ use Rattle.lookup.specs.View.{view_of, handle_of, named}
 use Rattle.lookup.specs.Named.{view_is, view_found}
 use Rattle.lookup.specs.Read.{object_known}
 use Rattle.object.specs.Reps.{stage_is, count_is, limit_is}
-use Rattle.transfer.specs.Checks.{route_bars, rights_refusal, object_refusal, handle_refusal, view_refusal, item_refusal, items_refusal}
+use Rattle.transfer.specs.Checks.{Stop, stop, passed, route_bars, rights_stop, object_stop, handle_stop, view_stop, item_stop, copy_stop, no_fault, in_position, items_stop}
 
--- a number tells a fault: 0 for none
-abbrev pub Tells : Option ℕ → ℕ → Type 0
-Tells none n = n ≡ 0
-Tells (some k) n = (n ≡ k) × (0 < n)
+-- the words tell a fault, or none
+abbrev pub Tells : Option Fault → Fault → Type 0
+Tells none g = g ≡ no_fault
+Tells (some f) g = (g ≡ f) × (0 < f.number)
 
--- one check after another
-tells_then : (f g : Option ℕ) (n r : ℕ) → Tells f n → Tells g r → Tells (first_of f g) (pick (eqb n 0) r n)
-tells_then none g n r p q = rw p q
-tells_then (some k) g n r p q = rw (ne_eqb n 0 (λ z. omega (arith, p.1))) p
+-- a stop tells the fault of the item in a position, or none
+abbrev pub StopTells : ℕ → Option Fault → Stop → Type 0
+StopTells j none x = x ≡ passed
+StopTells j (some f) x = (in_position j x ≡ f) × (0 < x.number)
+
+-- one item's checks after another's
+tells_then : (j : ℕ) (f g : Option Fault) (x : Stop) (r : Fault) → StopTells j f x → Tells g r → Tells (first_of f g) (pick (eqb x.number 0) r (in_position j x))
+tells_then j none g x r p q = rw p q
+tells_then j (some f) g x r p q = rw (← p.0, ne_eqb x.number 0 (λ z. omega (arith, p.1))) (refl, p.1)
 
 -- ---- an item
 
 -- the rights, then the object; d holds where no copy lacks DUPLICATE
-abbrev rights_by : Bool → Bool → Bool → Bool → ℕ
-rights_by t d a c = pick (not t) 5 (pick (not d) 5 (pick (not a) 5 (pick (not c) 5 0)))
+abbrev rights_by : Bool → Bool → Bool → Bool → Stop
+rights_by t d a c = pick (not t) (stop 5 8) (pick (not d) (stop 5 9) (pick (not a) (stop 5 10) (pick (not c) (stop 5 11) passed)))
 
-abbrev object_by : Bool → Bool → Bool → Bool → Bool → ℕ
-object_by k o p f g = pick k 8 (pick o 5 (pick (not p) 8 (pick (not f) 4 (pick (not g) 4 0))))
+abbrev object_by : Bool → Bool → Bool → Bool → Bool → Stop
+object_by k o p f g = pick k (stop 8 12) (pick o (stop 5 13) (pick (not p) (stop 8 14) (pick (not f) (stop 4 15) (pick (not g) (stop 4 15) passed))))
 
 abbrev checks_by : Bool → Bool → Bool → Bool → Bool → Bool → Bool → Bool → Bool → Bool → List Check
 checks_by m t d a c k o p f g =
-    not m or 2 ∷ true or 0 ∷ t or 5 ∷ d or 5 ∷ a or 5 ∷ c or 5 ∷ not k or 8 ∷ not o or 5 ∷ p or 8 ∷ (f && g) or 4 ∷ []
+    not m or 2 at 6 ∷ true or 0 at 7 ∷ t or 5 at 8 ∷ d or 5 at 9 ∷ a or 5 at 10 ∷ c or 5 at 11 ∷ not k or 8 at 12 ∷ not o or 5 at 13 ∷ p or 8 at 14 ∷ (f && g) or 4 at 15 ∷ []
 
-checks_tell : (m t d a c k o p f g : Bool)
-    → Tells (first_fault (checks_by m t d a c k o p f g)) (pick m 2 (pick (eqb (rights_by t d a c) 0) (object_by k o p f g) (rights_by t d a c)))
-checks_tell true t d a c k o p f g = (refl, omega arith)
-checks_tell false false d a c k o p f g = (refl, omega arith)
-checks_tell false true false a c k o p f g = (refl, omega arith)
-checks_tell false true true false c k o p f g = (refl, omega arith)
-checks_tell false true true true false k o p f g = (refl, omega arith)
-checks_tell false true true true true true o p f g = (refl, omega arith)
-checks_tell false true true true true false true p f g = (refl, omega arith)
-checks_tell false true true true true false false false f g = (refl, omega arith)
-checks_tell false true true true true false false true false g = (refl, omega arith)
-checks_tell false true true true true false false true true false = (refl, omega arith)
-checks_tell false true true true true false false true true true = refl
+checks_tell : (j : ℕ) (m t d a c k o p f g : Bool)
+    → StopTells j (first_fault j (checks_by m t d a c k o p f g)) (pick m (stop 2 6) (pick (eqb (rights_by t d a c).number 0) (object_by k o p f g) (rights_by t d a c)))
+checks_tell j true t d a c k o p f g = (refl, omega arith)
+checks_tell j false false d a c k o p f g = (refl, omega arith)
+checks_tell j false true false a c k o p f g = (refl, omega arith)
+checks_tell j false true true false c k o p f g = (refl, omega arith)
+checks_tell j false true true true false k o p f g = (refl, omega arith)
+checks_tell j false true true true true true o p f g = (refl, omega arith)
+checks_tell j false true true true true false true p f g = (refl, omega arith)
+checks_tell j false true true true true false false false f g = (refl, omega arith)
+checks_tell j false true true true true false false true false g = (refl, omega arith)
+checks_tell j false true true true true false false true true false = (refl, omega arith)
+checks_tell j false true true true true false false true true true = refl
 
 denied_is : (c d : Bool) → (c && not d) ≡ not (not c || d)
 denied_is true true = refl
@@ -95,25 +100,25 @@ module _ (m : Mem) (o : ℕ) (x : Object) (q : ObjectIs m o x) where
   class_at = q.class
 
 -- THE CHECKS OF A COPY are the model's
-raise_by : (r l : Bool) → Tells (first_fault (not r or 9 ∷ not l or 11 ∷ [])) (pick r 9 (pick l 11 0))
-raise_by true l = (refl, omega arith)
-raise_by false true = (refl, omega arith)
-raise_by false false = refl
+copy_by : (j : ℕ) (r l : Bool) → StopTells j (first_fault j (not r or 9 at 16 ∷ not l or 11 at 17 ∷ [])) (pick r (stop 9 16) (pick l (stop 11 17) passed))
+copy_by j true l = (refl, omega arith)
+copy_by j false true = (refl, omega arith)
+copy_by j false false = refl
 
-pub raise_tells : (m : Mem) (o : ℕ) (x : Object) → ObjectIs m o x → Tells (first_fault (copy_checks x)) (raise_refusal m o)
-unfolding raise_refusal
-raise_tells m o x q = rw (stage_is m o x q, retired_tells x.stage, count_is m o x q, limit_is m o x q) (raise_by (is_now_retired x.stage) (eqb x.count x.limit))
+pub copy_tells : (m : Mem) (o : ℕ) (x : Object) → ObjectIs m o x → (j : ℕ) → StopTells j (first_fault j (copy_checks x)) (copy_stop m o)
+unfolding copy_stop
+copy_tells m o x q j = rw (stage_is m o x q, retired_tells x.stage, count_is m o x q, limit_is m o x q) (copy_by j (is_now_retired x.stage) (eqb x.count x.limit))
 
 module _ (sh : Shape) (m : Mem) (s : State) (r : Represents sh m s) (w : WellFormed till s) (b : ℕ) (l : b < s.table_count) (route : ℕ) (bo bk : Option ℕ) where
   abbrev t : Table
   t = s.tables b
 
   -- the checks of a handle, by tests
-  handle_is : (h : PreparedHandle) (q : Item) (x : Object) → ObjectIs m h.object x → handle_refusal m h route bo bk q
-      ≡ (let n : ℕ = rights_by (contains h.rights transfer_right) (not (is_copy q.operation) || contains h.rights duplicate_right)
+  handle_is : (h : PreparedHandle) (q : Item) (x : Object) → ObjectIs m h.object x → handle_stop m h route bo bk q
+      ≡ (let n : Stop = rights_by (contains h.rights transfer_right) (not (is_copy q.operation) || contains h.rights duplicate_right)
       (contains h.rights (or_else q.offered_rights h.rights)) (contains (or_else q.offered_rights h.rights) q.rights) in
-      pick (eqb n 0) (object_by (bans bk x.kind) (bans bo x.koid) (permits (route_of route) x.class) (agrees q.offered_kind x.kind) (agrees q.expected_kind x.kind)) n)
-  unfolding handle_refusal rights_refusal object_refusal
+      pick (eqb n.number 0) (object_by (bans bk x.kind) (bans bo x.koid) (permits (route_of route) x.class) (agrees q.offered_kind x.kind) (agrees q.expected_kind x.kind)) n)
+  unfolding handle_stop rights_stop object_stop
   handle_is h q x i = rw (
     denied_is (is_copy q.operation) (contains h.rights duplicate_right),
     kind_at m h.object x i,
@@ -123,29 +128,30 @@ module _ (sh : Shape) (m : Mem) (s : State) (r : Represents sh m s) (w : WellFor
   )
 
   -- by what the item's value names
-  view_tells : (earlier : List ℕ) (q : Item) (x : View) → view_of m b q.value ≡ x
-      → Tells (first_fault (item_checks s (route_of route) bo bk earlier q (named x))) (pick (member q.value earlier) 2 (view_refusal m route bo bk q x))
-  view_tells earlier q Invalid e = bool (member q.value earlier) (λ d. rw d (refl, omega arith)) (λ d. rw d (refl, omega arith))
-  view_tells earlier q Busy e = bool (member q.value earlier) (λ d. rw d (refl, omega arith)) (λ d. rw d (refl, omega arith))
-  view_tells earlier q (Holds h) e =
+  view_tells : (earlier : List ℕ) (j : ℕ) (q : Item) (x : View) → view_of m b q.value ≡ x
+      → StopTells j (first_fault j (item_checks s (route_of route) bo bk earlier q (named x))) (pick (member q.value earlier) (stop 2 6) (view_stop m route bo bk q x))
+  view_tells earlier j q Invalid e = bool (member q.value earlier) (λ d. rw d (refl, omega arith)) (λ d. rw d (refl, omega arith))
+  view_tells earlier j q Busy e = bool (member q.value earlier) (λ d. rw d (refl, omega arith)) (λ d. rw d (refl, omega arith))
+  view_tells earlier j q (Holds h) e =
       let o : ℕ = h.object in
       let x : Object = s.objects o in
       let i : ObjectIs m h.object (s.objects h.object) = r.objects h.object (object_known s w b l h.slot h.generation (handle_of h) (view_found m b t (r.tables b l) q.value h e)) in
-      rw (handle_is h q x i) (checks_tell (member q.value earlier) (contains h.rights transfer_right) (not (is_copy q.operation) || contains h.rights duplicate_right)
+      rw (handle_is h q x i) (checks_tell j (member q.value earlier) (contains h.rights transfer_right) (not (is_copy q.operation) || contains h.rights duplicate_right)
       (contains h.rights (or_else q.offered_rights h.rights)) (contains (or_else q.offered_rights h.rights) q.rights)
       (bans bk x.kind) (bans bo x.koid) (permits (route_of route) x.class) (agrees q.offered_kind x.kind) (agrees q.expected_kind x.kind))
 
-  item_tells : (earlier : List ℕ) (q : Item) → Tells (first_fault (item_checks s (route_of route) bo bk earlier q (lookup t q.value))) (item_refusal m b route bo bk earlier q)
-  unfolding item_refusal
-  item_tells earlier q = rw (← view_is m b t (r.tables b l) q.value) (view_tells earlier q (view_of m b q.value) refl)
+  item_tells : (earlier : List ℕ) (j : ℕ) (q : Item)
+      → StopTells j (first_fault j (item_checks s (route_of route) bo bk earlier q (lookup t q.value))) (item_stop m b route bo bk earlier q)
+  unfolding item_stop
+  item_tells earlier j q = rw (← view_is m b t (r.tables b l) q.value) (view_tells earlier j q (view_of m b q.value) refl)
 
   -- THE CHECKS OF THE ITEMS are the model's
-  pub items_tell : (earlier : List ℕ) (qs : List Item) → Tells (items_fault s t (route_of route) bo bk earlier qs) (items_refusal m b route bo bk earlier qs)
-  unfolding items_refusal
-  items_tell earlier [] = refl
-  items_tell earlier (q ∷ qs) =
-      tells_then (first_fault (item_checks s (route_of route) bo bk earlier q (lookup t q.value))) (items_fault s t (route_of route) bo bk (q.value ∷ earlier) qs)
-      (item_refusal m b route bo bk earlier q) (items_refusal m b route bo bk (q.value ∷ earlier) qs) (item_tells earlier q) (items_tell (q.value ∷ earlier) qs)
+  pub items_tell : (earlier : List ℕ) (j : ℕ) (qs : List Item) → Tells (items_fault s t (route_of route) bo bk earlier j qs) (items_stop m b route bo bk earlier j qs)
+  unfolding items_stop
+  items_tell earlier j [] = refl
+  items_tell earlier j (q ∷ qs) =
+      tells_then j (first_fault j (item_checks s (route_of route) bo bk earlier q (lookup t q.value))) (items_fault s t (route_of route) bo bk (q.value ∷ earlier) (suc j) qs)
+      (item_stop m b route bo bk earlier q) (items_stop m b route bo bk (q.value ∷ earlier) (suc j) qs) (item_tells earlier j q) (items_tell (q.value ∷ earlier) (suc j) qs)
 
 -- ---- items without fault
 
@@ -179,13 +185,13 @@ entry_of : (t : Table) (q : Item) (k g : ℕ) (h : Handle) → k ≡ slot_in t.m
 entry_of t q k g h e d = rw (← e, d)
 
 module _ (s : State) (t : Table) (route : Route) (bo bk : Option ℕ) where
-  found_one : (earlier : List ℕ) (q : Item) → first_fault (item_checks s route bo bk earlier q (lookup t q.value)) ≡ none → Found t q
-  found_one earlier q e =
+  found_one : (earlier : List ℕ) (j : ℕ) (q : Item) → first_fault j (item_checks s route bo bk earlier q (lookup t q.value)) ≡ none → Found t q
+  found_one earlier j q e =
       let w : Named = lookup t q.value in
       let cs : List Check = item_checks s route bo bk earlier q w in
-      let once = fault_head (not (member q.value earlier) or 2) (drop 1 cs) e in
-      let found = fault_head (is_known w or 2) (drop 2 cs) once.1 in
-      let idle = fault_head (not (is_busy_now w) or 3) (drop 3 cs) found.1 in
+      let once = fault_head j (not (member q.value earlier) or 2 at 6) (drop 1 cs) e in
+      let found = fault_head j (is_known w or 2 at 7) (drop 2 cs) once.1 in
+      let idle = fault_head j (not (is_busy_now w) or 3 at 7) (drop 3 cs) found.1 in
       let v = held_view w found.0 idle.0 in
       let k : ℕ = v.0 in let h : Handle = held_in w in
       let st = stands_at t q.value v.0 (held_in w) v.1 in
@@ -198,8 +204,8 @@ module _ (s : State) (t : Table) (route : Route) (bo bk : Option ℕ) where
         entry = entry_of t q v.0 (generation_in t.mask q.value) (held_in w) (slot_of t q.value v.0 (held_in w) v.1) st;
       }
 
-  pub found_all : (earlier : List ℕ) (qs : List Item) → items_fault s t route bo bk earlier qs ≡ none → All (Found t) qs
-  found_all earlier [] e = tt
-  found_all earlier (q ∷ qs) e =
-      let r = both_none (first_fault (item_checks s route bo bk earlier q (lookup t q.value))) (items_fault s t route bo bk (q.value ∷ earlier) qs) e in
-      (found_one earlier q r.0, found_all (q.value ∷ earlier) qs r.1)
+  pub found_all : (earlier : List ℕ) (j : ℕ) (qs : List Item) → items_fault s t route bo bk earlier j qs ≡ none → All (Found t) qs
+  found_all earlier j [] e = tt
+  found_all earlier j (q ∷ qs) e =
+      let r = both_none (first_fault j (item_checks s route bo bk earlier q (lookup t q.value))) (items_fault s t route bo bk (q.value ∷ earlier) (suc j) qs) e in
+      (found_one earlier j q r.0, found_all (q.value ∷ earlier) (suc j) qs r.1)

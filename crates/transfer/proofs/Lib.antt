@@ -3,4 +3,5 @@ pub mod Consumption
 pub mod Faults
 pub mod Raised
 pub mod Entries
+pub mod Tried
 pub mod Prepared

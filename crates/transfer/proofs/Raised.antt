@@ -2,7 +2,7 @@
 -- Assumes nothing.
 use Rattle.std.specs.Prelude.{◌≡◌, length, get_or, eqb, ltb}
 use Rattle.std.proofs.Math.Path.{refl, ap, fun_ext}
-use Rattle.std.proofs.Common.{sym, ◌∙◌, ⊎_elim}
+use Rattle.std.proofs.Common.{sym, ◌∙◌, ⊎_elim, append_assoc, append-nil}
 use mathlib.Core.List.{List, [], ◌∷◌, ◌++◌, map}
 use Rattle.std.proofs.Math.Option.{Option, none, some}
 use Prim.Native.Nat.{ℕ, zero, suc, ◌+◌, ◌-◌, ◌≤◌, ◌<◌}
@@ -12,7 +12,7 @@ use Rattle.words.specs.Pick.{bool}
 use Rattle.model.specs.Base.{bit}
 use Rattle.model.specs.State.{till, Handle, Table, Object, Entry, Entry.moved, Entry.copied, State, max_objects}
 use Rattle.model.specs.Change.{with_objects}
-use Rattle.model.specs.Request.{Operation, Operation.as_move, Operation.as_copy, Item}
+use Rattle.model.specs.Request.{Operation, Operation.as_move, Operation.as_copy, Item, Fault}
 use Rattle.model.specs.Objects.{with_count, raise, lower, change, change_all, is_now_retired, with_rights}
 use Rattle.model.specs.Book.{copies_of}
 use Rattle.model.specs.Lookup.{View.holds}
@@ -28,7 +28,7 @@ use Rattle.storage.specs.Order.{same?}
 use Rattle.storage.specs.Ops.{up}
 use Rattle.storage.specs.Reps.{Held}
 use Rattle.object.specs.declared.ObjectRecord.{ObjectRecord}
-use Rattle.object.specs.Words.{record_at, record_p, step_w, raise_w, lower_w, raise_refusal}
+use Rattle.object.specs.Words.{record_at, record_p, step_w, raise_w, lower_w}
 use Rattle.object.specs.Record.{raised_by, lowered_by}
 use Rattle.object.specs.Reps.{step_length, step_only, raise_held, lower_held, limit_room}
 use Rattle.lookup.specs.declared.PreparedHandle.{PreparedHandle}
@@ -37,8 +37,9 @@ use Rattle.lookup.specs.View.{View.Invalid, View.Busy, View.Holds}
 use Rattle.lookup.specs.View.{view_of, handle_of, named}
 use Rattle.lookup.specs.Named.{view_is}
 use Rattle.lookup.specs.Read.{object_known}
-use Rattle.transfer.specs.Preparing.{copy_link, Tried, tried, raised_item, lowered_item, lowered_items, raised_items}
-use Rattle.transfer.proofs.Faults.{Tells, Found, raise_tells}
+use Rattle.transfer.specs.Checks.{Stop, passed, copy_stop, no_fault, in_position}
+use Rattle.transfer.specs.Preparing.{copy_link, raised, raised_item, Tried, tried, raised_items, lowered_item, lowered_items}
+use Rattle.transfer.proofs.Faults.{StopTells, Found, copy_tells}
 
 -- ---- words that differ in objects alone
 
@@ -125,10 +126,10 @@ view_holds (Holds y) k h e = let a : y.slot ≡ k = cc in let b : handle_of y �
 abbrev pub tally : Table → ℕ → List Item → ℕ
 tally t o qs = in_handles o (copies_of (map (entry_for t) qs))
 
--- what comes of the copies of a list: all are raised, to the objects os, or one refuses and the words are as they were
-abbrev pub Outcome : Shape → State → List ℕ → (ℕ → Object) → Option ℕ → Tried → Type 0
-Outcome sh s ws os none x = (x.number ≡ 0) × Held x.words sh (with_objects s os)
-Outcome sh s ws os (some n) x = (x.number ≡ n) × (0 < n) × (x.words ≡ ws)
+-- what comes of the copies among the items qs: all are raised, to the objects os, and lowered again every word is as it was; or one refuses and so it is at once
+abbrev pub Outcome : Shape → State → ℕ → List ℕ → List Item → (ℕ → Object) → Option Fault → Tried → Type 0
+Outcome sh s b ws qs os none x = (x.fault ≡ no_fault) × Held x.words sh (with_objects s os) × (lowered_items x.words sh b qs ≡ ws)
+Outcome sh s b ws qs os (some f) x = (x.fault ≡ f) × (0 < f.number) × (x.words ≡ ws)
 
 module _ (sh : Shape) (s : State) (w : WellFormed till s) (b : ℕ) (l : b < s.table_count) where
   abbrev t : Table
@@ -160,6 +161,14 @@ module _ (sh : Shape) (s : State) (w : WellFormed till s) (b : ℕ) (l : b < s.t
 
   moves_of : (q : Item) (f : Found t q) (es : List Entry) → q.operation ≡ as_move → copies_of (entry_for t q ∷ es) ≡ copies_of es
   moves_of q f es e = rw (f.entry, e)
+
+  -- and its checks
+  copy_fault : (os : ℕ → Object) (j : ℕ) (q : Item) (f : Found t q) (es : List Entry) → q.operation ≡ as_copy
+      → copies_fault os j (entry_for t q ∷ es) ≡ first_of (first_fault j (copy_checks (os f.handle.object))) (copies_fault (change raise os f.handle.object) (suc j) es)
+  copy_fault os j q f es e = rw (f.entry, e)
+
+  move_fault : (os : ℕ → Object) (j : ℕ) (q : Item) (f : Found t q) (es : List Entry) → q.operation ≡ as_move → copies_fault os j (entry_for t q ∷ es) ≡ copies_fault os (suc j) es
+  move_fault os j q f es e = rw (f.entry, e)
 
   tally_more : (o : ℕ) (ps : List Item) (q : Item) → tally t o (ps ++ (q ∷ [])) ≡ tally t o ps + tally t o (q ∷ [])
   tally_more o [] q = omega arith
@@ -251,37 +260,41 @@ module _ (sh : Shape) (s : State) (w : WellFormed till s) (b : ℕ) (l : b < s.t
       words_back ws (lowered_items ws' sh b ps) sh s r.objects h r.held (objects_then ws ws' (lowered_items ws' sh b ps) sh p.only r.only)
       (λ o. r.fallen o ∙ rw (p.risen o) (let z : (s.objects o).count + tally t o ps - tally t o ps ≡ (s.objects o).count = omega arith in rw z))
 
-  raise_none : (ws : List ℕ) (q : Item) → copy_link (load ws sh) b q ≡ 0 → raised_item ws sh b q ≡ tried 0 ws
+  raise_none : (ws : List ℕ) (q : Item) → copy_link (load ws sh) b q ≡ 0 → raised_item ws sh b q ≡ raised passed ws
   unfolding raised_item
   raise_none ws q e = rw e
 
-  raise_one : (ws : List ℕ) (q : Item) (o : ℕ) → copy_link (load ws sh) b q ≡ suc o → raise_refusal (load ws sh) o ≡ 0 → raised_item ws sh b q ≡ tried 0 (raise_w ws sh o)
+  raise_one : (ws : List ℕ) (q : Item) (o : ℕ) → copy_link (load ws sh) b q ≡ suc o → copy_stop (load ws sh) o ≡ passed → raised_item ws sh b q ≡ raised passed (raise_w ws sh o)
   unfolding raised_item
   raise_one ws q o e d = let z : suc o - 1 ≡ o = omega arith in rw (e, z, ne_eqb (suc o) 0 (λ d. omega arith), d)
 
-  raise_not : (ws : List ℕ) (q : Item) (o n : ℕ) → copy_link (load ws sh) b q ≡ suc o → raise_refusal (load ws sh) o ≡ n → 0 < n → raised_item ws sh b q ≡ tried n ws
+  raise_not : (ws : List ℕ) (q : Item) (o : ℕ) → copy_link (load ws sh) b q ≡ suc o → 0 < (copy_stop (load ws sh) o).number
+      → raised_item ws sh b q ≡ raised (copy_stop (load ws sh) o) ws
   unfolding raised_item
-  raise_not ws q o n e d m = let z : suc o - 1 ≡ o = omega arith in rw (e, z, ne_eqb (suc o) 0 (λ d. omega arith), d, ne_eqb n 0 (λ d. omega arith))
+  raise_not ws q o e m = let z : suc o - 1 ≡ o = omega arith in rw (e, z, ne_eqb (suc o) 0 (λ d. omega arith), ne_eqb (copy_stop (load ws sh) o).number 0 (λ d. omega arith))
 
-  raised_stop : (ws : List ℕ) (ps : List Item) → raised_items ws sh b ps [] ≡ tried 0 ws
+  raised_none : (ws : List ℕ) (ps : List Item) (j : ℕ) → raised_items ws sh b ps j [] ≡ tried no_fault ws
   unfolding raised_items
-  raised_stop ws ps = refl
+  raised_none ws ps j = refl
 
-  raised_on : (ws vs : List ℕ) (ps : List Item) (q : Item) (qs : List Item) → raised_item ws sh b q ≡ tried 0 vs → raised_items ws sh b ps (q ∷ qs) ≡ raised_items vs sh b (ps ++ (q ∷ [])) qs
+  raised_on : (ws vs : List ℕ) (ps : List Item) (j : ℕ) (q : Item) (qs : List Item) → raised_item ws sh b q ≡ raised passed vs
+      → raised_items ws sh b ps j (q ∷ qs) ≡ raised_items vs sh b (ps ++ (q ∷ [])) (suc j) qs
   unfolding raised_items
-  raised_on ws vs ps q qs e = rw e
+  raised_on ws vs ps j q qs e = rw e
 
-  raised_off : (ws : List ℕ) (ps : List Item) (q : Item) (qs : List Item) (n : ℕ) → raised_item ws sh b q ≡ tried n ws → 0 < n → raised_items ws sh b ps (q ∷ qs) ≡ tried n (lowered_items ws sh b ps)
+  raised_off : (ws : List ℕ) (ps : List Item) (j : ℕ) (q : Item) (qs : List Item) (x : Stop) → raised_item ws sh b q ≡ raised x ws → 0 < x.number
+      → raised_items ws sh b ps j (q ∷ qs) ≡ tried (in_position j x) (lowered_items ws sh b ps)
   unfolding raised_items
-  raised_off ws ps q qs n e m = rw (e, ne_eqb n 0 (λ d. omega arith))
+  raised_off ws ps j q qs x e m = rw (e, ne_eqb x.number 0 (λ d. omega arith))
 
-  module _ (ws : List ℕ) (h : Held ws sh s) where
-    -- THE COPIES, one by one
-    raised_all : (qs ps : List Item) (ws' : List ℕ) (os : ℕ → Object) → All (Found t) ps → All (Found t) qs
+  module _ (ws : List ℕ) (h : Held ws sh s) (all : List Item) where
+    -- THE COPIES of all items, one by one: of the items qs from position j on, behind the items ps
+    raised_all : (qs ps : List Item) (j : ℕ) (ws' : List ℕ) (os : ℕ → Object) → ps ++ qs ≡ all → All (Found t) ps → All (Found t) qs
         → ((o : ℕ) → 0 < tally t o ps → 1 ≤ (s.objects o).count) → ((o : ℕ) → 0 < tally t o qs → 1 ≤ (s.objects o).count) → Risen ws ps ws' os
-        → Outcome sh s ws (change_all raise (copies_of (map (entry_for t) qs)) os) (copies_fault os (copies_of (map (entry_for t) qs))) (raised_items ws' sh b ps qs)
-    raised_all [] ps ws' os gs fs d c p = rw (raised_stop ws' ps) (refl, p.held)
-    raised_all (q ∷ qs) ps ws' os gs fs d c p = go q.operation refl (λ v u k m. raised_all qs (ps ++ (q ∷ [])) v u (all_more ps gs) fs.1 m k)
+        → Outcome sh s b ws all (change_all raise (copies_of (map (entry_for t) qs)) os) (copies_fault os j (map (entry_for t) qs)) (raised_items ws' sh b ps j qs)
+    raised_all [] ps j ws' os whole gs fs d c p = rw (raised_none ws' ps j, ← whole, append-nil ps) (refl, p.held, back ws ps ws' os h gs d p)
+    raised_all (q ∷ qs) ps j ws' os whole gs fs d c p =
+        go q.operation refl (λ v u k m. raised_all qs (ps ++ (q ∷ [])) (suc j) v u (append_assoc ps (q ∷ []) qs ∙ whole) (all_more ps gs) fs.1 m k)
       where
         f : Found t q
         f = fs.0
@@ -292,16 +305,18 @@ module _ (sh : Shape) (s : State) (w : WellFormed till s) (b : ℕ) (l : b < s.t
 
         Rest : Type 0
         Rest = (v : List ℕ) (u : ℕ → Object) → ((o : ℕ) → 0 < tally t o qs → 1 ≤ (s.objects o).count) → ((o : ℕ) → 0 < tally t o (ps ++ (q ∷ [])) → 1 ≤ (s.objects o).count) → Risen ws (ps ++ (q ∷ [])) v u
-            → Outcome sh s ws (change_all raise (copies_of (map (entry_for t) qs)) u) (copies_fault u (copies_of (map (entry_for t) qs))) (raised_items v sh b (ps ++ (q ∷ [])) qs)
+            → Outcome sh s b ws all (change_all raise (copies_of (map (entry_for t) qs)) u) (copies_fault u (suc j) (map (entry_for t) qs)) (raised_items v sh b (ps ++ (q ∷ [])) (suc j) qs)
 
         -- the copy's checks
-        copy : q.operation ≡ as_copy → (g : Option ℕ) → first_fault (copy_checks (os f.handle.object)) ≡ g → Tells g (raise_refusal (load ws' sh) f.handle.object) → Rest
-            → Outcome sh s ws (change_all raise (with_rights f.handle q.rights ∷ copies_of (map (entry_for t) qs)) os)
-            (first_of g (copies_fault (change raise os f.handle.object) (copies_of (map (entry_for t) qs)))) (raised_items ws' sh b ps (q ∷ qs))
+        copy : q.operation ≡ as_copy → (g : Option Fault) → first_fault j (copy_checks (os f.handle.object)) ≡ g → StopTells j g (copy_stop (load ws' sh) f.handle.object) → Rest
+            → Outcome sh s b ws all (change_all raise (with_rights f.handle q.rights ∷ copies_of (map (entry_for t) qs)) os)
+            (first_of g (copies_fault (change raise os f.handle.object) (suc j) (map (entry_for t) qs))) (raised_items ws' sh b ps j (q ∷ qs))
         copy e (some n) fault tells rest =
             let i = links ws' os p.held q f in
-            rw (raised_off ws' ps q qs n (raise_not ws' q f.handle.object n (i.copies e) tells.0 (omega (arith, tells.0, tells.1))) (omega (arith, tells.0, tells.1)))
-            (refl, omega (arith, tells.0, tells.1), back ws ps ws' os h gs d p)
+            let x : Stop = copy_stop (load ws' sh) f.handle.object in
+            let low : 0 < n.number = rw (← tells.0) tells.1 in
+            rw (raised_off ws' ps j q qs x (raise_not ws' q f.handle.object (i.copies e) tells.1) tells.1)
+            (tells.0, low, back ws ps ws' os h gs d p)
         copy e none fault tells rest =
             let i = links ws' os p.held q f in
             let x : ℕ = f.handle.object in
@@ -313,7 +328,7 @@ module _ (sh : Shape) (s : State) (w : WellFormed till s) (b : ℕ) (l : b < s.t
             let low : (os f.handle.object).count < (os f.handle.object).limit = not_full (os f.handle.object) fault (p.within f.handle.object i.known) in
             let lim : (os f.handle.object).limit ≡ (s.objects f.handle.object).limit = ap (λ (y : Object). y.limit) (p.risen f.handle.object) in
             let room = limit_room (os f.handle.object).count (os f.handle.object).limit (omega (arith, lim, (w.ranges.objects f.handle.object i.known).limit)) low in
-            rw (raised_on ws' v ps q qs (raise_one ws' q f.handle.object (i.copies e) tells))
+            rw (raised_on ws' v ps j q qs (raise_one ws' q f.handle.object (i.copies e) tells))
             (rest v u (λ o m. c o (omega (arith, sum o)))
             (λ o m. split o m (one o) (sum o))
             (record {
@@ -323,11 +338,11 @@ module _ (sh : Shape) (s : State) (w : WellFormed till s) (b : ℕ) (l : b < s.t
               within = λ o m. grown o m at low;
             }))
           where
-            not_full : (x : Object) → first_fault (copy_checks x) ≡ none → x.count ≤ x.limit → x.count < x.limit
+            not_full : (x : Object) → first_fault j (copy_checks x) ≡ none → x.count ≤ x.limit → x.count < x.limit
             not_full x z k = bool (is_now_retired x.stage)
-                (λ a. let y : some 9 ≡ none = rw a at z in apart (cc))
+                (λ a. let g : Fault = record { number = 9; position = j; place = 16 } in let y : some g ≡ none = rw a at z in apart (cc))
                 (λ a. bool (eqb x.count x.limit)
-                (λ b. let y : some 11 ≡ none = rw (a, b) at z in apart (cc))
+                (λ b. let g : Fault = record { number = 11; position = j; place = 17 } in let y : some g ≡ none = rw (a, b) at z in apart (cc))
                 (λ b. omega (arith, eqb-false x.count x.limit b)))
 
             split : (o : ℕ) → 0 < tally t o (ps ++ (q ∷ [])) → tally t o (q ∷ []) ≡ bit (eqb f.handle.object o) + 0 → tally t o (q ∷ qs) ≡ bit (eqb f.handle.object o) + tally t o qs
@@ -343,11 +358,11 @@ module _ (sh : Shape) (s : State) (w : WellFormed till s) (b : ℕ) (l : b < s.t
                 (λ y. rw y (omega (arith, p.within o m))))
 
         go : (op : Operation) → q.operation ≡ op → Rest
-            → Outcome sh s ws (change_all raise (copies_of (map (entry_for t) (q ∷ qs))) os) (copies_fault os (copies_of (map (entry_for t) (q ∷ qs)))) (raised_items ws' sh b ps (q ∷ qs))
+            → Outcome sh s b ws all (change_all raise (copies_of (map (entry_for t) (q ∷ qs))) os) (copies_fault os j (map (entry_for t) (q ∷ qs))) (raised_items ws' sh b ps j (q ∷ qs))
         go as_move e rest =
             let one : (o : ℕ) → tally t o (q ∷ []) ≡ 0 = λ o. ap (in_handles o) (moves_of q f [] e) in
             let sum : (o : ℕ) → tally t o (q ∷ qs) ≡ tally t o qs = λ o. ap (in_handles o) (moves_of q f (map (entry_for t) qs) e) in
-            rw (moves_of q f (map (entry_for t) qs) e, raised_on ws' ws' ps q qs (raise_none ws' q ((links ws' os p.held q f).moves e)))
+            rw (moves_of q f (map (entry_for t) qs) e, move_fault os j q f (map (entry_for t) qs) e, raised_on ws' ws' ps j q qs (raise_none ws' q ((links ws' os p.held q f).moves e)))
             (rest ws' os (λ o m. c o (omega (arith, sum o))) (λ o m. d o (omega (arith, one o, tally_more o ps q)))
             (record {
               held = p.held;
@@ -356,11 +371,11 @@ module _ (sh : Shape) (s : State) (w : WellFormed till s) (b : ℕ) (l : b < s.t
               within = p.within;
             }))
         go as_copy e rest = let i = links ws' os p.held q f in
-            rw (copies_of_law q f (map (entry_for t) qs) e)
-            (copy e (first_fault (copy_checks (os f.handle.object))) refl
-            (raise_tells (load ws' sh) f.handle.object (os f.handle.object) (p.held.reps.memory.objects f.handle.object i.known)) rest)
+            rw (copies_of_law q f (map (entry_for t) qs) e, copy_fault os j q f (map (entry_for t) qs) e)
+            (copy e (first_fault j (copy_checks (os f.handle.object))) refl
+            (copy_tells (load ws' sh) f.handle.object (os f.handle.object) (p.held.reps.memory.objects f.handle.object i.known) j) rest)
 
     -- from the first on
-    pub raised_outcome : (qs : List Item) → All (Found t) qs → ((o : ℕ) → 0 < tally t o qs → 1 ≤ (s.objects o).count)
-        → Outcome sh s ws (change_all raise (copies_of (map (entry_for t) qs)) s.objects) (copies_fault s.objects (copies_of (map (entry_for t) qs))) (raised_items ws sh b [] qs)
-    raised_outcome qs fs c = raised_all qs [] ws s.objects tt fs (λ o m. absurd (omega arith)) c (risen_none ws h)
+    pub raised_outcome : All (Found t) all → ((o : ℕ) → 0 < tally t o all → 1 ≤ (s.objects o).count)
+        → Outcome sh s b ws all (change_all raise (copies_of (map (entry_for t) all)) s.objects) (copies_fault s.objects 0 (map (entry_for t) all)) (raised_items ws sh b [] 0 all)
+    raised_outcome fs c = raised_all all [] 0 ws s.objects refl tt fs (λ o m. absurd (omega arith)) c (risen_none ws h)

@@ -9,9 +9,9 @@ use Rattle.std.proofs.Math.Option.{Option, none, some}
 use Rattle.words.specs.Pick.{pick, bool}
 use Rattle.model.specs.Base.{member}
 use Rattle.model.specs.Request.{Item}
-use Rattle.format.specs.declared.refusal.Refusal.{Refusal}
-use Rattle.format.specs.declared.refusal.Refusal.TheVariants.{Allocation, InvalidHandle, Busy, WrongObjectType, AccessDenied, UnsupportedRights, UnsupportedFlags, UnsupportedTransfer, ObjectRetired, ObjectAlreadyActive, ActiveHandleLimit, ReservationIdExhausted, ReservationTooLarge, OutstandingReservation, TableFull, TableRetired, EmptyReservation, Misuse, Malformed, AnswerShort, StalePlan}
-use Rattle.format.specs.Refusals.{number}
+use Rattle.format.specs.declared.rule.Rule.{Rule}
+use Rattle.format.specs.declared.rule.Rule.TheVariants.{TableRetired, EmptyReservation, ReservationTooLarge, NoFreeRow, NoIdLeft, ListedTwice, NoHandle, HandleBusy, NoTransfer, NoDuplicate, OfferedBeyondSource, RequestedBeyondOffered, ForbiddenKind, ForbiddenObject, RouteBarsClass, KindDiffers, CopyRetired, CopyAtLimit}
+use Rattle.format.specs.Rules.{number_by}
 use Rattle.layout.specs.declared.Shape.{Shape}
 use Rattle.layout.specs.Layout.{object, place, place_out, in_no, load, save}
 use Rattle.request.specs.Place.{optional, end_at, places_from, place_of, item_at}
@@ -19,8 +19,8 @@ use Rattle.request.specs.Lists.{place_later}
 use Rattle.request.specs.Laws.{places_length}
 use Rattle.storage.specs.Ops.{up}
 use Rattle.object.specs.declared.ObjectRecord.{ObjectRecord}
-use Rattle.object.specs.Words.{record_at, step_w, raise_refusal}
-use Rattle.transfer.specs.Checks.{as_option, items_at, earlier_at}
+use Rattle.object.specs.Words.{record_at, step_w}
+use Rattle.transfer.specs.Checks.{as_option, items_at, earlier_at, copy_stop}
 
 -- ---- a claim
 
@@ -79,28 +79,25 @@ module _ (rq : List ℕ) (at n i : ℕ) (q : Item) (qs : List Item) (e : items_a
 
 -- ---- checks
 
-pub number_some : (e : Refusal) → eqb (number e) 0 ≡ false
-number_some Allocation = refl
-number_some InvalidHandle = refl
-number_some Busy = refl
-number_some WrongObjectType = refl
-number_some AccessDenied = refl
-number_some UnsupportedRights = refl
-number_some UnsupportedFlags = refl
-number_some UnsupportedTransfer = refl
-number_some ObjectRetired = refl
-number_some ObjectAlreadyActive = refl
-number_some ActiveHandleLimit = refl
-number_some ReservationIdExhausted = refl
-number_some ReservationTooLarge = refl
-number_some OutstandingReservation = refl
-number_some TableFull = refl
-number_some TableRetired = refl
-number_some EmptyReservation = refl
-number_some Misuse = refl
-number_some Malformed = refl
-number_some AnswerShort = refl
-number_some StalePlan = refl
+pub rule_some : (r : Rule) → eqb (number_by r) 0 ≡ false
+rule_some TableRetired = refl
+rule_some EmptyReservation = refl
+rule_some ReservationTooLarge = refl
+rule_some NoFreeRow = refl
+rule_some NoIdLeft = refl
+rule_some ListedTwice = refl
+rule_some NoHandle = refl
+rule_some HandleBusy = refl
+rule_some NoTransfer = refl
+rule_some NoDuplicate = refl
+rule_some OfferedBeyondSource = refl
+rule_some RequestedBeyondOffered = refl
+rule_some ForbiddenKind = refl
+rule_some ForbiddenObject = refl
+rule_some RouteBarsClass = refl
+rule_some KindDiffers = refl
+rule_some CopyRetired = refl
+rule_some CopyAtLimit = refl
 
 -- `listed`: whether the value of an item is among those of the first n
 pub any_earlier : (v n : ℕ) (rq : List ℕ) (at : ℕ) → list_any (λ (q : Item). eqb v q.value) (items_at rq at n) ≡ member v (earlier_at rq at n)
@@ -143,9 +140,9 @@ module _ (sh : Shape) (few : sh.objects < 65536) (o : ℕ) where
   same_record ws = simp (same_load ws)
 
   -- `raise_item`
-  pub same_refusal : (ws : List ℕ) → raise_refusal (load ws sh) (up o - 1) ≡ raise_refusal (load ws sh) o
-  unfolding raise_refusal
-  same_refusal ws = rw (same_record ws)
+  pub same_stop : (ws : List ℕ) → copy_stop (load ws sh) (up o - 1) ≡ copy_stop (load ws sh) o
+  unfolding copy_stop
+  same_stop ws = rw (same_record ws)
 
   -- `raise_item`, `lower_item`
   pub same_step : (f : ObjectRecord → ObjectRecord) (ws : List ℕ) → step_w f ws sh (up o - 1) ≡ step_w f ws sh o

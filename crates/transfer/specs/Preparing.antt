@@ -1,9 +1,9 @@
 -- What the functions of the request prepare transfer do to the words. Assumes nothing.
 use Rattle.std.specs.Prelude.{Option as CodeOption, Some, None}
-use Rattle.std.specs.Prelude.{List, [], ◌∷◌, ◌++◌, ℕ, suc, ◌-◌, length, eqb}
+use Rattle.std.specs.Prelude.{List, [], ◌∷◌, ◌++◌, ℕ, suc, ◌-◌, length, eqb, ltb}
 use Rattle.std.proofs.Math.Option.{Option}
 use Rattle.words.specs.Pick.{pick}
-use Rattle.model.specs.Request.{Item}
+use Rattle.model.specs.Request.{Item, Fault}
 use Rattle.model.specs.Words.{may, must}
 use Rattle.model.specs.Transfer.{is_copy}
 use Rattle.format.specs.Fields.{table_field, count_field, route_field, forbidden_object_field, forbidden_kind_field}
@@ -13,7 +13,7 @@ use Rattle.layout.specs.Fields.{root_next_id, item_operation, item_object, item_
 use Rattle.layout.specs.Values.{operation_copy}
 use Rattle.request.specs.Place.{fields_at, end_at}
 use Rattle.storage.specs.Ops.{up}
-use Rattle.object.specs.Words.{raise_w, lower_w, raise_refusal}
+use Rattle.object.specs.Words.{raise_w, lower_w}
 use Rattle.book.specs.Ops.{spare, spend_w}
 use Rattle.answer.specs.Does.{Both, both, answered, refuse_r}
 use Rattle.lookup.specs.declared.PreparedHandle.{PreparedHandle}
@@ -21,7 +21,7 @@ use Rattle.lookup.specs.View.{View}
 use Rattle.lookup.specs.View.{View.Invalid, View.Busy, View.Holds}
 use Rattle.lookup.specs.View.{view_of}
 use Rattle.transfer.specs.Ops.{moved_w, claim_w}
-use Rattle.transfer.specs.Checks.{items_at, transfer_refusal, items_refusal}
+use Rattle.transfer.specs.Checks.{items_at, Stop, passed, batch_stop, copy_stop, items_stop, no_fault, in_position}
 
 -- ---- copies
 
@@ -39,20 +39,20 @@ abbrev pub link_of : CodeOption ℕ → ℕ
 link_of None = 0
 link_of (Some o) = up o
 
--- a number, 0 for no refusal, and the words that are left
-pub record Tried : Type 0 where
-  pub number : ℕ
+-- where an item's copy stops, and the words that are left
+pub record Raised : Type 0 where
+  pub stop : Stop
   pub words : List ℕ
 
-abbrev pub tried : ℕ → List ℕ → Tried
-tried n ws = record { number = n; words = ws }
+abbrev pub raised : Stop → List ℕ → Raised
+raised x ws = record { stop = x; words = ws }
 
 -- the object of an item that copies gets one handle more, or refuses
-unfoldable pub raised_item : List ℕ → Shape → ℕ → Item → Tried
+unfoldable pub raised_item : List ℕ → Shape → ℕ → Item → Raised
 raised_item ws sh b q =
     let l : ℕ = copy_link (load ws sh) b q in
-    let n : ℕ = raise_refusal (load ws sh) (l - 1) in
-    pick (eqb l 0) (tried 0 ws) (pick (eqb n 0) (tried 0 (raise_w ws sh (l - 1))) (tried n ws))
+    let x : Stop = copy_stop (load ws sh) (l - 1) in
+    pick (eqb l 0) (raised passed ws) (pick (eqb x.number 0) (raised passed (raise_w ws sh (l - 1))) (raised x ws))
 
 -- it has one handle fewer
 unfoldable pub lowered_item : List ℕ → Shape → ℕ → Item → List ℕ
@@ -62,12 +62,26 @@ unfoldable pub lowered_items : List ℕ → Shape → ℕ → List Item → List
 lowered_items ws sh b [] = ws
 lowered_items ws sh b (q ∷ qs) = lowered_items (lowered_item ws sh b q) sh b qs
 
--- item by item; where one refuses, those before it, ps, are lowered again
-unfoldable pub raised_items : List ℕ → Shape → ℕ → List Item → List Item → Tried
-raised_items ws sh b ps [] = tried 0 ws
-raised_items ws sh b ps (q ∷ qs) =
-    let x : Tried = raised_item ws sh b q in
-    pick (eqb x.number 0) (raised_items x.words sh b (ps ++ (q ∷ [])) qs) (tried x.number (lowered_items x.words sh b ps))
+-- a fault, and the words that are left
+pub record Tried : Type 0 where
+  pub fault : Fault
+  pub words : List ℕ
+
+abbrev pub tried : Fault → List ℕ → Tried
+tried f ws = record { fault = f; words = ws }
+
+-- item by item, the first of them in the position j; where one refuses, those before it, ps, are lowered again
+unfoldable pub raised_items : List ℕ → Shape → ℕ → List Item → ℕ → List Item → Tried
+raised_items ws sh b ps j [] = tried no_fault ws
+raised_items ws sh b ps j (q ∷ qs) =
+    let x : Raised = raised_item ws sh b q in
+    pick (eqb x.stop.number 0) (raised_items x.words sh b (ps ++ (q ∷ [])) (suc j) qs) (tried (in_position j x.stop) (lowered_items x.words sh b ps))
+
+-- ALL CHECKS of items and copies; where they pass, the copies' objects have their handles
+unfoldable pub tried_items : List ℕ → Shape → ℕ → ℕ → Option ℕ → Option ℕ → List Item → Tried
+tried_items ws sh b route banned_object banned_kind qs =
+    let f : Fault = items_stop (load ws sh) b route banned_object banned_kind [] 0 qs in
+    pick (eqb f.number 0) (raised_items ws sh b [] 0 qs) (tried f ws)
 
 -- ---- entries
 
@@ -109,17 +123,16 @@ opened_r ws os sh base b qs =
 -- from the id step on
 unfoldable pub items_r : List ℕ → List ℕ → Shape → ℕ → ℕ → ℕ → Option ℕ → Option ℕ → List Item → Both
 items_r ws os sh base b route banned_object banned_kind qs =
-    let n : ℕ = items_refusal (load ws sh) b route banned_object banned_kind [] qs in
-    let x : Tried = raised_items ws sh b [] qs in
-    pick (eqb n 0)
-    (pick (eqb x.number 0) (opened_r x.words os sh base b qs) (refuse_spent_r x.words os sh base x.number))
-    (refuse_spent_r ws os sh base n)
+    let x : Tried = tried_items ws sh b route banned_object banned_kind qs in
+    pick (eqb x.fault.number 0) (opened_r x.words os sh base b qs) (refuse_spent_r x.words os sh base x.fault.number)
 
 -- "Transfer: 16, 17, 13, 1, 12; then item by item ..; then copies 9, 11"
 unfoldable pub transfer_r : List ℕ → List ℕ → Shape → ℕ → ℕ → ℕ → Option ℕ → Option ℕ → List Item → Both
 transfer_r ws os sh base b route banned_object banned_kind qs =
-    let n : ℕ = transfer_refusal (load ws sh) sh b (length qs) in
-    pick (eqb n 0) (items_r ws os sh base b route banned_object banned_kind qs) (refuse_r ws os base n)
+    let x : Stop = batch_stop (load ws sh) sh b (length qs) in
+    pick (ltb b sh.tables)
+    (pick (eqb x.number 0) (items_r ws os sh base b route banned_object banned_kind qs) (refuse_r ws os base x.number))
+    (refuse_r ws os base 18)
 
 -- the transfer whose record stands at a place of the request list
 unfoldable pub transfer_at : List ℕ → List ℕ → Shape → ℕ → List ℕ → ℕ → Both

@@ -13,16 +13,17 @@ ghost use Rattle.model.specs.Words.{operation_of};
 ghost use Rattle.model.specs.Transfer.{is_copy};
 ghost use Rattle.format.specs.Fields.{value_field, table_field, rights_field, kind_field, koid_field};
 ghost use Rattle.format.specs.Format.{transfer_item_must};
-ghost use Rattle.format.specs.Refusals.{number, number_of};
+ghost use Rattle.format.specs.Refusals.{number_of};
+ghost use Rattle.format.specs.Rules.{number_by};
 ghost use Rattle.layout.specs.Layout.{item, place, load as loadAt};
 ghost use Rattle.layout.specs.Fields.{item_operation};
 ghost use Rattle.request.specs.Place.{end_at, item_at, has_map, word_of};
 ghost use Rattle.book.specs.Ops.{spare};
 ghost use Rattle.answer.specs.Does.{both, reply, id_words, Gives};
 ghost use Rattle.transfer.specs.Ops.{moved_w, mark_item_w, marked_w, claim_w, consume_refusal, consumed_r, consumption_r};
-ghost use Rattle.transfer.specs.Checks.{as_option, item_by, looked_at, RulesAt, items_left, earlier_left, transfer_refusal, route_bars, rights_refusal, object_refusal, handle_refusal, item_refusal, items_refusal};
+ghost use Rattle.transfer.specs.Checks.{as_option, item_by, looked_at, RulesAt, items_left, earlier_left, stop_by, stop_of, fault_of, batch_stop, route_bars, rights_stop, object_stop, handle_stop, item_stop, copy_stop, items_stop};
 ghost use Rattle.transfer.specs.Seen.{bit_of, Seen};
-ghost use Rattle.transfer.specs.Preparing.{copy_link, link_of, tried, raised_item, raised_items, lowered_item, lowered_items, copied_w, handle_entry_w, entry_w, entries_w, refuse_spent_r, items_r, transfer_at};
+ghost use Rattle.transfer.specs.Preparing.{copy_link, link_of, raised, raised_item, tried, raised_items, tried_items, lowered_item, lowered_items, copied_w, handle_entry_w, entry_w, entries_w, refuse_spent_r, items_r, transfer_at};
 
 use authority::Rights;
 use codec::{HandleValue, Koid, ReservationId};
@@ -33,6 +34,7 @@ use format::field::{
 };
 use format::op;
 use format::refusal::Refusal;
+use format::rule::Rule;
 use layout::{Shape, field, place, size, value};
 use lookup::PreparedHandle;
 use object::ObjectRecord;
@@ -290,22 +292,34 @@ impl<'a> Iterator for TransferItems<'a> {
     }
 }
 
-// "Transfer: 16, 17, 13, 1, 12", for n items from table b. It begins as `reserve::check_batch`: this crate does not build on reserve, and one function of both would lie in a third, with a definition beside the two.
-#[tactic(auto, unfolding(crate::specs::Checks::transfer_refusal))]
-fn check_transfer(s: &[u64], sh: Shape, b: u64, n: u64) -> Result<(), Refusal>
-    ensures { number_of result ≡ transfer_refusal (loadAt s.now sh) sh b n }
+// Where a transfer's checks stop: the rule, and the position of the item that it stops at.
+#[derive(Clone, Copy)]
+pub struct TransferFault {
+    pub rule: Rule,
+    pub position: u64,
+}
+
+// "Transfer: 16, 17, 13, 1, 12", for n items from table b. It goes on as `reserve::check_batch`: this crate does not build on reserve, whose checks have no places.
+#[tactic(auto, unfolding(crate::specs::Checks::batch_stop))]
+fn check_batch(s: &[u64], sh: Shape, b: u64, n: u64) -> Result<(), Rule>
+    ensures { stop_of result ≡ batch_stop (loadAt s.now sh) sh b n }
 {
-    lookup::active_table(s, sh, b)?;
+    if layout::head_word(s, sh, b, field::HEAD_LIFECYCLE) != value::LIFE_ACTIVE {
+        return Err(Rule::TableRetired);
+    }
     if n == 0 {
-        return Err(Refusal::EmptyReservation);
+        return Err(Rule::EmptyReservation);
     }
     if size::BATCH_MAX < n {
-        return Err(Refusal::ReservationTooLarge);
+        return Err(Rule::ReservationTooLarge);
     }
     if !book::row_left(s, sh) {
-        return Err(Refusal::Allocation);
+        return Err(Rule::NoFreeRow);
     }
-    book::id_left(s, sh)
+    if book::id_left(s, sh).is_err() {
+        return Err(Rule::NoIdLeft);
+    }
+    Ok(())
 }
 
 // mod.rs `permits`, turned round: Buffered bars RendezvousOnly, every route bars Never.
@@ -321,39 +335,44 @@ fn route_bars(route: u64, class: u64) -> bool
 }
 
 // "5 (rights)" of an item: no TRANSFER, a copy without DUPLICATE, offered beyond the source's, requested beyond the offered; "absent rights mean the source's".
-#[tactic(auto, unfolding(crate::specs::Checks::rights_refusal, crate::specs::Checks::item_by))]
-fn check_rights(held: Rights, q: HandleTransferRequest) -> Result<(), Refusal>
-    ensures { number_of result ≡ rights_refusal held.0 (item_by q) }
+#[tactic(auto, unfolding(crate::specs::Checks::rights_stop, crate::specs::Checks::item_by))]
+fn check_rights(held: Rights, q: HandleTransferRequest) -> Result<(), Rule>
+    ensures { stop_of result ≡ rights_stop held.0 (item_by q) }
 {
     let offered = Rights(q.offered_rights.unwrap_or(held.0));
-    if !held.contains(Rights::TRANSFER)
-        || q.copies() && !held.contains(Rights::DUPLICATE)
-        || !held.contains(offered)
-        || !offered.contains(q.rights)
-    {
-        return Err(Refusal::AccessDenied);
+    if !held.contains(Rights::TRANSFER) {
+        return Err(Rule::NoTransfer);
+    }
+    if q.copies() && !held.contains(Rights::DUPLICATE) {
+        return Err(Rule::NoDuplicate);
+    }
+    if !held.contains(offered) {
+        return Err(Rule::OfferedBeyondSource);
+    }
+    if !offered.contains(q.rights) {
+        return Err(Rule::RequestedBeyondOffered);
     }
     Ok(())
 }
 
 // "8 (kind), 5 (object), 8 (route), 4" of an item whose object has the record x; "any other absence means no test".
-#[tactic(auto, unfolding(crate::specs::Checks::object_refusal, crate::specs::Checks::item_by))]
-fn check_object(x: ObjectRecord, q: HandleTransferRequest, t: TransferRules) -> Result<(), Refusal>
-    ensures { number_of result ≡ object_refusal x t.route (as_option t.forbidden_object) (as_option t.forbidden_kind) (item_by q) }
+#[tactic(auto, unfolding(crate::specs::Checks::object_stop, crate::specs::Checks::item_by))]
+fn check_object(x: ObjectRecord, q: HandleTransferRequest, t: TransferRules) -> Result<(), Rule>
+    ensures { stop_of result ≡ object_stop x t.route (as_option t.forbidden_object) (as_option t.forbidden_kind) (item_by q) }
 {
     if t.forbidden_kind == Some(x.kind) {
-        return Err(Refusal::UnsupportedTransfer);
+        return Err(Rule::ForbiddenKind);
     }
     if t.forbidden_object == Some(x.koid.0) {
-        return Err(Refusal::AccessDenied);
+        return Err(Rule::ForbiddenObject);
     }
     if route_bars(t.route, x.class) {
-        return Err(Refusal::UnsupportedTransfer);
+        return Err(Rule::RouteBarsClass);
     }
     if q.offered_kind.is_some_and(|kind| kind != x.kind)
         || q.expected_kind.is_some_and(|kind| kind != x.kind)
     {
-        return Err(Refusal::WrongObjectType);
+        return Err(Rule::KindDiffers);
     }
     Ok(())
 }
@@ -372,15 +391,15 @@ fn look_at(s: &[u64], sh: Shape, o: u64) -> ObjectRecord
 }
 
 // The checks of an item that names the handle h, from its rights on. (b, q) and (q, t) stay apart: a table, an item and the rules come from three places, and few functions look at two of them.
-#[tactic(auto, unfolding(crate::specs::Checks::handle_refusal, crate::specs::Checks::object_refusal, crate::specs::Checks::looked_at, object::specs::Words::record_at))]
+#[tactic(auto, unfolding(crate::specs::Checks::handle_stop, crate::specs::Checks::object_stop, crate::specs::Checks::looked_at, object::specs::Words::record_at), using(crate::specs::Code::rule_some))]
 fn check_handle(
     s: &[u64],
     sh: Shape,
     h: PreparedHandle,
     q: HandleTransferRequest,
     t: TransferRules,
-) -> Result<(), Refusal>
-    ensures { number_of result ≡ handle_refusal (loadAt s.now sh) h t.route (as_option t.forbidden_object) (as_option t.forbidden_kind) (item_by q) }
+) -> Result<(), Rule>
+    ensures { stop_of result ≡ handle_stop (loadAt s.now sh) h t.route (as_option t.forbidden_object) (as_option t.forbidden_kind) (item_by q) }
 {
     check_rights(Rights(h.rights), q)?;
     check_object(look_at(s, sh, h.object), q, t)
@@ -427,7 +446,7 @@ fn twice(items: TransferItems, seen: SeenValues, v: HandleValue) -> bool
 }
 
 // The checks of an item before which others stand, in the printed order.
-#[tactic(auto, unfolding(crate::specs::Checks::item_refusal, crate::specs::Checks::item_by))]
+#[tactic(auto, unfolding(crate::specs::Checks::item_stop, crate::specs::Checks::item_by))]
 fn check_item(
     s: &[u64],
     sh: Shape,
@@ -436,31 +455,37 @@ fn check_item(
     b: u64,
     q: HandleTransferRequest,
     t: TransferRules,
-) -> Result<(), Refusal>
+) -> Result<(), Rule>
     requires { Seen before.item.words.now before.item.at before.count seen.0 }
-    ensures { number_of result ≡ item_refusal (loadAt s.now sh) b t.route (as_option t.forbidden_object) (as_option t.forbidden_kind) (earlier_left before.entry) (item_by q) }
+    ensures { stop_of result ≡ item_stop (loadAt s.now sh) b t.route (as_option t.forbidden_object) (as_option t.forbidden_kind) (earlier_left before.entry) (item_by q) }
 {
     if twice(before, seen, q.value) {
-        return Err(Refusal::InvalidHandle);
+        return Err(Rule::ListedTwice);
     }
-    let h = lookup::find_handle(s, sh, b, q.value)?;
-    check_handle(s, sh, h, q, t)
+    match lookup::find_handle(s, sh, b, q.value) {
+        Ok(h) => check_handle(s, sh, h, q, t),
+        Err(Refusal::Busy) => Err(Rule::HandleBusy),
+        Err(_) => Err(Rule::NoHandle),
+    }
 }
 
-// "item by item": the first refusal of the items.
-#[tactic(auto, unfolding(crate::specs::Checks::items_refusal, crate::specs::Checks::earlier_at), using(crate::specs::Code::number_some, crate::specs::Code::items_none, crate::specs::Code::turn_rest, crate::specs::Code::turn_earlier, crate::specs::Code::turn_item, crate::specs::Seen::seen_none, crate::specs::Seen::seen_turn))]
+// "item by item": the first fault of the items.
+#[tactic(auto, unfolding(crate::specs::Checks::items_stop, crate::specs::Checks::earlier_at), using(crate::specs::Code::rule_some, crate::specs::Code::items_none, crate::specs::Code::turn_rest, crate::specs::Code::turn_earlier, crate::specs::Code::turn_item, crate::specs::Seen::seen_none, crate::specs::Seen::seen_turn))]
 fn check_items(
     s: &[u64],
     sh: Shape,
     items: TransferItems,
     b: u64,
     t: TransferRules,
-) -> Result<(), Refusal>
-    ensures { number_of result ≡ items_refusal (loadAt s.now sh) b t.route (as_option t.forbidden_object) (as_option t.forbidden_kind) [] (items_left items.entry) }
+) -> Result<(), TransferFault>
+    ensures { fault_of result ≡ items_stop (loadAt s.now sh) b t.route (as_option t.forbidden_object) (as_option t.forbidden_kind) [] 0 (items_left items.entry) }
 {
     let mut seen = SeenValues(0);
     for (i, q) in items.enumerate() {
-        check_item(s, sh, items.first(i as u64), seen, b, q, t)?;
+        let position = i as u64;
+        if let Err(rule) = check_item(s, sh, items.first(position), seen, b, q, t) {
+            return Err(TransferFault { rule, position });
+        }
         seen = seen.with(q.value);
     }
     Ok(())
@@ -478,13 +503,27 @@ fn copied_object(s: &[u64], sh: Shape, b: u64, q: HandleTransferRequest) -> Opti
     Some(h.object)
 }
 
+// "then copies 9, 11": whether object o can get one handle more.
+#[tactic(auto, unfolding(crate::specs::Checks::copy_stop))]
+fn check_copy(s: &[u64], sh: Shape, o: u64) -> Result<(), Rule>
+    ensures { stop_of result ≡ copy_stop (loadAt s.now sh) o }
+{
+    if object::is_retired(s, sh, o) {
+        return Err(Rule::CopyRetired);
+    }
+    if object::is_full(s, sh, o) {
+        return Err(Rule::CopyAtLimit);
+    }
+    Ok(())
+}
+
 // The object of an item that copies gets one handle more, or refuses.
-#[tactic(auto, unfolding(crate::specs::Preparing::raised_item), using(crate::specs::Code::same_refusal, crate::specs::Code::same_step))]
-fn raise_item(s: &mut [u64], sh: Shape, b: u64, q: HandleTransferRequest) -> Result<(), Refusal>
-    ensures { tried (number_of result) s.new ≡ raised_item s.old sh b (item_by q) }
+#[tactic(auto, unfolding(crate::specs::Preparing::raised_item), using(crate::specs::Code::same_stop, crate::specs::Code::same_step))]
+fn raise_item(s: &mut [u64], sh: Shape, b: u64, q: HandleTransferRequest) -> Result<(), Rule>
+    ensures { raised (stop_of result) s.new ≡ raised_item s.old sh b (item_by q) }
 {
     if let Some(o) = copied_object(s, sh, b, q) {
-        object::may_raise(s, sh, o)?;
+        check_copy(s, sh, o)?;
         object::raise_object(s, sh, o);
     }
     Ok(())
@@ -511,17 +550,33 @@ fn lower_items(s: &mut [u64], sh: Shape, items: TransferItems, b: u64)
 }
 
 // Each copy's object gets one handle more, in order. Where one refuses, those before it are lowered again.
-#[tactic(auto, unfolding(crate::specs::Preparing::raised_items), using(crate::specs::Code::number_some, crate::specs::Code::items_none, crate::specs::Code::turn_rest, crate::specs::Code::turn_items))]
-fn raise_items(s: &mut [u64], sh: Shape, items: TransferItems, b: u64) -> Result<(), Refusal>
-    ensures { tried (number_of result) s.new ≡ raised_items s.old sh b [] (items_left items.entry) }
+#[tactic(auto, unfolding(crate::specs::Preparing::raised_items), using(crate::specs::Code::rule_some, crate::specs::Code::items_none, crate::specs::Code::turn_rest, crate::specs::Code::turn_items))]
+fn raise_items(s: &mut [u64], sh: Shape, items: TransferItems, b: u64) -> Result<(), TransferFault>
+    ensures { tried (fault_of result) s.new ≡ raised_items s.old sh b [] 0 (items_left items.entry) }
 {
     for (i, q) in items.enumerate() {
-        if let Err(refusal) = raise_item(s, sh, b, q) {
-            lower_items(s, sh, items.first(i as u64), b);
-            return Err(refusal);
+        let position = i as u64;
+        if let Err(rule) = raise_item(s, sh, b, q) {
+            lower_items(s, sh, items.first(position), b);
+            return Err(TransferFault { rule, position });
         }
     }
     Ok(())
+}
+
+// All checks of the items and their copies, in the printed order. Where they pass, the copies' objects have their handles.
+#[tactic(auto, unfolding(crate::specs::Preparing::tried_items), using(crate::specs::Code::rule_some))]
+fn try_items(
+    s: &mut [u64],
+    sh: Shape,
+    items: TransferItems,
+    b: u64,
+    t: TransferRules,
+) -> Result<(), TransferFault>
+    ensures { tried (fault_of result) s.new ≡ tried_items s.old sh b t.route (as_option t.forbidden_object) (as_option t.forbidden_kind) (items_left items.entry) }
+{
+    check_items(s, sh, items, b, t)?;
+    raise_items(s, sh, items, b)
 }
 
 // A copy of the handle h with the rights r, in item j of the row in place x. By places, as in `put_moved`: by
@@ -579,15 +634,15 @@ fn put_entries(s: &mut [u64], sh: Shape, items: TransferItems, b: u64)
 
 // A refusal from the id step on: the id is spent, and nothing else.
 #[tactic(auto, unfolding(crate::specs::Preparing::refuse_spent_r))]
-fn refuse_spent(s: &mut [u64], sh: Shape, refusal: Refusal) -> Result<ReservationId, Refusal>
-    ensures { Gives s.new (reply id_words result) (λ os base. refuse_spent_r s.old os sh base (number refusal)) }
+fn refuse_spent(s: &mut [u64], sh: Shape, rule: Rule) -> Result<ReservationId, Refusal>
+    ensures { Gives s.new (reply id_words result) (λ os base. refuse_spent_r s.old os sh base (number_by rule)) }
 {
     book::spend_id(s, sh);
-    Err(refusal)
+    Err(rule.refusal())
 }
 
 // The rest of `prepare_transfer`, from the id step on.
-#[tactic(auto, unfolding(crate::specs::Preparing::items_r, crate::specs::Preparing::opened_r), using(crate::specs::Code::items_length, crate::specs::Code::number_some))]
+#[tactic(auto, unfolding(crate::specs::Preparing::items_r, crate::specs::Preparing::opened_r), using(crate::specs::Code::items_length, crate::specs::Code::rule_some))]
 fn prepare_items(
     s: &mut [u64],
     sh: Shape,
@@ -597,11 +652,8 @@ fn prepare_items(
 ) -> Result<ReservationId, Refusal>
     ensures { Gives s.new (reply id_words result) (λ os base. items_r s.old os sh base b t.route (as_option t.forbidden_object) (as_option t.forbidden_kind) (items_left items.entry)) }
 {
-    if let Err(refusal) = check_items(s, sh, items, b, t) {
-        return refuse_spent(s, sh, refusal);
-    }
-    if let Err(refusal) = raise_items(s, sh, items, b) {
-        return refuse_spent(s, sh, refusal);
+    if let Err(fault) = try_items(s, sh, items, b, t) {
+        return refuse_spent(s, sh, fault.rule);
     }
     let id = layout::root_word(s, sh, field::ROOT_NEXT_ID);
     put_entries(s, sh, items, b);
@@ -611,13 +663,18 @@ fn prepare_items(
 
 // "Transfer: 16, 17, 13, 1, 12; then item by item 2 (twice), 2 or 3 (lookup), 5 (rights), 8 (kind), 5 (object), 8 (route), 4; then copies
 // 9, 11". Its items stand after its record in the list.
-#[tactic(auto, unfolding(crate::specs::Preparing::transfer_at, crate::specs::Preparing::transfer_r), using(crate::specs::Code::items_length, crate::specs::Code::number_some))]
+#[tactic(auto, unfolding(crate::specs::Preparing::transfer_at, crate::specs::Preparing::transfer_r), using(crate::specs::Code::items_length, crate::specs::Code::rule_some))]
 pub fn prepare_transfer(s: &mut [u64], sh: Shape, rq: &Record) -> Result<ReservationId, Refusal>
     ensures { Gives s.new (reply id_words result) (λ os base. transfer_at s.old os sh base rq.now.words.now rq.now.at) }
 {
     let b = rq.field(FIELD_TABLE);
     let count = rq.field(FIELD_COUNT);
-    check_transfer(s, sh, b, count)?;
+    if sh.tables as u64 <= b {
+        return Err(Refusal::Misuse);
+    }
+    if let Err(rule) = check_batch(s, sh, b, count) {
+        return Err(rule.refusal());
+    }
     let t = read_rules(rq);
     let items = TransferItems {
         item: Record {

@@ -1,0 +1,80 @@
+// The rules at which a transfer's preparation stops, in the printed order: document 01, "Orders"; document 02, 4, counts their places from 1.
+ghost use Rattle.std.specs.Prelude.{◌≡◌};
+ghost use Rattle.format.specs.Refusals.{number};
+ghost use Rattle.format.specs.Rules.{number_by, place};
+
+use crate::refusal::Refusal;
+
+#[derive(Clone, Copy, PartialEq, Eq)]
+pub enum Rule {
+    TableRetired,
+    EmptyReservation,
+    ReservationTooLarge,
+    NoFreeRow,
+    NoIdLeft,
+    ListedTwice,
+    // "with lookup as one place": no handle, or one that is being moved.
+    NoHandle,
+    HandleBusy,
+    NoTransfer,
+    NoDuplicate,
+    OfferedBeyondSource,
+    RequestedBeyondOffered,
+    ForbiddenKind,
+    ForbiddenObject,
+    RouteBarsClass,
+    KindDiffers,
+    CopyRetired,
+    CopyAtLimit,
+}
+
+impl Rule {
+    // What preparation refuses with.
+    pub fn refusal(self) -> Refusal
+        ensures { number result ≡ number_by self }
+    {
+        match self {
+            Rule::TableRetired => Refusal::TableRetired,
+            Rule::EmptyReservation => Refusal::EmptyReservation,
+            Rule::ReservationTooLarge => Refusal::ReservationTooLarge,
+            Rule::NoFreeRow => Refusal::Allocation,
+            Rule::NoIdLeft => Refusal::ReservationIdExhausted,
+            Rule::ListedTwice | Rule::NoHandle => Refusal::InvalidHandle,
+            Rule::HandleBusy => Refusal::Busy,
+            Rule::NoTransfer
+            | Rule::NoDuplicate
+            | Rule::OfferedBeyondSource
+            | Rule::RequestedBeyondOffered
+            | Rule::ForbiddenObject => Refusal::AccessDenied,
+            Rule::ForbiddenKind | Rule::RouteBarsClass => Refusal::UnsupportedTransfer,
+            Rule::KindDiffers => Refusal::WrongObjectType,
+            Rule::CopyRetired => Refusal::ObjectRetired,
+            Rule::CopyAtLimit => Refusal::ActiveHandleLimit,
+        }
+    }
+
+    // "the rule's place in the printed order".
+    pub fn place(self) -> u64
+        ensures { result ≡ place self }
+    {
+        match self {
+            Rule::TableRetired => 1,
+            Rule::EmptyReservation => 2,
+            Rule::ReservationTooLarge => 3,
+            Rule::NoFreeRow => 4,
+            Rule::NoIdLeft => 5,
+            Rule::ListedTwice => 6,
+            Rule::NoHandle | Rule::HandleBusy => 7,
+            Rule::NoTransfer => 8,
+            Rule::NoDuplicate => 9,
+            Rule::OfferedBeyondSource => 10,
+            Rule::RequestedBeyondOffered => 11,
+            Rule::ForbiddenKind => 12,
+            Rule::ForbiddenObject => 13,
+            Rule::RouteBarsClass => 14,
+            Rule::KindDiffers => 15,
+            Rule::CopyRetired => 16,
+            Rule::CopyAtLimit => 17,
+        }
+    }
+}
