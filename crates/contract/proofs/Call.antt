@@ -2,7 +2,7 @@
 use Rattle.std.specs.Prelude.{Option as CodeOption, Some, None}
 use Rattle.std.proofs.Math.Path.{◌≡◌, refl, subst}
 use Rattle.std.proofs.Common.{sym, ap, ◌∙◌, get_or-take}
-use Rattle.std.specs.Prelude.{Bool, false, ℕ, ◌+◌, ◌-◌, ◌*◌, ◌≤◌, get_or, ltb}
+use Rattle.std.specs.Prelude.{Bool, false, ℕ, ◌+◌, ◌*◌, ◌≤◌, get_or, ltb}
 use Rattle.std.proofs.Math.Bool.{true}
 use mathlib.Core.List.{List, ◌++◌}
 use Rattle.std.proofs.Math.Option.{Option, none, some}

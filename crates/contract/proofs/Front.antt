@@ -60,11 +60,12 @@ spent_past ws rest h = sym (ap (λ (v : ℕ). set (ws ++ rest) 5 (v + 1)) (get_o
 -- a list's words from request to request, with the words past the end beside them
 pub passes_past : (sh : Shape) (rest : List ℕ) (rs : List Request) (ws vs : List ℕ) (s : State) → 5 < length ws → Passes sh ws s rs vs → Passes sh (ws ++ rest) s rs (vs ++ rest)
 passes_past sh rest [] ws vs s h p = ap (λ (x : List ℕ). x ++ rest) p
-passes_past sh rest (r ∷ rs) ws vs s h (us, rep, kept, spent, more) =
+passes_past sh rest (r ∷ rs) ws vs s h (us, rep, kept, spent, judges, more) =
     let room = rep.reps.shaped.room in (
       us ++ rest,
       rep_past sh us rest (step till s r).0 rep,
       (λ n q. ap (λ (x : List ℕ). x ++ rest) (kept n q)),
       (λ n q. ap (λ (x : List ℕ). x ++ rest) (spent n q) ∙ spent_past ws rest h),
+      (λ q. ap (λ (x : List ℕ). x ++ rest) (judges q)),
       passes_past sh rest rs us vs (step till s r).0 (omega arith) more,
     )

@@ -1,3 +1,4 @@
+pub mod Ops
 pub mod Front
 pub mod Short
 pub mod Run

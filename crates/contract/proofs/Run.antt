@@ -5,7 +5,7 @@ use Rattle.std.proofs.Common.{sym, ◌∙◌, length-append, length-take-le, tak
 use Rattle.std.proofs.Math.Path.{ap}
 use mathlib.Core.List.{List, [], ◌∷◌, ◌++◌, append_assoc}
 use Rattle.std.proofs.Math.Option.{some}
-use Prim.Native.Nat.{ℕ, zero, suc, ◌+◌, ◌-◌, ◌*◌, ◌≤◌}
+use Prim.Native.Nat.{ℕ, zero, suc, ◌+◌, ◌*◌, ◌≤◌}
 use native.Mathlib.Omega.{arith}
 use Rattle.std.proofs.Math.ListN.{length, take, drop, take-append-drop}
 use Rattle.std.proofs.Math.Seq.{drop-append-add, drop-drop}
@@ -81,7 +81,7 @@ module _ (one : One) (steps : Steps one) where
           rec x.state x.answers (step till s req).0 t.rest after t.left lr (omega (arith, long)) in
           rw t.first (record {
             state = ran.state;
-            each = (x.state, after, d.0.kept, d.0.spent, ran.each);
+            each = (x.state, after, d.0.kept, d.0.spent, d.2, ran.each);
             answers =
                 let q : answer_words + answer_words * length t.rest ≡ answer_words * suc (length t.rest) = omega arith in
                 let j = joined base answer_words os x.answers (words_of (step till s req).1) (all_words (run till (step till s req).0 t.rest).1)

@@ -5,17 +5,18 @@ use mathlib.Core.List.{List, [], ◌∷◌, map}
 use native.Mathlib.Omega.{arith}
 use Rattle.words.specs.Pick.{bool}
 use Rattle.authority.specs.Rights.{contains, duplicate_right}
+use Rattle.std.proofs.Math.Option.{Option, none, some}
 use Rattle.model.specs.Base.{at_most, is_some}
-use Rattle.model.specs.State.{Sizes, till, Handle, Slot, Table, Body.plan, State, is_active, is_occupied, known_flags, max_batch}
+use Rattle.model.specs.State.{Sizes, till, Slot, Table, Body.plan, State, is_active, is_occupied, known_flags, max_batch}
 use Rattle.model.specs.Storage.{is_stale, Walk, walk, length_of, grow}
 use Rattle.model.specs.Objects.{is_now_active, is_now_retired}
-use Rattle.model.specs.Book.{find, free_row, id_left, any_open, copies_of}
-use Rattle.model.specs.Transfer.{items_fault, copies_fault, entry_for}
+use Rattle.model.specs.Book.{find, free_row, id_left, any_open}
+use Rattle.model.specs.Transfer.{items_fault, copies_fault, transfer_fault, entry_for}
 use Rattle.model.specs.Decision.{Decision, Decision.refusal, Decision.refusal_after_id, Decision.accept, as_parcel, handles_of, distinct}
 use Rattle.model.specs.Lookup.{lookup, snapshot_at, value_at}
-use Rattle.model.specs.Request.{Request, Answer.batch, Answer.scanned, Request.new_object, Request.duplicate, Request.release_parcel, Request.retire_object, Request.reserve, Request.trim, Request.abort, Request.publish, Request.get_info, Request.resolve, Request.replace, Request.close, Request.scan_handles, Request.prepare_transfer, Request.prepare_consumption, Request.rollback, Request.commit, Request.direct_commit, Request.direct_rollback, Request.remove_stopping_owner, Request.teardown_start, Request.teardown_step, Request.teardown_finish, Request.take_empty_page, Request.make_plan, Request.use_plan, Request.drop_plan}
+use Rattle.model.specs.Request.{Fault, Request, Answer.batch, Answer.scanned, Answer.judged, Request.new_object, Request.duplicate, Request.release_parcel, Request.retire_object, Request.reserve, Request.trim, Request.abort, Request.publish, Request.get_info, Request.resolve, Request.replace, Request.close, Request.scan_handles, Request.prepare_transfer, Request.prepare_consumption, Request.rollback, Request.commit, Request.direct_commit, Request.direct_rollback, Request.remove_stopping_owner, Request.teardown_start, Request.teardown_step, Request.teardown_finish, Request.take_empty_page, Request.make_plan, Request.use_plan, Request.drop_plan, Request.judge_transfer}
 use Rattle.model.specs.Words.{used_words}
-use Rattle.model.specs.Step.{decide, step, carry, new_object_of, duplicate_of, release_parcel_of, retire_object_of, reserve_of, trim_of, abort_of, publish_of, get_info_of, resolve_of, replace_of, close_of, scan_handles_of, prepare_transfer_of, prepare_consumption_of, rollback_of, commit_of, direct_commit_of, direct_rollback_of, remove_stopping_owner_of, remove_at, next_occupied, teardown_start_of, teardown_step_of, tear_at, teardown_finish_of, take_empty_page_of, take_at, make_plan_of, use_plan_of, drop_plan_of, snapshot_page}
+use Rattle.model.specs.Step.{decide, step, carry, new_object_of, duplicate_of, release_parcel_of, retire_object_of, reserve_of, trim_of, abort_of, publish_of, get_info_of, resolve_of, replace_of, close_of, scan_handles_of, prepare_transfer_of, prepare_consumption_of, rollback_of, commit_of, direct_commit_of, direct_rollback_of, remove_stopping_owner_of, remove_at, next_occupied, teardown_start_of, teardown_step_of, tear_at, teardown_finish_of, take_empty_page_of, take_at, make_plan_of, use_plan_of, drop_plan_of, judge_transfer_of, snapshot_page}
 use Rattle.model.proofs.Decided.{Decided, Any, accepts, checked, with_some, with_view, with_handle, with_look, with_reservation, with_claim, with_plan, with_room_law, while_tearing, after_id, found_or, either_way, first_or}
 use Rattle.model.proofs.Lists.{entry_words_law}
 use Rattle.model.specs.WellFormed.{WellFormed}
@@ -44,6 +45,11 @@ batch_short : (i n : ℕ) (u : Table) → n ≤ max_batch → Short (batch i (ma
 unfolding used_words max_batch
 batch_short i n u l = omega (arith, map_length (value_at u) (take n u.free), take_most n u.free, l)
 
+judged_short : (f : Option Fault) → Short (judged f)
+unfolding used_words
+judged_short none = omega arith
+judged_short (some f) = omega arith
+
 scan_short : (z : Sizes) → z.scan_entries ≤ till.scan_entries → (s : State) (b c : ℕ) → Short (scanned (snapshot_page z s (s.tables b) c))
 unfolding used_words
 scan_short z fits s b c =
@@ -55,7 +61,7 @@ scan_short z fits s b c =
 -- of a well-formed state, whose plans are of at most 64 slots
 module _ (z : Sizes) (fits : z.scan_entries ≤ till.scan_entries) (s : State) (w : WellFormed z s) where
   pub decide_short : (r : Request) → Decided Any Any (λ u a. Short a) (decide z s r)
-  unfolding decide new_object_of duplicate_of release_parcel_of retire_object_of reserve_of trim_of abort_of publish_of get_info_of resolve_of replace_of close_of scan_handles_of prepare_transfer_of prepare_consumption_of rollback_of commit_of direct_commit_of direct_rollback_of remove_stopping_owner_of teardown_start_of teardown_step_of teardown_finish_of take_empty_page_of make_plan_of use_plan_of drop_plan_of used_words
+  unfolding decide new_object_of duplicate_of release_parcel_of retire_object_of reserve_of trim_of abort_of publish_of get_info_of resolve_of replace_of close_of scan_handles_of prepare_transfer_of prepare_consumption_of rollback_of commit_of direct_commit_of direct_rollback_of remove_stopping_owner_of teardown_start_of teardown_step_of teardown_finish_of take_empty_page_of make_plan_of use_plan_of drop_plan_of judge_transfer_of used_words
   decide_short (new_object o r f) =
       checked (ltb o s.object_count) 18 tt λ e.
       checked (free_row s) 1 tt λ e.
@@ -193,6 +199,9 @@ module _ (z : Sizes) (fits : z.scan_entries ≤ till.scan_entries) (s : State) (
   decide_short (drop_plan i) =
       with_plan (find i s.book.rows) tt λ b n r fs e.
       accepts (omega arith)
+  decide_short (judge_transfer b route o k qs) =
+      checked (ltb b s.table_count) 18 tt λ e.
+      accepts (judged_short (transfer_fault s (s.tables b) route o k qs))
 
   pub step_short : (r : Request) → Short (step z s r).1
   unfolding step used_words

@@ -1,3 +1,4 @@
+pub mod Ops
 pub mod Meets
 pub mod Run
 pub mod Call

@@ -7,11 +7,11 @@ use Rattle.format.specs.Ops.{op_last}
 
 -- docs/formats.md, "Ops": the fields that each op must carry, as a bit map, at the op's number
 unfoldable pub musts : List ℕ
-musts = 0 ∷ 101 ∷ 51 ∷ 129 ∷ 5 ∷ 11 ∷ 137 ∷ 129 ∷ 137 ∷ 19 ∷ 563 ∷ 51 ∷ 19 ∷ 2051 ∷ 4107 ∷ 1587 ∷ 129 ∷ 129 ∷ 385 ∷ 385 ∷ 2051 ∷ 3 ∷ 3 ∷ 3 ∷ 3 ∷ 11 ∷ 129 ∷ 129 ∷ []
+musts = 0 ∷ 101 ∷ 51 ∷ 129 ∷ 5 ∷ 11 ∷ 137 ∷ 129 ∷ 137 ∷ 19 ∷ 563 ∷ 51 ∷ 19 ∷ 2051 ∷ 4107 ∷ 1587 ∷ 129 ∷ 129 ∷ 385 ∷ 385 ∷ 2051 ∷ 3 ∷ 3 ∷ 3 ∷ 3 ∷ 11 ∷ 129 ∷ 129 ∷ 4107 ∷ []
 
 -- docs/formats.md, "Ops": the fields that each op may carry besides
 unfoldable pub mays : List ℕ
-mays = 0 ∷ 0 ∷ 0 ∷ 0 ∷ 0 ∷ 0 ∷ 0 ∷ 0 ∷ 0 ∷ 0 ∷ 0 ∷ 0 ∷ 0 ∷ 0 ∷ 196608 ∷ 0 ∷ 0 ∷ 0 ∷ 0 ∷ 0 ∷ 0 ∷ 0 ∷ 0 ∷ 0 ∷ 0 ∷ 0 ∷ 0 ∷ 0 ∷ []
+mays = 0 ∷ 0 ∷ 0 ∷ 0 ∷ 0 ∷ 0 ∷ 0 ∷ 0 ∷ 0 ∷ 0 ∷ 0 ∷ 0 ∷ 0 ∷ 0 ∷ 196608 ∷ 0 ∷ 0 ∷ 0 ∷ 0 ∷ 0 ∷ 0 ∷ 0 ∷ 0 ∷ 0 ∷ 0 ∷ 0 ∷ 0 ∷ 0 ∷ 196608 ∷ []
 
 -- docs/formats.md, the items' table: a transfer item must carry operation, value and rights
 abbrev pub transfer_item_must : ℕ
@@ -38,7 +38,7 @@ unfoldable pub field_kinds : List ℕ
 field_kinds =
     an_op ∷ any_word ∷ any_word ∷ any_word ∷ any_word ∷ any_word ∷ number32 ∷ any_word ∷ any_word ∷ number32 ∷ a_koid ∷ any_word ∷ a_route ∷ any_word ∷ number32 ∷ number32 ∷ a_koid ∷ number32 ∷ []
 
--- docs/formats.md, "Ops": "Op 0 and every op above 27 is unknown."
+-- docs/formats.md, "Ops": "Op 0 and every op above 28 is unknown."
 unfoldable pub known_op : ℕ → Bool
 known_op op = leb 1 op && leb op op_last
 

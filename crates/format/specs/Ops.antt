@@ -82,6 +82,9 @@ op_use_plan = 26
 abbrev pub op_drop_plan : ℕ
 op_drop_plan = 27
 
+abbrev pub op_judge_transfer : ℕ
+op_judge_transfer = 28
+
 -- the last of them
 abbrev pub op_last : ℕ
-op_last = 27
+op_last = 28

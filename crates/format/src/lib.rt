@@ -22,7 +22,7 @@ pub fn must(op: u64) -> u64
     maps::MUST.get(op as usize).copied().unwrap_or(0)
 }
 
-// The fields that an op may carry besides, as a bit map; 0 for an unknown op. Only a transfer's preparation has any.
+// The fields that an op may carry besides, as a bit map; 0 for an unknown op. Only preparing a transfer and judging one have any.
 #[tactic(auto, unfolding(crate::specs::Format::mays))]
 pub fn may(op: u64) -> u64
     ensures { result ≡ get_or mays op 0 }

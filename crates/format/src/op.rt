@@ -57,5 +57,7 @@ pub const OP_USE_PLAN: u64 = 26;
 
 pub const OP_DROP_PLAN: u64 = 27;
 
+pub const OP_JUDGE_TRANSFER: u64 = 28;
+
 // Every op above the last, and 0, is unknown.
-pub const OP_LAST: u64 = 27;
+pub const OP_LAST: u64 = 28;

@@ -17,3 +17,6 @@ pub const NUMBER_32_MAX: u64 = 4_294_967_295;
 pub const ROUTE_LAST: u64 = 2;
 
 pub const OPERATION_LAST: u64 = 1;
+
+// The position that stands for no item: "64 where no item is at fault".
+pub const NO_ITEM: u64 = 64;

@@ -16,14 +16,14 @@ use Rattle.model.specs.Request.{Route, Item, Request, Request.new_object, Reques
 use Rattle.model.specs.Request.{Request.reserve, Request.trim, Request.abort, Request.publish, Request.get_info, Request.resolve, Request.replace}
 use Rattle.model.specs.Request.{Request.close, Request.scan_handles, Request.prepare_transfer, Request.prepare_consumption, Request.rollback}
 use Rattle.model.specs.Request.{Request.commit, Request.direct_commit, Request.direct_rollback, Request.remove_stopping_owner, Request.teardown_start}
-use Rattle.model.specs.Request.{Request.teardown_step, Request.teardown_finish, Request.take_empty_page, Request.make_plan, Request.use_plan, Request.drop_plan}
+use Rattle.model.specs.Request.{Request.teardown_step, Request.teardown_finish, Request.take_empty_page, Request.make_plan, Request.use_plan, Request.drop_plan, Request.judge_transfer}
 use Rattle.model.specs.Change.{with_table, with_frames}
 use Rattle.model.specs.Book.{add_row, drop_row, drop_id, free_row, id_left, find}
 use Rattle.model.specs.Decision.{handles_of, distinct}
 use Rattle.model.specs.Lookup.{lookup}
 use Rattle.model.specs.Transfer.{items_fault, copies_fault, entry_for}
 use Rattle.model.specs.Step.{reserve_of, trim_of, abort_of, publish_of, prepare_transfer_of, prepare_consumption_of, rollback_of, commit_of, direct_commit_of}
-use Rattle.model.specs.Step.{direct_rollback_of, make_plan_of, use_plan_of, drop_plan_of, decide, step}
+use Rattle.model.specs.Step.{direct_rollback_of, make_plan_of, use_plan_of, drop_plan_of, judge_transfer_of, decide, step}
 use Rattle.model.specs.WellFormed.{HandleRange, PlanRange, WellFormed}
 use Rattle.model.proofs.Tests.{clash, same, bit_small, put_same, at_most_law, put_put}
 use Rattle.model.proofs.Decided.{accepts, checked, with_some, with_view, after_id, with_reservation, with_claim, with_plan, with_room_law, carried}
@@ -169,6 +169,10 @@ module _ (z : Sizes) (sane : Sane z) (s : State) (w : WellFormed z s) where
       (λ o p. items_count s t route bo bk o (1 ≤ (s.objects o).count) (λ k n h st y. omega (arith, slot_counted s g b k n h m st o p, of_same o h y))
       [] 0 qs e))
 
+  judge_kept : (b : ℕ) (route : Route) (bo bk : Option ℕ) (qs : List Item) → Keeps s (judge_transfer_of z s b route bo bk qs)
+  unfolding judge_transfer_of
+  judge_kept b route bo bk qs = checked (ltb b s.table_count) _ tt λ l. accepts g
+
   consume_kept : (b v r kind koid : ℕ) → Keeps s (prepare_consumption_of z s b v r kind koid)
   unfolding prepare_consumption_of
   consume_kept b v r kind koid = let t : Table = s.tables b in
@@ -217,6 +221,7 @@ module _ (z : Sizes) (sane : Sane z) (s : State) (w : WellFormed z s) where
   decided (make_plan b n) = plan_kept b n
   decided (use_plan i) = use_kept i
   decided (drop_plan i) = drop_kept i
+  decided (judge_transfer b route o k qs) = judge_kept b route o k qs
 
   requested : (r : Request) → Good (step z s r).0
   unfolding step

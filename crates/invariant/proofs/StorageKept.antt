@@ -18,7 +18,7 @@ use Rattle.model.specs.Request.{Route, Item, Request, Request.new_object, Reques
 use Rattle.model.specs.Request.{Request.reserve, Request.trim, Request.abort, Request.publish, Request.get_info, Request.resolve, Request.replace}
 use Rattle.model.specs.Request.{Request.close, Request.scan_handles, Request.prepare_transfer, Request.prepare_consumption, Request.rollback}
 use Rattle.model.specs.Request.{Request.commit, Request.direct_commit, Request.direct_rollback, Request.remove_stopping_owner, Request.teardown_start}
-use Rattle.model.specs.Request.{Request.teardown_step, Request.teardown_finish, Request.take_empty_page, Request.make_plan, Request.use_plan, Request.drop_plan}
+use Rattle.model.specs.Request.{Request.teardown_step, Request.teardown_finish, Request.take_empty_page, Request.make_plan, Request.use_plan, Request.drop_plan, Request.judge_transfer}
 use Rattle.model.specs.Change.{with_table, with_frames, with_book}
 use Rattle.model.specs.Objects.{raise, lower, change_all, release}
 use Rattle.model.specs.Book.{free_row, id_left, moved_of, copies_of, sent_of, find, drop_id}
@@ -26,7 +26,7 @@ use Rattle.model.specs.Decision.{handles_of, distinct}
 use Rattle.model.specs.Lookup.{lookup}
 use Rattle.model.specs.Transfer.{items_fault, copies_fault, entry_for}
 use Rattle.model.specs.Step.{fill_all, restore_all, reserve_of, trim_of, abort_of, publish_of, prepare_transfer_of, prepare_consumption_of, rollback_of}
-use Rattle.model.specs.Step.{commit_of, direct_commit_of, direct_rollback_of, make_plan_of, use_plan_of, drop_plan_of, decide, step}
+use Rattle.model.specs.Step.{commit_of, direct_commit_of, direct_rollback_of, make_plan_of, use_plan_of, drop_plan_of, judge_transfer_of, decide, step}
 use Rattle.model.specs.WellFormed.{All, Rising, PlanRange, frames_in, plans_with, WellFormed}
 use Rattle.model.proofs.Tests.{bool, at_most_law, bit_small}
 use Rattle.model.proofs.Sums.{occurs_split}
@@ -99,6 +99,10 @@ module _ (z : Sizes) (sane : Sane z) (s : State) (w : WellFormed z s) where
       accepts (table_kept z s w b (restore_all z es t) l (restore_all_alike z es t)
       (restore_all_good z sane t es (sound_at z s w b l) (claim_owns z s w i b es e).busy) (change_all lower (copies_of es) s.objects)
       (copies_rest z s w i b es e) _ _ (ended z s w i (claim b es) e refl))
+
+  judge_kept : (b : ℕ) (route : Route) (bo bk : Option ℕ) (qs : List Item) → KeptD z s (judge_transfer_of z s b route bo bk qs)
+  unfolding judge_transfer_of
+  judge_kept b route bo bk qs = checked (ltb b s.table_count) _ tt λ l. accepts (still z s w)
 
   consume_kept : (b v r kind koid : ℕ) → KeptD z s (prepare_consumption_of z s b v r kind koid)
   unfolding prepare_consumption_of
@@ -295,6 +299,7 @@ module _ (z : Sizes) (sane : Sane z) (s : State) (w : WellFormed z s) where
   decided (make_plan b n) = plan_kept b n
   decided (use_plan i) = use_kept i
   decided (drop_plan i) = drop_kept i
+  decided (judge_transfer b route o k qs) = judge_kept b route o k qs
 
   request_kept : (r : Request) → Kept z s (step z s r).0
   unfolding step

@@ -6,6 +6,7 @@ pub mod Bounds
 pub mod Cases
 pub mod PlanCases
 pub mod LookCases
+pub mod JudgeCases
 pub mod Effects
 pub mod WordCases
 pub mod Decided

@@ -4,7 +4,7 @@ use Rattle.std.proofs.Common.{sym, ap, ◌∙◌, append_assoc, arith, length-ap
 use Rattle.std.proofs.Math.Option.{Option, none, some}
 use Rattle.std.proofs.lemmas.List.{length-map}
 use Rattle.format.specs.Format.{musts, mays, transfer_item_must, transfer_item_may, parcel_item_must, parcel_item_may, field_count, answer_words}
-use Rattle.model.specs.Base.{pick, nth}
+use Rattle.model.specs.Base.{pick}
 use Rattle.model.specs.State.{Sizes, Slot, Table, State, is_occupied, max_batch}
 use Rattle.model.specs.Storage.{walk, length_of}
 use Rattle.model.specs.Request.{Snapshot, Answer, Answer.batch, Answer.scanned, Request, Request.new_object, Request.duplicate}
@@ -12,7 +12,7 @@ use Rattle.model.specs.Request.{Request.release_parcel, Request.retire_object, R
 use Rattle.model.specs.Request.{Request.get_info, Request.resolve, Request.replace, Request.close, Request.scan_handles}
 use Rattle.model.specs.Request.{Request.prepare_transfer, Request.prepare_consumption, Request.rollback, Request.commit, Request.direct_commit}
 use Rattle.model.specs.Request.{Request.direct_rollback, Request.remove_stopping_owner, Request.teardown_start, Request.teardown_step}
-use Rattle.model.specs.Request.{Request.teardown_finish, Request.take_empty_page, Request.make_plan, Request.use_plan, Request.drop_plan}
+use Rattle.model.specs.Request.{Request.teardown_finish, Request.take_empty_page, Request.make_plan, Request.use_plan, Request.drop_plan, Request.judge_transfer}
 use Rattle.model.specs.Lookup.{snapshot_at}
 use Rattle.model.specs.Step.{run, step, snapshot_page}
 use Rattle.model.specs.Words.{Reading, and_then, Fields, odd, read_field, read_fields, must, good_record, read_record, read_many, read_transfer_item}
@@ -112,6 +112,7 @@ front_items f (take_empty_page b) ws = ([], refl, omega arith)
 front_items f (make_plan b n) ws = ([], refl, omega arith)
 front_items f (use_plan i) ws = ([], refl, omega arith)
 front_items f (drop_plan i) ws = ([], refl, omega arith)
+front_items f (judge_transfer b route o k qs) ws = front_then 0 0 ws (read_many read_transfer_item (must f count_field) ws) _ (front_many read_transfer_item front_transfer_item (must f count_field) ws) λ r. ([], refl, omega arith)
 
 -- a request is read off the front of the list: a word at least, and never a word past it
 pub request_in_front : (ws : List ℕ) → Front 1 ws (read_request ws)

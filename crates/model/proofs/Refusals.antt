@@ -1,6 +1,6 @@
 -- Demand 1 on the definitions: "a refused request carries a number from document 01 and changes nothing, save the one reservation id spent by
 -- a transfer preparation refused after its id step".
-use Rattle.std.specs.Prelude.{◌≡◌, Bool, true, false, not, ◌&&◌, ◌||◌, ℕ, suc, length, drop, eqb, ltb}
+use Rattle.std.specs.Prelude.{◌≡◌, Bool, true, false, not, ◌&&◌, ◌||◌, ℕ, suc, length, eqb, ltb}
 use Rattle.std.proofs.Math.Path.{refl}
 use Rattle.std.proofs.Common.{ap}
 use mathlib.Core.List.{List, [], ◌∷◌, map}
@@ -8,25 +8,25 @@ use Rattle.std.proofs.Math.Option.{Option, none, some}
 use Rattle.std.proofs.lemmas.Bool.{not-true}
 use Rattle.authority.specs.Rights.{contains, duplicate_right}
 use Rattle.model.specs.Base.{pick, between, at_most, is_some, member}
-use Rattle.model.specs.State.{Sizes, Handle, Table, Object, Entry, Entry.moved, Entry.copied, State, is_active, max_batch, known_flags}
+use Rattle.model.specs.State.{Sizes, Table, Object, Entry, Entry.moved, Entry.copied, State, is_active, max_batch, known_flags}
 use Rattle.model.specs.Storage.{is_stale}
 use Rattle.model.specs.Request.{Route, Item, Fault, Answer, Answer.refused, Answer.done, Answer.opened, Answer.batch, Answer.info_of, Answer.resolved}
-use Rattle.model.specs.Request.{Answer.renewed, Answer.scanned, Answer.removed, Answer.closed, Answer.taken, Answer.planned, Request, Request.new_object}
+use Rattle.model.specs.Request.{Answer.renewed, Answer.scanned, Answer.removed, Answer.closed, Answer.taken, Answer.planned, Answer.judged, Request, Request.new_object}
 use Rattle.model.specs.Request.{Request.duplicate, Request.release_parcel, Request.retire_object, Request.reserve, Request.trim, Request.abort}
 use Rattle.model.specs.Request.{Request.publish, Request.get_info, Request.resolve, Request.replace, Request.close, Request.scan_handles}
 use Rattle.model.specs.Request.{Request.prepare_transfer, Request.prepare_consumption, Request.rollback, Request.commit, Request.direct_commit}
 use Rattle.model.specs.Request.{Request.direct_rollback, Request.remove_stopping_owner, Request.teardown_start, Request.teardown_step}
-use Rattle.model.specs.Request.{Request.teardown_finish, Request.take_empty_page, Request.make_plan, Request.use_plan, Request.drop_plan}
+use Rattle.model.specs.Request.{Request.teardown_finish, Request.take_empty_page, Request.make_plan, Request.use_plan, Request.drop_plan, Request.judge_transfer}
 use Rattle.model.specs.Objects.{is_now_active, is_now_retired, change, raise}
 use Rattle.model.specs.Book.{find, free_row, id_left, any_open, spend_id}
 use Rattle.model.specs.Decision.{Decision, Decision.refusal, Decision.refusal_after_id, Decision.accept, as_parcel}
 use Rattle.model.specs.Decision.{handles_of, distinct}
-use Rattle.model.specs.Lookup.{View, View.invalid, View.busy, View.holds, lookup}
+use Rattle.model.specs.Lookup.{lookup}
 use Rattle.model.specs.Transfer.{Check, first_fault, item_checks, copy_checks, first_of, items_fault, copies_fault, entry_for}
 use Rattle.model.specs.Step.{decide, step, carry, new_object_of, duplicate_of, release_parcel_of, retire_object_of, reserve_of, trim_of, abort_of}
 use Rattle.model.specs.Step.{publish_of, get_info_of, resolve_of, replace_of, close_of, scan_handles_of, prepare_transfer_of, prepare_consumption_of}
 use Rattle.model.specs.Step.{rollback_of, commit_of, direct_commit_of, direct_rollback_of, remove_stopping_owner_of, remove_at, next_occupied}
-use Rattle.model.specs.Step.{teardown_start_of, tear_at, teardown_step_of, teardown_finish_of, take_at, take_empty_page_of, make_plan_of, use_plan_of, drop_plan_of}
+use Rattle.model.specs.Step.{teardown_start_of, tear_at, teardown_step_of, teardown_finish_of, take_at, take_empty_page_of, make_plan_of, use_plan_of, drop_plan_of, judge_transfer_of}
 use Rattle.model.proofs.Tests.{clash, and_left, and_right}
 use Rattle.model.proofs.Decided.{Decided, accepts, checked, with_some, with_view, with_handle, with_look, with_reservation, with_claim, with_plan, with_room_law, while_tearing}
 use Rattle.model.proofs.Decided.{after_id, either_way, found_or, first_or}
@@ -44,6 +44,7 @@ is_refused (removed x c) = false
 is_refused (closed x) = false
 is_refused (taken p) = false
 is_refused (planned i n m) = false
+is_refused (judged x) = false
 
 abbrev pub is_transfer : Request → Bool
 is_transfer (new_object o r f) = false
@@ -73,29 +74,30 @@ is_transfer (take_empty_page b) = false
 is_transfer (make_plan b n) = false
 is_transfer (use_plan i) = false
 is_transfer (drop_plan i) = false
+is_transfer (judge_transfer b route o k qs) = false
 
 -- a request's refusals have the numbers 1 to 18, and 21 (document 02, 1)
 abbrev pub numbered : ℕ → Bool
 numbered n = between 1 n 18 || eqb n 21
 
 -- the numbers of a transfer's items and copies, which are looked at after the id step
-abbrev pub judged : ℕ → Bool
-judged n = member n (2 ∷ 3 ∷ 4 ∷ 5 ∷ 8 ∷ 9 ∷ 11 ∷ [])
+abbrev pub of_item : ℕ → Bool
+of_item n = member n (2 ∷ 3 ∷ 4 ∷ 5 ∷ 8 ∷ 9 ∷ 11 ∷ [])
 
 -- the refusals that spend an id: of a transfer's preparation, for an item or a copy
 abbrev pub spends : Request → ℕ → Bool
-spends r n = is_transfer r && judged n
+spends r n = is_transfer r && of_item n
 
 -- a decision, of a transfer or not: refusals are numbered, those after the id step are a transfer's for an item or a copy and no others are, and what is
 -- accepted answers no refusal
 abbrev pub Fits : Bool → Decision → Type 0
 Fits transfer d =
-    Decided (λ n. numbered n && not (transfer && judged n) ≡ true) (λ n. transfer && (numbered n && judged n) ≡ true) (λ u a. is_refused a ≡ false) d
+    Decided (λ n. numbered n && not (transfer && of_item n) ≡ true) (λ n. transfer && (numbered n && of_item n) ≡ true) (λ u a. is_refused a ≡ false) d
 
 -- the faults of a transfer's items and copies are numbered so
 abbrev Faults : Option Fault → Type 0
 Faults none = Unit {0}
-Faults (some f) = numbered f.number && judged f.number ≡ true
+Faults (some f) = numbered f.number && of_item f.number ≡ true
 
 faults_pick : (b : Bool) (x y : Option Fault) → Faults x → Faults y → Faults (pick b x y)
 faults_pick true x y p q = p
@@ -103,7 +105,7 @@ faults_pick false x y p q = q
 
 abbrev AllNumbered : List Check → Type 0
 AllNumbered [] = Unit {0}
-AllNumbered (c ∷ cs) = (numbered c.number && judged c.number ≡ true) × AllNumbered cs
+AllNumbered (c ∷ cs) = (numbered c.number && of_item c.number ≡ true) × AllNumbered cs
 
 faults_first : (j : ℕ) (cs : List Check) → AllNumbered cs → Faults (first_fault j cs)
 faults_first j [] h = tt
@@ -131,7 +133,7 @@ faults_copies os j (copied h ∷ es) =
 
 module _ (z : Sizes) (s : State) where
   pub decide_fits : (r : Request) → Fits (is_transfer r) (decide z s r)
-  unfolding decide new_object_of duplicate_of release_parcel_of retire_object_of reserve_of trim_of abort_of publish_of get_info_of resolve_of replace_of close_of scan_handles_of prepare_transfer_of prepare_consumption_of rollback_of commit_of direct_commit_of direct_rollback_of remove_stopping_owner_of teardown_start_of teardown_step_of teardown_finish_of take_empty_page_of make_plan_of use_plan_of drop_plan_of
+  unfolding decide new_object_of duplicate_of release_parcel_of retire_object_of reserve_of trim_of abort_of publish_of get_info_of resolve_of replace_of close_of scan_handles_of prepare_transfer_of prepare_consumption_of rollback_of commit_of direct_commit_of direct_rollback_of remove_stopping_owner_of teardown_start_of teardown_step_of teardown_finish_of take_empty_page_of make_plan_of use_plan_of drop_plan_of judge_transfer_of
   decide_fits (new_object o r f) =
       checked (ltb o s.object_count) 18 refl λ e.
       checked (free_row s) 1 refl λ e.
@@ -269,6 +271,9 @@ module _ (z : Sizes) (s : State) where
   decide_fits (drop_plan i) =
       with_plan (find i s.book.rows) refl λ b n w fs e.
       accepts refl
+  decide_fits (judge_transfer b route o k qs) =
+      checked (ltb b s.table_count) 18 refl λ e.
+      accepts refl
 
 -- what a refused request leaves: its number is one of 1 to 18, or 21; nothing changes, save the one id of a transfer's preparation that is refused for an item or a copy
 pub record Refused (z : Sizes) (s : State) (r : Request) (n : ℕ) : Type 0 where
@@ -290,9 +295,9 @@ refused_keeps z s r n e = go (decide z s r) refl (decide_fits z s r) e
     go (refusal_after_id m) q f e =
         let h : m ≡ n = cc in
         let same : (carry z s (decide z s r)).0 ≡ spend_id s = ap (λ d. (carry z s d).0) q in
-        let l : is_transfer r && (numbered n && judged n) ≡ true = rw h at f.leaves in
-        let x : is_transfer r ≡ true = and_left (is_transfer r) (numbered n && judged n) l in
-        let c : numbered n && judged n ≡ true = and_right (is_transfer r) (numbered n && judged n) l in
-        let y : spends r n ≡ true = rw x (and_right (numbered n) (judged n) c) in
-        record { number = and_left (numbered n) (judged n) c; kept = λ p. clash y p; spent = λ p. same }
+        let l : is_transfer r && (numbered n && of_item n) ≡ true = rw h at f.leaves in
+        let x : is_transfer r ≡ true = and_left (is_transfer r) (numbered n && of_item n) l in
+        let c : numbered n && of_item n ≡ true = and_right (is_transfer r) (numbered n && of_item n) l in
+        let y : spends r n ≡ true = rw x (and_right (numbered n) (of_item n) c) in
+        record { number = and_left (numbered n) (of_item n) c; kept = λ p. clash y p; spent = λ p. same }
     go (accept u a) q f e = clash (ap is_refused e) f.leaves

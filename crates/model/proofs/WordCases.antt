@@ -8,7 +8,7 @@ use Rattle.model.specs.Base.{pick, nth, is_some, or_else, range}
 use Rattle.model.specs.State.{till, State, max_batch, max_slots, last_id}
 use Rattle.model.specs.Storage.{place, take_free, pages_for, attach}
 use Rattle.model.specs.Request.{Route, Route.buffered, Route.rendezvous, Route.staged_startup, Operation, Operation.as_move, Operation.as_copy, Item}
-use Rattle.model.specs.Request.{Request, Request.new_object, Request.duplicate, Request.release_parcel, Request.retire_object, Request.reserve, Request.trim, Request.abort, Request.publish, Request.get_info, Request.resolve, Request.replace, Request.close, Request.scan_handles, Request.prepare_transfer, Request.prepare_consumption, Request.rollback, Request.commit, Request.direct_commit, Request.direct_rollback, Request.remove_stopping_owner, Request.teardown_start, Request.teardown_step, Request.teardown_finish, Request.take_empty_page, Request.make_plan, Request.use_plan, Request.drop_plan}
+use Rattle.model.specs.Request.{Request, Request.new_object, Request.duplicate, Request.release_parcel, Request.retire_object, Request.reserve, Request.trim, Request.abort, Request.publish, Request.get_info, Request.resolve, Request.replace, Request.close, Request.scan_handles, Request.prepare_transfer, Request.prepare_consumption, Request.rollback, Request.commit, Request.direct_commit, Request.direct_rollback, Request.remove_stopping_owner, Request.teardown_start, Request.teardown_step, Request.teardown_finish, Request.take_empty_page, Request.make_plan, Request.use_plan, Request.drop_plan, Request.judge_transfer}
 use Rattle.model.specs.Step.{decide, step, new_object_of, reserve_of}
 use Rattle.model.specs.Words.{Outcome, read_request, read_list, used_words, words_of, answer_short, call}
 use Rattle.model.proofs.Cases.{Case, ◌is◌, line, fresh}
@@ -74,6 +74,7 @@ shown (take_empty_page b) = 24 ∷ b ∷ []
 shown (make_plan b n) = 25 ∷ b ∷ n ∷ []
 shown (use_plan i) = 26 ∷ i ∷ []
 shown (drop_plan i) = 27 ∷ i ∷ []
+shown (judge_transfer b route o k qs) = 28 ∷ b ∷ route_word route ∷ maybe o ∷ maybe k ∷ join_all (map item_shown qs)
 
 -- the requests that a list is read as
 abbrev reads_as : List ℕ → List ℕ
@@ -100,7 +101,7 @@ readings =
     ∷ reads (0x800000000000000b ∷ 5 ∷ 0 ∷ 3 ∷ 1 ∷ []) is (19 ∷ [])
     -- "unknown op"
     ∷ reads (1 ∷ 0 ∷ []) is (19 ∷ [])
-    ∷ reads (11 ∷ 28 ∷ 0 ∷ 3 ∷ []) is (19 ∷ [])
+    ∷ reads (11 ∷ 29 ∷ 0 ∷ 3 ∷ []) is (19 ∷ [])
     ∷ reads (3 ∷ 0xffffffffffffffff ∷ 0 ∷ []) is (19 ∷ [])
     -- "too wide": flags and kinds of more than 32 bits
     ∷ reads (101 ∷ 1 ∷ 0 ∷ 3 ∷ 4294967295 ∷ []) is (0 ∷ [])

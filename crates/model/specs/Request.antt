@@ -58,6 +58,7 @@ pub data Request : Type 0 where
   make_plan : (table count : ℕ) → Request
   use_plan : (id : ℕ) → Request
   drop_plan : (id : ℕ) → Request
+  judge_transfer : (table : ℕ) → Route → (forbidden_object forbidden_kind : Option ℕ) → List Item → Request
 
 -- mod.rs `HandleInfo`
 pub record Info : Type 0 where
@@ -77,7 +78,8 @@ pub record SnapshotPage : Type 0 where
   pub next : Option ℕ
   pub examined : ℕ
 
--- `closed` is a teardown step's, `info_of` that of `get_info` and of closing, `batch` that of a reservation and of a plan that is used
+-- `closed` is a teardown step's, `info_of` that of `get_info` and of closing, `batch` that of a reservation and of a plan that is used. `judged` says where the
+-- preparation of a transfer would stop, or that it "would be accepted" (document 02, 4)
 pub data Answer : Type 0 where
   refused : (number : ℕ) → Answer
   done : Answer
@@ -91,3 +93,4 @@ pub data Answer : Type 0 where
   closed : Option Info → Answer
   taken : (page : Option ℕ) → Answer
   planned : (id count frames : ℕ) → Answer
+  judged : Option Fault → Answer

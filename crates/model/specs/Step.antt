@@ -13,8 +13,8 @@ use Rattle.model.specs.State.{Sizes, Handle, Slot.reserved, Slot.transfer_reserv
 use Rattle.model.specs.State.{generation, is_active, max_batch, known_flags}
 use Rattle.model.specs.Storage.{place, keep, keep_all, vacate, vacate_all, take_free, snapshot_for, is_stale, grow, detach, length_of, first_occupied, Walk, walk}
 use Rattle.model.specs.Request.{Route, Item, SnapshotPage}
-use Rattle.model.specs.Request.{Answer, Answer.refused, Answer.done, Answer.opened, Answer.batch, Answer.info_of, Answer.resolved, Answer.renewed, Answer.scanned, Answer.removed, Answer.closed, Answer.taken, Answer.planned}
-use Rattle.model.specs.Request.{Request, Request.new_object, Request.duplicate, Request.release_parcel, Request.retire_object, Request.reserve, Request.trim, Request.abort, Request.publish, Request.get_info, Request.resolve, Request.replace, Request.close, Request.scan_handles, Request.prepare_transfer, Request.prepare_consumption, Request.rollback, Request.commit, Request.direct_commit, Request.direct_rollback, Request.remove_stopping_owner, Request.teardown_start, Request.teardown_step, Request.teardown_finish, Request.take_empty_page, Request.make_plan, Request.use_plan, Request.drop_plan}
+use Rattle.model.specs.Request.{Answer, Answer.refused, Answer.done, Answer.opened, Answer.batch, Answer.info_of, Answer.resolved, Answer.renewed, Answer.scanned, Answer.removed, Answer.closed, Answer.taken, Answer.planned, Answer.judged}
+use Rattle.model.specs.Request.{Request, Request.new_object, Request.duplicate, Request.release_parcel, Request.retire_object, Request.reserve, Request.trim, Request.abort, Request.publish, Request.get_info, Request.resolve, Request.replace, Request.close, Request.scan_handles, Request.prepare_transfer, Request.prepare_consumption, Request.rollback, Request.commit, Request.direct_commit, Request.direct_rollback, Request.remove_stopping_owner, Request.teardown_start, Request.teardown_step, Request.teardown_finish, Request.take_empty_page, Request.make_plan, Request.use_plan, Request.drop_plan, Request.judge_transfer}
 use Rattle.model.specs.Change.{with_life}
 use Rattle.model.specs.Objects.{is_now_active, is_now_retired, limit_reached, activated, raise, retired_by_owner, info_for, with_rights}
 use Rattle.model.specs.Book.{spend_id, free_row, id_left, any_open, moved_of, copies_of, sent_of}
@@ -250,6 +250,13 @@ module _ (z : Sizes) where
       opening claim b es
       answer opened i
 
+  -- document 02, 4: "a request that judges a transfer without preparing it": preparation's checks, of which the first that does not hold is told. "Preparation's
+  -- Misuse refuses the judging itself". "The id step is judged, and no id is spent"
+  unfoldable pub judge_transfer_of : State → (table_number : ℕ) → Route → (forbidden_object forbidden_kind : Option ℕ) → List Item → Decision
+  judge_transfer_of s b route banned_object banned_kind qs =
+      table b of s refuse 18 then λ t.
+      leave s answer judged (transfer_fault s t route banned_object banned_kind qs)
+
   -- "Consumption: 16, 1, 2 or 3, 5, 4, 2, 12"
   unfoldable pub prepare_consumption_of : State → (table_number value rights kind koid : ℕ) → Decision
   prepare_consumption_of s b v r kind koid =
@@ -419,6 +426,7 @@ module _ (z : Sizes) where
   decide s (make_plan b n) = make_plan_of s b n
   decide s (use_plan i) = use_plan_of s i
   decide s (drop_plan i) = drop_plan_of s i
+  decide s (judge_transfer b route banned_object banned_kind qs) = judge_transfer_of s b route banned_object banned_kind qs
 
   -- "a refused request carries a number and changes nothing, save the one reservation id spent by a transfer preparation refused after
   -- its id step"

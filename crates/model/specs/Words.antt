@@ -6,9 +6,9 @@ use Rattle.format.specs.Format.{musts, mays, transfer_item_must, transfer_item_m
 use Rattle.format.specs.Fields.{op_field, table_field, object_field, count_field, value_field, rights_field, flags_field, id_field, destination_field, kind_field, koid_field, cursor_field, route_field, offered_rights_field, offered_kind_field, expected_kind_field, forbidden_object_field, forbidden_kind_field, an_op, an_operation, zero_word}
 use Rattle.model.specs.Base.{pick, bit, is_some, or_else, nth}
 use Rattle.model.specs.State.{Sizes, State}
-use Rattle.model.specs.Request.{Route, Route.buffered, Route.rendezvous, Route.staged_startup, Operation, Operation.as_move, Operation.as_copy, Item, Info, Snapshot}
-use Rattle.model.specs.Request.{Answer, Answer.refused, Answer.done, Answer.opened, Answer.batch, Answer.info_of, Answer.resolved, Answer.renewed, Answer.scanned, Answer.removed, Answer.closed, Answer.taken, Answer.planned}
-use Rattle.model.specs.Request.{Request, Request.new_object, Request.duplicate, Request.release_parcel, Request.retire_object, Request.reserve, Request.trim, Request.abort, Request.publish, Request.get_info, Request.resolve, Request.replace, Request.close, Request.scan_handles, Request.prepare_transfer, Request.prepare_consumption, Request.rollback, Request.commit, Request.direct_commit, Request.direct_rollback, Request.remove_stopping_owner, Request.teardown_start, Request.teardown_step, Request.teardown_finish, Request.take_empty_page, Request.make_plan, Request.use_plan, Request.drop_plan}
+use Rattle.model.specs.Request.{Route, Route.buffered, Route.rendezvous, Route.staged_startup, Operation, Operation.as_move, Operation.as_copy, Item, Fault, Info, Snapshot}
+use Rattle.model.specs.Request.{Answer, Answer.refused, Answer.done, Answer.opened, Answer.batch, Answer.info_of, Answer.resolved, Answer.renewed, Answer.scanned, Answer.removed, Answer.closed, Answer.taken, Answer.planned, Answer.judged}
+use Rattle.model.specs.Request.{Request, Request.new_object, Request.duplicate, Request.release_parcel, Request.retire_object, Request.reserve, Request.trim, Request.abort, Request.publish, Request.get_info, Request.resolve, Request.replace, Request.close, Request.scan_handles, Request.prepare_transfer, Request.prepare_consumption, Request.rollback, Request.commit, Request.direct_commit, Request.direct_rollback, Request.remove_stopping_owner, Request.teardown_start, Request.teardown_step, Request.teardown_finish, Request.take_empty_page, Request.make_plan, Request.use_plan, Request.drop_plan, Request.judge_transfer}
 use Rattle.model.specs.Step.{run}
 
 -- Reading: what was read with the words that are left, or none where the words are malformed (19)
@@ -91,7 +91,7 @@ read_transfer_item ws =
 abbrev pub read_parcel_item : List ℕ → Reading ℕ
 read_parcel_item ws = and_then (read_record zero_word (λ o. parcel_item_must) (λ o. parcel_item_may) ws) λ r. some (must r.0 id_field, r.1)
 
--- the requests of the ops from 1 on, with their fields; a publish and a transfer take their items as well
+-- the requests of the ops from 1 on, with their fields; a publish, a transfer and the judging of one take their items as well
 abbrev pub plain_requests : List (Fields → Request)
 plain_requests =
     (λ f. new_object (must f object_field) (must f rights_field) (must f flags_field))
@@ -121,13 +121,14 @@ plain_requests =
     ∷ (λ f. make_plan (must f table_field) (must f count_field))
     ∷ (λ f. use_plan (must f id_field))
     ∷ (λ f. drop_plan (must f id_field))
+    ∷ (λ f. judge_transfer (must f table_field) (route_of (must f route_field)) (may f forbidden_object_field) (may f forbidden_kind_field) [])
     ∷ []
 
 abbrev pub plain_request : (op : ℕ) → Option (Fields → Request)
 plain_request zero = none
 plain_request (suc n) = nth plain_requests n
 
--- "A transfer's items, or a publish's parcels, follow as records of their own, as many as its count field says"
+-- "A transfer's items, or a publish's parcels, follow as records of their own, as many as its count field says"; so those of a transfer that is judged
 abbrev pub with_items : Fields → Request → List ℕ → Reading Request
 with_items f (new_object o r g) ws = some (new_object o r g, ws)
 with_items f (duplicate b v r) ws = some (duplicate b v r, ws)
@@ -156,6 +157,7 @@ with_items f (take_empty_page b) ws = some (take_empty_page b, ws)
 with_items f (make_plan b n) ws = some (make_plan b n, ws)
 with_items f (use_plan i) ws = some (use_plan i, ws)
 with_items f (drop_plan i) ws = some (drop_plan i, ws)
+with_items f (judge_transfer b route o k qs) ws = and_then (read_many read_transfer_item (must f count_field) ws) λ r. some (judge_transfer b route o k r.0, r.1)
 
 unfoldable pub read_request : List ℕ → Reading Request
 read_request ws =
@@ -185,6 +187,11 @@ abbrev pub entry_words : List Snapshot → List ℕ
 entry_words [] = []
 entry_words (e ∷ es) = e.value ∷ info_words e.info ++ entry_words es
 
+-- document 02, 4: "the refusal, the position .., and the rule's place in the printed order"; 0 for "would be accepted"
+abbrev pub judged_words : Option Fault → List ℕ
+judged_words none = 0 ∷ 0 ∷ 0 ∷ []
+judged_words (some f) = f.number ∷ f.position ∷ f.place ∷ []
+
 -- this paper's number and values for each case
 unfoldable pub used_words : Answer → List ℕ
 used_words (refused n) = n ∷ []
@@ -202,6 +209,7 @@ used_words (closed (some i)) = 0 ∷ 1 ∷ info_words i
 used_words (taken none) = 0 ∷ 0 ∷ []
 used_words (taken (some p)) = 0 ∷ 1 ∷ p ∷ []
 used_words (planned i n m) = 0 ∷ i ∷ n ∷ m ∷ []
+used_words (judged x) = 0 ∷ judged_words x
 
 -- n words of a list, with 0 after its end
 abbrev pub padded : ℕ → List ℕ → List ℕ

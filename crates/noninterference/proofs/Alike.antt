@@ -200,19 +200,24 @@ module _ (x : Case) where
       → Alike e (unless c refuse n then d) (unless c refuse n then d₀)
   check {e} c n k = bool c (λ q. rw q (k q)) (λ q. rw q (refuses e n))
 
-  -- a row is left there if one is left here
+  -- a row is left there if one is left here, and an id
+  pub row_there : free_row s ≡ true → free_row (E s) ≡ true
+  row_there q = lt-ltb _ _ (omega (arith, length_erase t s.book.rows, ltb-true (length s.book.rows) s.book.capacity q))
+
+  pub id_there : id_left (E s) ≡ true
+  unfolding last_id
+  id_there =
+      let y : lowered t s.book.next ≡ last_id → ⊥ = rw (lowered_above t s.book.next below) (λ a. omega (arith, o.wf.ids.next, below)) in
+      rw (ne_eqb _ _ y)
+
   pub row_left_law : {d d₀ : Decision} → Alike true d d₀ → Alike true (unless free_row s refuse 1 then d) (unless free_row (E s) refuse 1 then d₀)
   row_left_law k = bool (free_row s)
-      (λ q. let y : length (erase_rows t s.book.rows) < s.book.capacity =
-      omega (arith, length_erase t s.book.rows, ltb-true (length s.book.rows) s.book.capacity q) in
-      rw (q, lt-ltb _ _ y) k)
+      (λ q. rw (q, row_there q) k)
       (λ q. record { twin = λ w. clash refl (rw q at w) })
 
   pub id_left_law : {e : Bool} {d d₀ : Decision} → Alike e d d₀ → Alike e (unless id_left s refuse 12 then d) (unless id_left (E s) refuse 12 then d₀)
-  unfolding last_id
   id_left_law k = bool (id_left s)
-      (λ q. let y : lowered t s.book.next ≡ last_id → ⊥ = rw (lowered_above t s.book.next below) (λ a. omega (arith, o.wf.ids.next, below)) in
-      rw (q, ne_eqb _ _ y) k)
+      (λ q. rw (q, id_there) k)
       (λ q. record { twin = λ w. clash refl (rw q at w) })
 
   -- what a value names

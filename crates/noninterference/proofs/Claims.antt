@@ -1,8 +1,8 @@
 -- Requests on claims are decided alike.
 use Rattle.std.specs.Prelude.{◌≡◌, true, false, ◌&&◌, ℕ, suc, length, ltb, eqb}
-use Rattle.std.proofs.Math.Path.{refl}
+use Rattle.std.proofs.Math.Path.{refl, ap}
 use mathlib.Core.List.{List, [], ◌∷◌, map}
-use Rattle.std.proofs.Math.Option.{Option}
+use Rattle.std.proofs.Math.Option.{Option, none, some}
 use Rattle.authority.specs.Rights.{contains}
 use Rattle.codec.specs.Codec.{slot_in}
 use Rattle.model.specs.Base.{put, member, at_most}
@@ -11,17 +11,17 @@ use Rattle.model.specs.State.{is_active, max_batch}
 use Rattle.model.specs.Storage.{keep_all, vacate_all}
 use Rattle.model.specs.Change.{with_table, with_objects}
 use Rattle.model.specs.Objects.{raise, change_all}
-use Rattle.model.specs.Request.{Route, Item, Answer.opened}
-use Rattle.model.specs.Book.{add_row, moved_of, copies_of, sent_of}
+use Rattle.model.specs.Request.{Route, Item, Fault, Answer.opened, Answer.judged}
+use Rattle.model.specs.Book.{add_row, free_row, id_left, moved_of, copies_of, sent_of}
 use Rattle.model.specs.Decision.{Decision.accept, refuse_after_id◌then◌}
 use Rattle.model.specs.Lookup.{handle_or}
-use Rattle.model.specs.Transfer.{items_fault, copies_fault, entry_for}
-use Rattle.model.specs.Step.{fill_all, prepare_transfer_of, prepare_consumption_of, rollback_of, commit_of, direct_commit_of, direct_rollback_of}
+use Rattle.model.specs.Transfer.{◌or◌at◌, first_fault, no_item, first_of, items_fault, copies_fault, transfer_fault, entry_for}
+use Rattle.model.specs.Step.{fill_all, prepare_transfer_of, judge_transfer_of, prepare_consumption_of, rollback_of, commit_of, direct_commit_of, direct_rollback_of}
 use Rattle.noninterference.specs.Runs.{lowered}
 use Rattle.noninterference.specs.Erase.{erase_slot, erase_table, erase}
 use Rattle.noninterference.proofs.Items.{AllName, all_name}
-use Rattle.noninterference.proofs.Alike.{Case, Alike, lookup_same, check, row_left_law, id_left_law, views, faults, reservations, claims}
-use Rattle.noninterference.proofs.Effects.{TableTwin, untouched, and_then, all_vacated, all_filled, all_restored, all_marked, marked, same_book, added, dropped, swapped, put_twin, accepts, changes}
+use Rattle.noninterference.proofs.Alike.{Case, Alike, lookup_same, check, row_there, id_there, row_left_law, id_left_law, views, faults, reservations, claims}
+use Rattle.noninterference.proofs.Effects.{TableTwin, untouched, and_then, all_vacated, all_filled, all_restored, all_marked, marked, same_book, added, dropped, swapped, put_twin, accepts, reads, changes}
 
 -- no item names one of the values in the table b
 abbrev pub Clear : ℕ → List ℕ → ℕ → List Item → Type 0
@@ -76,6 +76,24 @@ module _ (x : Case) where
         id_left_law x (
         faults x _ _ (items_same [] 0 qs n) λ q.
         claimed (map (entry_for y) qs) (map (entry_for y₀) qs) (entries_same qs (all_name s y route bo bk [] 0 qs q))))
+
+    -- where a row and an id are left here, a transfer's checks stop in both at the same place
+    fault_same : (qs : List Item) → Clear x.b x.vs c qs → free_row s ≡ true → id_left s ≡ true → transfer_fault s₀ y₀ route bo bk qs ≡ transfer_fault s y route bo bk qs
+    fault_same qs n p i = rw (items_same [] 0 qs n, row_there x p, id_there x, p, i)
+        (ap (first_of (first_fault no_item (is_active y.life or 16 at 1 ∷ ltb 0 (length qs) or 17 at 2 ∷ at_most (length qs) max_batch or 13 at 3 ∷ true or 1 at 4 ∷ true or 12 at 5 ∷ [])))
+        (go (items_fault s y route bo bk [] 0 qs) refl))
+      where
+        go : (f : Option Fault) → items_fault s y route bo bk [] 0 qs ≡ f
+            → first_of f (copies_fault s₀.objects 0 (map (entry_for y₀) qs)) ≡ first_of f (copies_fault s.objects 0 (map (entry_for y) qs))
+        go none e = ap (copies_fault s.objects 0) (entries_same qs (all_name s y route bo bk [] 0 qs e))
+        go (some f) e = refl
+
+    pub alike_judge_transfer : (qs : List Item) → Clear x.b x.vs c qs → free_row s ≡ true → id_left s ≡ true
+        → Alike x true (judge_transfer_of x.z s c route bo bk qs) (judge_transfer_of x.z s₀ c route bo bk qs)
+    unfolding judge_transfer_of
+    alike_judge_transfer qs n p i =
+        check x (ltb c s.table_count) 18 λ q.
+        reads x (ap judged (fault_same qs n p i))
 
   pub alike_prepare_consumption : (c v r kind koid : ℕ) → (eqb c x.b && member v x.vs) ≡ false
       → Alike x true (prepare_consumption_of x.z s c v r kind koid) (prepare_consumption_of x.z s₀ c v r kind koid)

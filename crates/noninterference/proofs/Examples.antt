@@ -4,7 +4,7 @@ use Rattle.std.proofs.Math.Option.{none, some}
 use Rattle.model.specs.Base.{every}
 use Rattle.model.specs.State.{State}
 use Rattle.model.specs.Request.{Route.buffered, Route.rendezvous, Operation.as_move, Operation.as_copy, Item, Answer.opened}
-use Rattle.model.specs.Request.{Request, Request.new_object, Request.duplicate, Request.release_parcel, Request.retire_object, Request.reserve, Request.trim, Request.abort, Request.publish, Request.get_info, Request.resolve, Request.replace, Request.close, Request.scan_handles, Request.prepare_transfer, Request.prepare_consumption, Request.rollback, Request.commit, Request.direct_commit, Request.direct_rollback, Request.remove_stopping_owner, Request.teardown_start, Request.teardown_step, Request.teardown_finish, Request.take_empty_page, Request.make_plan, Request.use_plan, Request.drop_plan}
+use Rattle.model.specs.Request.{Request, Request.new_object, Request.duplicate, Request.release_parcel, Request.retire_object, Request.reserve, Request.trim, Request.abort, Request.publish, Request.get_info, Request.resolve, Request.replace, Request.close, Request.scan_handles, Request.prepare_transfer, Request.prepare_consumption, Request.rollback, Request.commit, Request.direct_commit, Request.direct_rollback, Request.remove_stopping_owner, Request.teardown_start, Request.teardown_step, Request.teardown_finish, Request.take_empty_page, Request.make_plan, Request.use_plan, Request.drop_plan, Request.judge_transfer}
 use Rattle.model.proofs.Cases.{item}
 use Rattle.model.proofs.Tests.{same_list_equal}
 use Rattle.noninterference.specs.Names.{value_of}
@@ -195,6 +195,41 @@ given₄ = 0 ∷ 0 ∷ 0 ∷ 0 ∷ 0 ∷ 0 ∷ 0 ∷ 2 ∷ 2 ∷ 0 ∷ 2 ∷ 0 �
 fourth : Pair shop (prepare_transfer 0 rendezvous none none items₁) 7 0 (map value_of items₁) list₄ given₄
 unfolding ran
 fourth = record {
+  opens = refl;
+  permits = refl;
+  wants = refl;
+  gives = refl;
+  answers = same_list_equal _ _ refl;
+  after_rollback = same_list_equal _ _ refl;
+  after_commit = same_list_equal _ _ refl;
+}
+
+-- The fifth pair, document 02, 4: transfers are judged between other requests. The first would be accepted and is prepared; the second has a handle that is another's by then; the others stop at a
+-- table that is torn down, at no items, at a handle that the list has closed, and at a copy of a retired object
+
+abbrev list₅ : List Request
+list₅ =
+    judge_transfer 0 rendezvous none none (item as_copy (v0 2 1) 2 ∷ [])
+    ∷ prepare_transfer 0 rendezvous none none (item as_copy (v0 2 1) 2 ∷ [])
+    ∷ judge_transfer 0 buffered none none (item as_move (v0 2 1) 1 ∷ item as_move (v0 2 1) 1 ∷ [])
+    ∷ rollback 8
+    ∷ judge_transfer 1 buffered none (some 2) (item as_move (v1 3 1) 1 ∷ item as_copy (v1 3 1) 1 ∷ [])
+    ∷ retire_object 0
+    ∷ judge_transfer 1 buffered none none (item as_copy (v1 3 1) 1 ∷ [])
+    ∷ judge_transfer 0 buffered none none []
+    ∷ close 0 (v0 2 1)
+    ∷ judge_transfer 0 buffered none none (item as_move (v0 2 1) 1 ∷ [])
+    ∷ judge_transfer 3 buffered none none []
+    ∷ teardown_start 2
+    ∷ judge_transfer 2 buffered none none []
+    ∷ []
+
+abbrev given₅ : List ℕ
+given₅ = 0 ∷ 0 ∷ 0 ∷ 0 ∷ 0 ∷ 0 ∷ 0 ∷ 0 ∷ 0 ∷ 0 ∷ 18 ∷ 0 ∷ 0 ∷ []
+
+fifth : Pair shop (prepare_transfer 0 rendezvous none none items₁) 7 0 (map value_of items₁) list₅ given₅
+unfolding ran
+fifth = record {
   opens = refl;
   permits = refl;
   wants = refl;

@@ -7,7 +7,7 @@ use Rattle.model.specs.Change.{with_book}
 use Rattle.model.specs.Create.{created}
 use Rattle.model.specs.Words.{used_words}
 use Rattle.model.specs.Request.{Route.rendezvous, Operation.as_move, Operation.as_copy, Item}
-use Rattle.model.specs.Request.{Request, Request.new_object, Request.duplicate, Request.reserve, Request.publish, Request.get_info, Request.resolve, Request.replace, Request.close, Request.scan_handles, Request.prepare_transfer, Request.prepare_consumption, Request.rollback, Request.remove_stopping_owner, Request.teardown_start, Request.make_plan, Request.use_plan}
+use Rattle.model.specs.Request.{Request, Request.new_object, Request.duplicate, Request.reserve, Request.publish, Request.get_info, Request.resolve, Request.replace, Request.close, Request.scan_handles, Request.prepare_transfer, Request.prepare_consumption, Request.rollback, Request.remove_stopping_owner, Request.teardown_start, Request.make_plan, Request.use_plan, Request.judge_transfer}
 use Rattle.model.proofs.Cases.{item}
 use Rattle.noninterference.specs.Names.{value_of}
 use Rattle.noninterference.specs.Runs.{is_move, names_id, uses_value, walks, permitted, wanting, lower_request, lower_answer}
@@ -143,6 +143,30 @@ id_wanted_by_use : Gives last_id_planned (last_id - 1) items (use_plan 7 ∷ [])
     ((0 ∷ (last_id - 1) ∷ 1 ∷ v0 0 1 ∷ []) ∷ [])
 unfolding ran
 id_wanted_by_use = (refl, refl, refl)
+
+-- document 02, 4, judging "may stand in the held and plain runs' list where the held run has a free row and an id left". Where it has no row: place 4 against "would be accepted"
+abbrev two_handles : State
+two_handles = (ran two_rows (new_object 1 3 0 ∷ reserve 0 1 ∷ publish 4 (3 ∷ []) ∷ [])).0
+
+judged_without_row : Gives two_handles 5 (item as_move (v0 3 1) 3 ∷ []) (new_object 2 3 0 ∷ judge_transfer 0 rendezvous none none (item as_move (v0 2 1) 1 ∷ []) ∷ []) (true ∷ true ∷ true ∷ true ∷ false ∷ [])
+    ((0 ∷ 5 ∷ []) ∷ (0 ∷ 1 ∷ 64 ∷ 4 ∷ []) ∷ [])
+    ((0 ∷ 5 ∷ []) ∷ (0 ∷ 0 ∷ 0 ∷ 0 ∷ []) ∷ [])
+unfolding ran
+judged_without_row = (refl, refl, refl)
+
+-- where it has no id: place 5 against "would be accepted"
+judged_without_id : Gives last_id_law (last_id - 1) items (judge_transfer 0 rendezvous none none (item as_move (v0 2 1) 1 ∷ []) ∷ []) (true ∷ true ∷ true ∷ true ∷ false ∷ [])
+    ((0 ∷ 12 ∷ 64 ∷ 5 ∷ []) ∷ [])
+    ((0 ∷ 0 ∷ 0 ∷ 0 ∷ []) ∷ [])
+unfolding ran
+judged_without_id = (refl, refl, refl)
+
+-- of a moved value: Busy at its place against "would be accepted"
+value_judged : Gives shop 7 items (judge_transfer 0 rendezvous none none (item as_move (v0 2 1) 1 ∷ item as_move (v0 3 1) 1 ∷ []) ∷ []) (true ∷ true ∷ false ∷ true ∷ true ∷ [])
+    ((0 ∷ 3 ∷ 1 ∷ 7 ∷ []) ∷ [])
+    ((0 ∷ 0 ∷ 0 ∷ 0 ∷ []) ∷ [])
+unfolding ran
+value_judged = (refl, refl, refl)
 
 -- a copy among the moves: it counts as a handle of object 0, whose limit is 5
 copy_among : Gives shop 7 (item as_move (v0 1 1) 2 ∷ item as_copy (v0 3 1) 2 ∷ [])

@@ -4,18 +4,18 @@ use Rattle.std.proofs.Common.{sym, ap, ◌∙◌, arith, eqb-true, le-ltb, eq-eq
 use Rattle.std.proofs.Math.Bool.{not}
 use mathlib.Core.List.{List, [], ◌∷◌, map}
 use Rattle.std.proofs.Math.Option.{some}
-use Rattle.std.proofs.lemmas.Bool.{not-true}
+use Rattle.std.proofs.lemmas.Bool.{not-true, not-false}
 use Rattle.codec.specs.Codec.{generation_in}
-use Rattle.model.specs.Base.{bit, at_most, every, member, occurs}
+use Rattle.model.specs.Base.{at_most, every, member, occurs}
 use Rattle.model.specs.State.{Sizes, Slot, Slot.absent, Slot.vacant, Slot.reserved, Slot.transfer_reserved, Slot.occupied, Table, Entry, Entry.moved, Entry.copied, Body.claim, State}
 use Rattle.model.specs.Request.{Item, Answer, Answer.refused}
-use Rattle.model.specs.Request.{Request, Request.new_object, Request.duplicate, Request.release_parcel, Request.retire_object, Request.reserve, Request.trim, Request.abort, Request.publish, Request.get_info, Request.resolve, Request.replace, Request.close, Request.scan_handles, Request.prepare_transfer, Request.prepare_consumption, Request.rollback, Request.commit, Request.direct_commit, Request.direct_rollback, Request.remove_stopping_owner, Request.teardown_start, Request.teardown_step, Request.teardown_finish, Request.take_empty_page, Request.make_plan, Request.use_plan, Request.drop_plan}
+use Rattle.model.specs.Request.{Request, Request.new_object, Request.duplicate, Request.release_parcel, Request.retire_object, Request.reserve, Request.trim, Request.abort, Request.publish, Request.get_info, Request.resolve, Request.replace, Request.close, Request.scan_handles, Request.prepare_transfer, Request.prepare_consumption, Request.rollback, Request.commit, Request.direct_commit, Request.direct_rollback, Request.remove_stopping_owner, Request.teardown_start, Request.teardown_step, Request.teardown_finish, Request.take_empty_page, Request.make_plan, Request.use_plan, Request.drop_plan, Request.judge_transfer}
 use Rattle.noninterference.specs.Names.{value_of}
-use Rattle.model.specs.Book.{find, moved_of}
+use Rattle.model.specs.Book.{find, free_row, id_left, moved_of}
 use Rattle.model.specs.Decision.{Decision, Decision.refusal, Decision.refusal_after_id, Decision.accept}
 use Rattle.model.specs.Step.{decide, carry, step, run}
 use Rattle.model.specs.WellFormed.{WellFormed, is_moving_by}
-use Rattle.noninterference.specs.Runs.{names_id, uses_value, walks, permitted, gives, pages_needed, wants_row, wants_id, wanting, lower_request, lower_answer}
+use Rattle.noninterference.specs.Runs.{names_id, uses_value, walks, permitted, gives, pages_needed, wants_row, wants_id, judges_full, wanting, lower_request, lower_answer}
 use Rattle.noninterference.specs.Erase.{erase}
 use Rattle.model.proofs.Tests.{bool, clash, and_left, and_right, or_left, or_right}
 use Rattle.noninterference.proofs.Marks.{Stems, entry_marked}
@@ -25,7 +25,7 @@ use Rattle.noninterference.proofs.Effects.{fresh}
 use Rattle.noninterference.proofs.Values.{alike_new_object, alike_duplicate, alike_release_parcel, alike_retire_object, alike_get_info, alike_resolve, alike_replace, alike_close}
 use Rattle.noninterference.proofs.Batches.{alike_reserve, alike_make_plan, alike_use_plan, alike_drop_plan, alike_trim, alike_abort, alike_publish}
 use Rattle.noninterference.proofs.Walks.{alike_scan_handles, alike_remove_stopping_owner, alike_teardown_start, alike_teardown_step, alike_teardown_finish, alike_take_empty_page}
-use Rattle.noninterference.proofs.Claims.{Clear, alike_prepare_transfer, alike_prepare_consumption, alike_rollback, alike_commit, alike_direct_commit, alike_direct_rollback}
+use Rattle.noninterference.proofs.Claims.{Clear, alike_prepare_transfer, alike_judge_transfer, alike_prepare_consumption, alike_rollback, alike_commit, alike_direct_commit, alike_direct_rollback}
 
 -- what a permitted request does not name
 pub permits_id : (t b : ℕ) (vs : List ℕ) (r : Request) → permitted t b vs r ≡ true → names_id t r ≡ false
@@ -72,38 +72,41 @@ module _ (x : Case) where
   abbrev Enough : Request → Bool
   Enough r = at_most (pages_needed x.z s r) (length s.frames)
 
-  decided : (r : Request) → names_id x.t r ≡ false → every (λ v. not (uses_value x.b v r)) x.vs ≡ true → walks x.b r ≡ false
+  decided : (r : Request) → names_id x.t r ≡ false → every (λ v. not (uses_value x.b v r)) x.vs ≡ true → walks x.b r ≡ false → judges_full s r ≡ false
       → Alike x (Enough r) (decide x.z s r) (decide x.z s₀ (lower_request x.t r))
-  unfolding decide
-  decided (new_object o r f) i v w = none_needed (alike_new_object x o r f)
-  decided (duplicate c a r) i v w = none_needed (alike_duplicate x c a r (value_apart x.b c a x.vs v))
-  decided (release_parcel j) i v w = none_needed (alike_release_parcel x j (only x.t j [] i))
-  decided (retire_object o) i v w = none_needed (alike_retire_object x o)
-  decided (reserve c n) i v w = alike_reserve x c n
-  decided (trim j n) i v w = none_needed (alike_trim x j n (only x.t j [] i))
-  decided (abort j) i v w = none_needed (alike_abort x j (only x.t j [] i))
-  decided (publish j js) i v w = none_needed (alike_publish x j js (only x.t j js i) (tail_apart x.t j js i))
-  decided (get_info c a) i v w = none_needed (alike_get_info x c a)
-  decided (resolve c a r k) i v w = none_needed (alike_resolve x c a r k (value_apart x.b c a x.vs v))
-  decided (replace c a r) i v w = none_needed (alike_replace x c a r (value_apart x.b c a x.vs v))
-  decided (close c a) i v w = none_needed (alike_close x c a (value_apart x.b c a x.vs v))
-  decided (scan_handles c k) i v w = none_needed (alike_scan_handles x c w k)
-  decided (prepare_transfer c route o k qs) i v w = none_needed (alike_prepare_transfer x c route o k qs (items_apart x.b c x.vs qs v))
-  decided (prepare_consumption c a r k o) i v w = none_needed (alike_prepare_consumption x c a r k o (value_apart x.b c a x.vs v))
-  decided (rollback j) i v w = none_needed (alike_rollback x j (only x.t j [] i))
-  decided (commit j) i v w = none_needed (alike_commit x j (only x.t j [] i))
-  decided (direct_commit j k) i v w =
+  unfolding decide judges_full
+  decided (new_object o r f) i v w l = none_needed (alike_new_object x o r f)
+  decided (duplicate c a r) i v w l = none_needed (alike_duplicate x c a r (value_apart x.b c a x.vs v))
+  decided (release_parcel j) i v w l = none_needed (alike_release_parcel x j (only x.t j [] i))
+  decided (retire_object o) i v w l = none_needed (alike_retire_object x o)
+  decided (reserve c n) i v w l = alike_reserve x c n
+  decided (trim j n) i v w l = none_needed (alike_trim x j n (only x.t j [] i))
+  decided (abort j) i v w l = none_needed (alike_abort x j (only x.t j [] i))
+  decided (publish j js) i v w l = none_needed (alike_publish x j js (only x.t j js i) (tail_apart x.t j js i))
+  decided (get_info c a) i v w l = none_needed (alike_get_info x c a)
+  decided (resolve c a r k) i v w l = none_needed (alike_resolve x c a r k (value_apart x.b c a x.vs v))
+  decided (replace c a r) i v w l = none_needed (alike_replace x c a r (value_apart x.b c a x.vs v))
+  decided (close c a) i v w l = none_needed (alike_close x c a (value_apart x.b c a x.vs v))
+  decided (scan_handles c k) i v w l = none_needed (alike_scan_handles x c w k)
+  decided (prepare_transfer c route o k qs) i v w l = none_needed (alike_prepare_transfer x c route o k qs (items_apart x.b c x.vs qs v))
+  decided (prepare_consumption c a r k o) i v w l = none_needed (alike_prepare_consumption x c a r k o (value_apart x.b c a x.vs v))
+  decided (rollback j) i v w l = none_needed (alike_rollback x j (only x.t j [] i))
+  decided (commit j) i v w l = none_needed (alike_commit x j (only x.t j [] i))
+  decided (direct_commit j k) i v w l =
       none_needed (alike_direct_commit x j k (only x.t j (k ∷ []) i) (only x.t k [] (tail_apart x.t j (k ∷ []) i)))
-  decided (direct_rollback j k) i v w =
+  decided (direct_rollback j k) i v w l =
       none_needed (alike_direct_rollback x j k (only x.t j (k ∷ []) i) (only x.t k [] (tail_apart x.t j (k ∷ []) i)))
-  decided (remove_stopping_owner c k) i v w = none_needed (alike_remove_stopping_owner x c w k)
-  decided (teardown_start c) i v w = none_needed (alike_teardown_start x c w)
-  decided (teardown_step c) i v w = none_needed (alike_teardown_step x c)
-  decided (teardown_finish c) i v w = none_needed (alike_teardown_finish x c)
-  decided (take_empty_page c) i v w = none_needed (alike_take_empty_page x c)
-  decided (make_plan c n) i v w = alike_make_plan x c n
-  decided (use_plan j) i v w = none_needed (alike_use_plan x j (only x.t j [] i))
-  decided (drop_plan j) i v w = none_needed (alike_drop_plan x j (only x.t j [] i))
+  decided (remove_stopping_owner c k) i v w l = none_needed (alike_remove_stopping_owner x c w k)
+  decided (teardown_start c) i v w l = none_needed (alike_teardown_start x c w)
+  decided (teardown_step c) i v w l = none_needed (alike_teardown_step x c)
+  decided (teardown_finish c) i v w l = none_needed (alike_teardown_finish x c)
+  decided (take_empty_page c) i v w l = none_needed (alike_take_empty_page x c)
+  decided (make_plan c n) i v w l = alike_make_plan x c n
+  decided (use_plan j) i v w l = none_needed (alike_use_plan x j (only x.t j [] i))
+  decided (drop_plan j) i v w l = none_needed (alike_drop_plan x j (only x.t j [] i))
+  decided (judge_transfer c route o k qs) i v w l =
+      let room : free_row s && id_left s ≡ true = not-false (free_row s && id_left s) l in
+      none_needed (alike_judge_transfer x c route o k qs (items_apart x.b c x.vs qs v) (and_left (free_row s) (id_left s) room) (and_right (free_row s) (id_left s) room))
 
   -- a decision carried out
   abbrev Same : State × Answer → State × Answer → Type 0
@@ -119,12 +122,12 @@ module _ (x : Case) where
   no_want e (refusal_after_id n) p q = refl
   no_want e (accept u a) p q = refl
 
-  pub step_alike : (r : Request) → permitted x.t x.b x.vs r ≡ true → wants_row x.z s r ≡ false → wants_id x.z s r ≡ false
+  pub step_alike : (r : Request) → permitted x.t x.b x.vs r ≡ true → wants_row x.z s r ≡ false → wants_id x.z s r ≡ false → judges_full s r ≡ false
       → Same (step x.z s r) (step x.z s₀ (lower_request x.t r))
   unfolding permitted wants_row wants_id step
-  step_alike r p a c = carried _ _ (
+  step_alike r p a c j = carried _ _ (
       (decided r (not-true _ (and_left _ _ p)) (and_left _ _ (and_right (not (names_id x.t r)) _ p))
-      (not-true _ (and_right (every (λ v. not (uses_value x.b v r)) x.vs) _ (and_right (not (names_id x.t r)) _ p)))
+      (not-true _ (and_right (every (λ v. not (uses_value x.b v r)) x.vs) _ (and_right (not (names_id x.t r)) _ p))) j
       ).twin (no_want (Enough r) (decide x.z s r) a c))
 
 -- a slot that is marked with t
@@ -165,11 +168,12 @@ module _ (z : Sizes) (kept : (s : State) → WellFormed z s → (r : Request) �
     list_alike s o (r ∷ rs) p w =
         let u : State = (step z s r).0 in
         let x : Case = record { z = z; t = t; b = b; es = es; vs = vs; s = s; o = o } in
-        let n : (wants_row z s r || wants_id z s r) ≡ false = or_left (wants_row z s r || wants_id z s r) (wanting z u rs) w in
+        let n : (wants_row z s r || wants_id z s r) ≡ false = or_left (wants_row z s r || wants_id z s r) (judges_full s r || wanting z u rs) w in
+        let m : (judges_full s r || wanting z u rs) ≡ false = or_right (wants_row z s r || wants_id z s r) (judges_full s r || wanting z u rs) w in
         let y = step_alike x r (and_left (permitted t b vs r) (every (permitted t b vs) rs) p) (or_left (wants_row z s r) (wants_id z s r) n)
-        (or_right (wants_row z s r) (wants_id z s r) n) in
+        (or_right (wants_row z s r) (wants_id z s r) n) (or_left (judges_full s r) (wanting z u rs) m) in
         let k = list_alike u (still s u o (kept s o.wf r) (step_stays t z s (fresh x) r (permits_id t b vs r (and_left (permitted t b vs r) (every (permitted t b vs) rs) p)))) rs (and_right (permitted t b vs r) (every (permitted t b vs) rs) p)
-        (or_right (wants_row z s r || wants_id z s r) (wanting z u rs) w) in (
+        (or_right (judges_full s r) (wanting z u rs) m) in (
           ap (λ (a : State × Answer). let q : State × List Answer = run z a.0 (map (lower_request t) rs) in (q.0, a.1 ∷ q.1)) y
               ∙ ap (λ (q : State × List Answer). (q.0, lower_answer t (step z s r).1 ∷ q.1)) k.0,
           k.1,

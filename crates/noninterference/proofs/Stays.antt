@@ -12,12 +12,12 @@ use Rattle.model.specs.State.{generation, is_active, max_batch, known_flags}
 use Rattle.model.specs.Storage.{is_stale, grow, vacate_all}
 use Rattle.model.specs.Change.{with_table, with_objects, with_frames}
 use Rattle.model.specs.Objects.{is_now_active, is_now_retired, activated, raise, lower, retired_by_owner, change, change_all, with_rights}
-use Rattle.model.specs.Request.{Request, Request.new_object, Request.duplicate, Request.release_parcel, Request.retire_object, Request.reserve, Request.trim, Request.abort, Request.publish, Request.get_info, Request.resolve, Request.replace, Request.close, Request.scan_handles, Request.prepare_transfer, Request.prepare_consumption, Request.rollback, Request.commit, Request.direct_commit, Request.direct_rollback, Request.remove_stopping_owner, Request.teardown_start, Request.teardown_step, Request.teardown_finish, Request.take_empty_page, Request.make_plan, Request.use_plan, Request.drop_plan}
+use Rattle.model.specs.Request.{Request, Request.new_object, Request.duplicate, Request.release_parcel, Request.retire_object, Request.reserve, Request.trim, Request.abort, Request.publish, Request.get_info, Request.resolve, Request.replace, Request.close, Request.scan_handles, Request.prepare_transfer, Request.prepare_consumption, Request.rollback, Request.commit, Request.direct_commit, Request.direct_rollback, Request.remove_stopping_owner, Request.teardown_start, Request.teardown_step, Request.teardown_finish, Request.take_empty_page, Request.make_plan, Request.use_plan, Request.drop_plan, Request.judge_transfer}
 use Rattle.model.specs.Book.{find, add_row, drop_row, drop_rows, swap_row, free_row, id_left, any_open, moved_of, copies_of, sent_of}
 use Rattle.model.specs.Decision.{Decision, as_parcel, handles_of, distinct}
 use Rattle.model.specs.Lookup.{lookup, handle_or}
 use Rattle.model.specs.Transfer.{items_fault, copies_fault, entry_for}
-use Rattle.model.specs.Step.{restore_all, reserve_in, remove_at, next_occupied, tear_at, take_at, decide, step, new_object_of, duplicate_of, release_parcel_of, retire_object_of, reserve_of, trim_of, abort_of, publish_of, get_info_of, resolve_of, replace_of, close_of, scan_handles_of, prepare_transfer_of, prepare_consumption_of, rollback_of, commit_of, direct_commit_of, direct_rollback_of, remove_stopping_owner_of, teardown_start_of, teardown_step_of, teardown_finish_of, take_empty_page_of, make_plan_of, use_plan_of, drop_plan_of}
+use Rattle.model.specs.Step.{restore_all, reserve_in, remove_at, next_occupied, tear_at, take_at, decide, step, new_object_of, duplicate_of, release_parcel_of, retire_object_of, reserve_of, trim_of, abort_of, publish_of, get_info_of, resolve_of, replace_of, close_of, scan_handles_of, prepare_transfer_of, prepare_consumption_of, rollback_of, commit_of, direct_commit_of, direct_rollback_of, remove_stopping_owner_of, teardown_start_of, teardown_step_of, teardown_finish_of, take_empty_page_of, make_plan_of, use_plan_of, drop_plan_of, judge_transfer_of}
 use Rattle.model.specs.WellFormed.{is_moving_by}
 use Rattle.model.proofs.Tests.{bool, clash}
 use Rattle.model.proofs.Decided.{Decided, Any, accepts, checked, with_some, with_view, with_handle, with_look, with_reservation, with_claim, with_plan, with_room_law, while_tearing, after_id, either_way, found_or, first_or, carried}
@@ -148,7 +148,7 @@ module _ (t : ℕ) where
     reserves {u} p n c k ps fs = accepts (adds (sets p c _ (stems_reserve t z k (λ g. reserved g u.book.next) (λ g. refl) ps fs (u.tables c))) _ n)
 
     decide_stays : (r : Request) → names_id t r ≡ false → Leaves (decide z s r)
-    unfolding decide new_object_of duplicate_of release_parcel_of retire_object_of reserve_of trim_of abort_of publish_of get_info_of resolve_of replace_of close_of scan_handles_of prepare_transfer_of prepare_consumption_of rollback_of commit_of direct_commit_of direct_rollback_of remove_stopping_owner_of teardown_start_of teardown_step_of teardown_finish_of take_empty_page_of make_plan_of use_plan_of drop_plan_of
+    unfolding decide new_object_of duplicate_of release_parcel_of retire_object_of reserve_of trim_of abort_of publish_of get_info_of resolve_of replace_of close_of scan_handles_of prepare_transfer_of prepare_consumption_of rollback_of commit_of direct_commit_of direct_rollback_of remove_stopping_owner_of teardown_start_of teardown_step_of teardown_finish_of take_empty_page_of make_plan_of use_plan_of drop_plan_of judge_transfer_of
     decide_stays (new_object o r f) n =
         checked (ltb o s.object_count) 18 tt λ e.
         checked (free_row s) 1 tt λ e.
@@ -296,6 +296,9 @@ module _ (t : ℕ) where
     decide_stays (drop_plan i) n =
         with_plan (find i s.book.rows) tt λ b m w fs e.
         accepts (drops (frames still _) i (only t i [] n))
+    decide_stays (judge_transfer b route o k qs) n =
+        checked (ltb b s.table_count) 18 tt λ e.
+        accepts still
 
     -- A REQUEST THAT DOES NOT NAME t LEAVES WHAT STANDS UNDER IT
     pub step_stays : (r : Request) → names_id t r ≡ false → Stays t s (step z s r).0

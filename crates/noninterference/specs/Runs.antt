@@ -5,9 +5,10 @@ use Rattle.model.specs.Base.{pick, or_else, at_most, bans, every, member}
 use Rattle.model.specs.State.{Sizes, Slot, Slot.absent, Slot.vacant, Slot.reserved, Slot.transfer_reserved, Slot.occupied, Table, Row, Book, State}
 use Rattle.model.specs.Storage.{pages_for}
 use Rattle.model.specs.Transfer.{is_copy}
+use Rattle.model.specs.Book.{free_row, id_left}
 use Rattle.model.specs.Step.{step}
 use Rattle.model.specs.Request.{Item}
-use Rattle.model.specs.Request.{Answer, Answer.refused, Answer.done, Answer.opened, Answer.batch, Answer.info_of, Answer.resolved, Answer.renewed, Answer.scanned, Answer.removed, Answer.closed, Answer.taken, Answer.planned}
+use Rattle.model.specs.Request.{Answer, Answer.refused, Answer.done, Answer.opened, Answer.batch, Answer.info_of, Answer.resolved, Answer.renewed, Answer.scanned, Answer.removed, Answer.closed, Answer.taken, Answer.planned, Answer.judged}
 use Rattle.model.specs.Request.{Request}
 use Rattle.noninterference.specs.Names.{names_of, request_by}
 
@@ -51,6 +52,7 @@ gives n (removed o c) = false
 gives n (closed o) = false
 gives n (taken p) = false
 gives n (planned i k m) = false
+gives n (judged x) = false
 
 -- "the pages it needs"
 abbrev pub pages_of : Sizes → State → Option (ℕ × ℕ) → ℕ
@@ -66,10 +68,14 @@ wants_row z s r = gives 1 (step z s r).1 && at_most (pages_needed z s r) (length
 unfoldable pub wants_id : Sizes → State → Request → Bool
 wants_id z s r = gives 12 (step z s r).1
 
--- whether a run refuses something for want of a row or an id
+-- document 02, 4: judging "may stand in the held and plain runs' list where the held run has a free row and an id left"; whether a request judges where it has not
+unfoldable pub judges_full : State → Request → Bool
+judges_full s r = (names_of r).judges && not (free_row s && id_left s)
+
+-- whether a run refuses something for want of a row or an id, or judges where none is left
 abbrev pub wanting : Sizes → State → List Request → Bool
 wanting z s [] = false
-wanting z s (r ∷ rs) = let u : State = (step z s r).0 in (wants_row z s r || wants_id z s r) || wanting z u rs
+wanting z s (r ∷ rs) = let u : State = (step z s r).0 in (wants_row z s r || wants_id z s r) || (judges_full s r || wanting z u rs)
 
 -- "Accepted means 0": a refusal's number is never 0
 abbrev pub accepted : Answer → Bool
@@ -85,6 +91,7 @@ accepted (removed o c) = true
 accepted (closed o) = true
 accepted (taken p) = true
 accepted (planned i k m) = true
+accepted (judged x) = true
 
 -- "Ids above the transfer's, the next id included, are one lower in P, in list, answers and state"
 unfoldable pub lowered : ℕ → ℕ → ℕ
@@ -106,6 +113,7 @@ lower_answer t (removed o c) = removed o c
 lower_answer t (closed o) = closed o
 lower_answer t (taken p) = taken p
 lower_answer t (planned i n m) = planned (lowered t i) n m
+lower_answer t (judged x) = judged x
 
 abbrev pub lower_slot : ℕ → Slot → Slot
 lower_slot t absent = absent

@@ -11,9 +11,9 @@ use Rattle.model.specs.Create.{Parameters, created}
 use Rattle.model.specs.Request.{Request, Request.new_object, Request.duplicate, Request.reserve, Request.publish}
 use Rattle.model.specs.Request.{Answer}
 use Rattle.model.specs.Step.{new_object_of, duplicate_of, release_parcel_of, retire_object_of, reserve_of, trim_of, abort_of, publish_of, get_info_of, close_of, replace_of, resolve_of, scan_handles_of, prepare_transfer_of}
-use Rattle.model.specs.Step.{prepare_consumption_of, rollback_of, commit_of, direct_commit_of, direct_rollback_of, remove_stopping_owner_of, teardown_start_of, teardown_step_of, teardown_finish_of, take_empty_page_of, make_plan_of, use_plan_of, drop_plan_of, decide, step, run}
+use Rattle.model.specs.Step.{prepare_consumption_of, rollback_of, commit_of, direct_commit_of, direct_rollback_of, remove_stopping_owner_of, teardown_start_of, teardown_step_of, teardown_finish_of, take_empty_page_of, make_plan_of, use_plan_of, drop_plan_of, judge_transfer_of, decide, step, run}
 use Rattle.model.specs.Words.{used_words}
-use Rattle.noninterference.specs.Runs.{permitted, wants_row, wants_id, lowered}
+use Rattle.noninterference.specs.Runs.{permitted, wants_row, wants_id, judges_full, lowered}
 
 -- pages of 4 slots, scans of at most 2 entries or 8 slots
 abbrev pub little : Sizes
@@ -24,8 +24,8 @@ unfoldable pub ran : State → List Request → State × List Answer
 unfolding contains encode payload mask_of payload_in number_in slot_in generation_in decodes next_generation max_batch
     max_slots known_flags last_id place vacate take_free pages_for attach detach created new_object_of duplicate_of release_parcel_of retire_object_of reserve_of
     trim_of abort_of publish_of get_info_of close_of replace_of resolve_of scan_handles_of prepare_transfer_of prepare_consumption_of rollback_of commit_of
-    direct_commit_of direct_rollback_of remove_stopping_owner_of teardown_start_of teardown_step_of teardown_finish_of take_empty_page_of make_plan_of use_plan_of drop_plan_of
-    decide step used_words permitted wants_row wants_id lowered
+    direct_commit_of direct_rollback_of remove_stopping_owner_of teardown_start_of teardown_step_of teardown_finish_of take_empty_page_of make_plan_of use_plan_of drop_plan_of judge_transfer_of
+    decide step used_words permitted wants_row wants_id judges_full lowered
 ran s rs = run little s rs
 
 -- an answer's number, the first of its words

@@ -9,16 +9,16 @@ use Rattle.std.proofs.lemmas.Bool.{not-true}
 use Rattle.words.specs.Pick.{bool, clash, both}
 use Rattle.authority.specs.Rights.{contains, duplicate_right}
 use Rattle.model.specs.Base.{is_some, at_most, between}
-use Rattle.model.specs.State.{Sizes, Handle, Table, State, is_active, max_batch, known_flags}
+use Rattle.model.specs.State.{Sizes, Table, State, is_active, max_batch, known_flags}
 use Rattle.model.specs.Storage.{is_stale}
-use Rattle.model.specs.Request.{Route, Item, Answer, Answer.refused, Answer.done, Answer.opened, Answer.batch, Answer.info_of, Answer.resolved, Answer.renewed, Answer.scanned, Answer.removed, Answer.closed, Answer.taken, Answer.planned}
-use Rattle.model.specs.Request.{Request, Request.new_object, Request.duplicate, Request.release_parcel, Request.retire_object, Request.reserve, Request.trim, Request.abort, Request.publish, Request.get_info, Request.resolve, Request.replace, Request.close, Request.scan_handles, Request.prepare_transfer, Request.prepare_consumption, Request.rollback, Request.commit, Request.direct_commit, Request.direct_rollback, Request.remove_stopping_owner, Request.teardown_start, Request.teardown_step, Request.teardown_finish, Request.take_empty_page, Request.make_plan, Request.use_plan, Request.drop_plan}
+use Rattle.model.specs.Request.{Route, Item, Answer, Answer.refused, Answer.done, Answer.opened, Answer.batch, Answer.info_of, Answer.resolved, Answer.renewed, Answer.scanned, Answer.removed, Answer.closed, Answer.taken, Answer.planned, Answer.judged}
+use Rattle.model.specs.Request.{Request, Request.new_object, Request.duplicate, Request.release_parcel, Request.retire_object, Request.reserve, Request.trim, Request.abort, Request.publish, Request.get_info, Request.resolve, Request.replace, Request.close, Request.scan_handles, Request.prepare_transfer, Request.prepare_consumption, Request.rollback, Request.commit, Request.direct_commit, Request.direct_rollback, Request.remove_stopping_owner, Request.teardown_start, Request.teardown_step, Request.teardown_finish, Request.take_empty_page, Request.make_plan, Request.use_plan, Request.drop_plan, Request.judge_transfer}
 use Rattle.model.specs.Objects.{is_now_active, is_now_retired}
-use Rattle.model.specs.Book.{find, free_row, id_left, any_open, copies_of}
+use Rattle.model.specs.Book.{find, free_row, id_left, any_open}
 use Rattle.model.specs.Decision.{Decision, Decision.refusal, Decision.refusal_after_id, Decision.accept, as_parcel, handles_of, distinct}
 use Rattle.model.specs.Lookup.{lookup}
 use Rattle.model.specs.Transfer.{items_fault, copies_fault, entry_for}
-use Rattle.model.specs.Step.{decide, step, carry, new_object_of, duplicate_of, release_parcel_of, retire_object_of, reserve_of, trim_of, abort_of, publish_of, get_info_of, resolve_of, replace_of, close_of, scan_handles_of, prepare_transfer_of, prepare_consumption_of, rollback_of, commit_of, direct_commit_of, direct_rollback_of, remove_stopping_owner_of, remove_at, next_occupied, teardown_start_of, tear_at, teardown_step_of, teardown_finish_of, take_at, take_empty_page_of, make_plan_of, use_plan_of, drop_plan_of}
+use Rattle.model.specs.Step.{decide, step, carry, new_object_of, duplicate_of, release_parcel_of, retire_object_of, reserve_of, trim_of, abort_of, publish_of, get_info_of, resolve_of, replace_of, close_of, scan_handles_of, prepare_transfer_of, prepare_consumption_of, rollback_of, commit_of, direct_commit_of, direct_rollback_of, remove_stopping_owner_of, remove_at, next_occupied, teardown_start_of, tear_at, teardown_step_of, teardown_finish_of, take_at, take_empty_page_of, make_plan_of, use_plan_of, drop_plan_of, judge_transfer_of}
 use Rattle.model.proofs.Decided.{Decided, Any, accepts, checked, with_some, with_view, with_handle, with_look, with_reservation, with_claim, with_plan, with_room_law, while_tearing, after_id, either_way, found_or, first_or}
 use Rattle.model.proofs.Refusals.{is_refused, numbered, refused_keeps}
 use Rattle.model.specs.Words.{used_words, words_of}
@@ -27,7 +27,7 @@ use Rattle.promises.specs.Answers.{gives_id, has_id, is_number}
 module _ (z : Sizes) (s : State) where
   -- what is accepted has an id exactly if its op gives one
   decide_gives : (r : Request) → Decided Any Any (λ u a. has_id a ≡ gives_id r) (decide z s r)
-  unfolding decide new_object_of duplicate_of release_parcel_of retire_object_of reserve_of trim_of abort_of publish_of get_info_of resolve_of replace_of close_of scan_handles_of prepare_transfer_of prepare_consumption_of rollback_of commit_of direct_commit_of direct_rollback_of remove_stopping_owner_of teardown_start_of teardown_step_of teardown_finish_of take_empty_page_of make_plan_of use_plan_of drop_plan_of
+  unfolding decide new_object_of duplicate_of release_parcel_of retire_object_of reserve_of trim_of abort_of publish_of get_info_of resolve_of replace_of close_of scan_handles_of prepare_transfer_of prepare_consumption_of rollback_of commit_of direct_commit_of direct_rollback_of remove_stopping_owner_of teardown_start_of teardown_step_of teardown_finish_of take_empty_page_of make_plan_of use_plan_of drop_plan_of judge_transfer_of
   decide_gives (new_object o r f) =
       checked (ltb o s.object_count) 18 tt λ e.
       checked (free_row s) 1 tt λ e.
@@ -165,6 +165,9 @@ module _ (z : Sizes) (s : State) where
   decide_gives (drop_plan i) =
       with_plan (find i s.book.rows) tt λ b n w fs e.
       accepts refl
+  decide_gives (judge_transfer b route o k qs) =
+      checked (ltb b s.table_count) 18 tt λ e.
+      accepts refl
 
   pub step_gives : (r : Request) → is_refused (step z s r).1 ≡ false → has_id (step z s r).1 ≡ gives_id r
   unfolding step
@@ -225,6 +228,7 @@ number_0 (closed (some x)) d e = refl
 number_0 (taken none) d e = refl
 number_0 (taken (some p)) d e = refl
 number_0 (planned i n m) d e = refl
+number_0 (judged x) d e = refl
 
 -- an answer is a refusal, or it is none
 pub refused_or {ℓ} : {C : Type ℓ} (a : Answer) → ((n : ℕ) → a ≡ refused n → C) → (is_refused a ≡ false → C) → C
@@ -240,6 +244,7 @@ refused_or (removed x c) y f = f refl
 refused_or (closed x) y f = f refl
 refused_or (taken p) y f = f refl
 refused_or (planned i n m) y f = f refl
+refused_or (judged x) y f = f refl
 
 pub in_range : (n : ℕ) → numbered n ≡ true → (1 ≤ n) × (is_number n ≡ true)
 in_range n e = bool (between 1 n 18)

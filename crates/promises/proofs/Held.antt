@@ -10,7 +10,7 @@ use Rattle.format.specs.Format.{answer_words}
 use Rattle.model.specs.Base.{every}
 use Rattle.model.specs.State.{Sizes, till, State}
 use Rattle.model.specs.Request.{Route, Item, Request, Request.close, Request.prepare_transfer, Request.rollback, Request.commit}
-use Rattle.model.specs.Request.{Answer, Answer.refused, Answer.done, Answer.opened, Answer.batch, Answer.info_of, Answer.resolved, Answer.renewed, Answer.scanned, Answer.removed, Answer.closed, Answer.taken, Answer.planned}
+use Rattle.model.specs.Request.{Answer, Answer.refused, Answer.done, Answer.opened, Answer.batch, Answer.info_of, Answer.resolved, Answer.renewed, Answer.scanned, Answer.removed, Answer.closed, Answer.taken, Answer.planned, Answer.judged}
 use Rattle.model.proofs.Refusals.{is_refused}
 use Rattle.model.specs.Book.{find, spend_id}
 use Rattle.model.specs.Step.{close_of, rollback_of, commit_of, decide, step, run}
@@ -98,6 +98,7 @@ not_refused (removed x c) e = refl
 not_refused (closed x) e = refl
 not_refused (taken p) e = refl
 not_refused (planned i n m) e = refl
+not_refused (judged x) e = refl
 
 -- word 0 of every answer is 0, and there is one for each
 pub closed_words : (l : List Answer) → every accepted l ≡ true → (i d : ℕ) → i < length l → get_or (all_words l) (answer_words * i) d ≡ 0

@@ -12,7 +12,7 @@ use Rattle.format.specs.Fields.{op_field, table_field, object_field, count_field
 use Rattle.format.specs.Format.{musts, mays, transfer_item_must, transfer_item_may, parcel_item_must, parcel_item_may, field_kinds, field_fits, field_count}
 use Rattle.model.specs.Base.{pick, nth, or_else}
 use Rattle.model.specs.Request.{Item}
-use Rattle.model.specs.Request.{Request, Request.new_object, Request.duplicate, Request.release_parcel, Request.retire_object, Request.reserve, Request.trim, Request.abort, Request.publish, Request.get_info, Request.resolve, Request.replace, Request.close, Request.scan_handles, Request.prepare_transfer, Request.prepare_consumption, Request.rollback, Request.commit, Request.direct_commit, Request.direct_rollback, Request.remove_stopping_owner, Request.teardown_start, Request.teardown_step, Request.teardown_finish, Request.take_empty_page, Request.make_plan, Request.use_plan, Request.drop_plan}
+use Rattle.model.specs.Request.{Request, Request.new_object, Request.duplicate, Request.release_parcel, Request.retire_object, Request.reserve, Request.trim, Request.abort, Request.publish, Request.get_info, Request.resolve, Request.replace, Request.close, Request.scan_handles, Request.prepare_transfer, Request.prepare_consumption, Request.rollback, Request.commit, Request.direct_commit, Request.direct_rollback, Request.remove_stopping_owner, Request.teardown_start, Request.teardown_step, Request.teardown_finish, Request.take_empty_page, Request.make_plan, Request.use_plan, Request.drop_plan, Request.judge_transfer}
 use Rattle.model.specs.Words.{Reading, and_then, Fields, odd, read_field, read_fields, fit_all, may, must, good_record, read_record, read_many, operation_of, read_transfer_item, read_parcel_item, plain_requests, plain_request, with_items, read_request, read_up_to, read_list}
 use Rattle.model.proofs.Lists.{Front, request_in_front, reading_ends}
 use Rattle.noninterference.specs.Names.{request_by}
@@ -201,6 +201,22 @@ module _ (f : ℕ → ℕ) (z : f 0 ≡ 0) (ys : List ℕ) where
   with_go none = none
   with_go (some a) = some (request_by f a.0, then_ys [] a.1)
 
+  -- a transfer's, of what is made of them
+  abbrev with_whole : (List Item → Request) → Reading (List Item) → Reading Request
+  with_whole whole x = and_then x λ r. some (whole r.0, r.1)
+
+  transfer_go : (fs : Fields) (whole : List Item → Request) → ((ds : List Item) → request_by f (whole ds) ≡ whole ds) → (ws : List ℕ) (q : Request) (rest : List ℕ)
+      → with_whole whole (read_many read_transfer_item (must fs count_field) ws) ≡ some (q, rest)
+      → with_whole whole (read_many read_transfer_item (must (fields_by f 0 fs) count_field) (then_ys [] ws)) ≡ some (request_by f q, then_ys [] rest)
+  transfer_go fs whole same ws q rest e =
+      let t = then_some (read_many read_transfer_item (must fs count_field) ws) (λ r. some (whole r.0, r.1)) (q, rest) e in
+      let a : List Item × List ℕ = t.0 in
+      ap (λ (n : ℕ). with_whole whole (read_many read_transfer_item n (then_ys [] ws))) (must_same f fs count_field refl)
+      ∙ ap (with_whole whole)
+      (many_go read_transfer_item (λ q. q) transfer_item_go (must fs count_field) ws a.0 a.1 t.1 ∙ ap (λ (l : List Item). some (l, then_ys [] a.1)) (map_same a.0))
+      ∙ ap (λ (r : Request). some (r, then_ys [] a.1)) (sym (same a.0))
+      ∙ ap with_go t.2
+
   items_go : (fs : Fields) (r : Request) (ws : List ℕ) (q : Request) (rest : List ℕ) → with_items fs r ws ≡ some (q, rest)
       → with_items (fields_by f 0 fs) (request_by f r) (then_ys [] ws) ≡ some (request_by f q, then_ys [] rest)
   items_go fs (new_object o r g) ws q rest e = ap with_go e
@@ -221,13 +237,7 @@ module _ (f : ℕ → ℕ) (z : f 0 ≡ 0) (ys : List ℕ) where
   items_go fs (replace c w r) ws q rest e = ap with_go e
   items_go fs (close c w) ws q rest e = ap with_go e
   items_go fs (scan_handles c k) ws q rest e = ap with_go e
-  items_go fs (prepare_transfer c route o k qs) ws q rest e =
-      let t = then_some (read_many read_transfer_item (must fs count_field) ws) (λ r. some (prepare_transfer c route o k r.0, r.1)) (q, rest) e in
-      let a : List Item × List ℕ = t.0 in
-      ap (λ (n : ℕ). and_then (read_many read_transfer_item n (then_ys [] ws)) λ r. some (prepare_transfer c route o k r.0, r.1)) (must_same f fs count_field refl)
-      ∙ ap (λ (x : Reading (List Item)). and_then x λ r. some (prepare_transfer c route o k r.0, r.1))
-      (many_go read_transfer_item (λ q. q) transfer_item_go (must fs count_field) ws a.0 a.1 t.1 ∙ ap (λ (l : List Item). some (l, then_ys [] a.1)) (map_same a.0))
-      ∙ ap with_go t.2
+  items_go fs (prepare_transfer c route o k qs) ws q rest e = transfer_go fs (λ ds. prepare_transfer c route o k ds) (λ ds. refl) ws q rest e
   items_go fs (prepare_consumption c w r k o) ws q rest e = ap with_go e
   items_go fs (rollback i) ws q rest e = ap with_go e
   items_go fs (commit i) ws q rest e = ap with_go e
@@ -241,6 +251,7 @@ module _ (f : ℕ → ℕ) (z : f 0 ≡ 0) (ys : List ℕ) where
   items_go fs (make_plan c n) ws q rest e = ap with_go e
   items_go fs (use_plan i) ws q rest e = ap with_go e
   items_go fs (drop_plan i) ws q rest e = ap with_go e
+  items_go fs (judge_transfer c route o k qs) ws q rest e = transfer_go fs (λ ds. judge_transfer c route o k ds) (λ ds. refl) ws q rest e
 
   -- what the table of ops makes of the changed fields
   abbrev Makes : (Fields → Request) → Type 0
@@ -279,6 +290,7 @@ module _ (f : ℕ → ℕ) (z : f 0 ≡ 0) (ys : List ℕ) where
       & (λ fs. rw (must_same f fs table_field refl, must_same f fs count_field refl))
       & (λ fs. rw (must_by f z fs id_field refl))
       & (λ fs. rw (must_by f z fs id_field refl))
+      & (λ fs. rw (must_same f fs table_field refl, must_same f fs route_field refl, may_same f fs forbidden_object_field refl, may_same f fs forbidden_kind_field refl))
       & tt
 
   made : (xs : List (Fields → Request)) (k : ℕ) (x : Fields → Request) → AllMake xs → nth xs k ≡ some x → Makes x

@@ -19,5 +19,6 @@ pub mod Demand3
 pub mod Plans
 pub mod Looks
 pub mod Straight
+pub mod Judging
 pub mod Transfers
 pub mod Batches

@@ -1,16 +1,14 @@
 -- "Ids above the transfer's .. are one lower in P, in list, answers and state": of the words of a list and of the words of its answers.
 -- Assumes nothing.
-use Rattle.std.specs.Prelude.{◌≡◌, refl, Bool, true, false, List, [], ◌∷◌, ◌++◌, map, ℕ, zero, suc, ◌+◌, ◌≤◌, ◌<◌, length, get_or, drop, set, eqb}
-use Rattle.std.proofs.Common.{sym, ap, ◌∙◌, append-nil, arith, take_at, drop_at, eqb-true, ne_eqb, le-ltb}
+use Rattle.std.specs.Prelude.{◌≡◌, refl, Bool, true, false, List, [], ◌∷◌, ◌++◌, map, ℕ, ◌≤◌, length, get_or, drop, set}
+use Rattle.std.proofs.Common.{sym, ap, ◌∙◌, append-nil, arith, take_at, drop_at, ne_eqb, le-ltb}
 use Rattle.std.proofs.Math.Option.{some}
-use Rattle.std.proofs.lemmas.Bool.{eqb-false}
-use Rattle.words.specs.Pick.{bool, both, clash}
+use Rattle.words.specs.Pick.{both, clash}
 use Rattle.authority.specs.Rights.{contains}
 use Rattle.format.specs.Format.{musts, mays, field_kinds, field_fits, known_op, field_count, answer_words}
-use Rattle.format.specs.Ops.{op_last}
-use Rattle.model.specs.Base.{pick, or_else, every, range}
+use Rattle.model.specs.Base.{pick, or_else}
 use Rattle.model.specs.State.{Sizes, State}
-use Rattle.model.specs.Request.{Answer, Answer.refused, Answer.done, Answer.opened, Answer.batch, Answer.info_of, Answer.resolved, Answer.renewed, Answer.scanned, Answer.removed, Answer.closed, Answer.taken, Answer.planned}
+use Rattle.model.specs.Request.{Answer, Answer.refused, Answer.done, Answer.opened, Answer.batch, Answer.info_of, Answer.resolved, Answer.renewed, Answer.scanned, Answer.removed, Answer.closed, Answer.taken, Answer.planned, Answer.judged}
 use Rattle.model.specs.Request.{Request, Request.close, Request.rollback, Request.commit}
 use Rattle.noninterference.specs.Names.{names_of, request_by}
 use Rattle.model.proofs.Refusals.{is_refused}
@@ -18,11 +16,13 @@ use Rattle.model.specs.Step.{step, run}
 use Rattle.model.specs.Words.{odd, read_request, read_list, used_words, words_of, all_words}
 use Rattle.model.proofs.Lists.{words_length}
 use Rattle.noninterference.specs.Runs.{lowered, lower_request, lower_answer}
-use Rattle.request.specs.Place.{here, fields_from, fields_at, good_map, op_at, request_of, request_at}
+use Rattle.request.specs.Place.{here, fields_from, fields_at, good_map, op_at, request_at}
 use Rattle.request.specs.Laws.{Turn, list_at, request_is}
 use Rattle.promises.specs.Ids.{is_id, standing, changed}
 use Rattle.promises.proofs.Ids.{map_same, reads_by}
-use Rattle.promises.specs.Answers.{op_of, gives_id, has_id}
+use Rattle.contract.specs.Ops.{op_of}
+use Rattle.contract.proofs.Ops.{op_made}
+use Rattle.promises.specs.Answers.{gives_id, has_id}
 use Rattle.promises.proofs.Answers.{step_gives, refused_words, number_0, refused_or, step_numbered}
 use Rattle.promises.specs.Lower.{lower_words, rollback_words, commit_words, closing_words, Ending, Ending.rolled_back, Ending.committed, end_h, end_p, last_h, last_p, lower_answer_of, lower_answers}
 
@@ -92,16 +92,6 @@ reads_last_p rolled_back b vs = no_words
 reads_last_p committed b vs = reads_closings b vs
 
 -- a request's op is the word after its record's map
-every_in : (p : ℕ → Bool) (k n i : ℕ) → every p (range k n) ≡ true → k ≤ i → i < k + n → p i ≡ true
-every_in p k zero i e h l = absurd (omega arith)
-every_in p k (suc n) i e h l =
-    let b = both (p k) (every p (range (suc k) n)) e in
-    bool (eqb k i) (λ q. let z : i ≡ k = sym (eqb-true k i q) in rw z b.0) (λ q. let z : k ≡ i → ⊥ = eqb-false k i q in every_in p (suc k) n i b.1 (omega arith) (omega arith))
-
-op_made : (list : List ℕ) (op : ℕ) → 1 ≤ op → op ≤ op_last → op_of (request_of op list 0) ≡ op
-unfolding request_of
-op_made list op h l = eqb-true (op_of (request_of op list 0)) op (every_in (λ k. eqb (op_of (request_of k list 0)) k) 1 op_last op refl h (omega arith))
-
 pub op_word : (m op : ℕ) (ws : List ℕ) (r : Request) (rs : List Request) → read_list (m ∷ op ∷ ws) ≡ some (r ∷ rs) → op_of r ≡ op
 unfolding good_map fields_at fields_from
 op_word m op ws r rs e =
@@ -110,7 +100,7 @@ op_word m op ws r rs e =
     let first : r ≡ request_at list 0 = cc t.first in
     let stands : odd m ≡ true = (both (odd m) _ t.formed.head.known).0 in
     let word : op_at list 0 ≡ op = ap (λ (b : Bool). or_else (here b list 1) 0) stands in
-    ap op_of (first ∙ request_is list 0 (op_at list 0) refl) ∙ op_made list (op_at list 0) t.formed.known.0 t.formed.known.1 ∙ word
+    ap op_of (first ∙ request_is list 0 (op_at list 0) refl) ∙ op_made list 0 (op_at list 0) t.formed.known.0 t.formed.known.1 ∙ word
 
 -- an accepted answer: word 1 is an id, or nothing is lowered
 id_lowered : (t : ℕ) (a : Answer) (b : Bool) → is_refused a ≡ false → has_id a ≡ b → pick b (set (words_of a) 1 (lowered t (get_or (words_of a) 1 0))) (words_of a) ≡ words_of (lower_answer t a)
@@ -127,6 +117,7 @@ id_lowered t (removed x c) b r e = rw (← e)
 id_lowered t (closed x) b r e = rw (← e)
 id_lowered t (taken p) b r e = rw (← e)
 id_lowered t (planned i n m) b r e = rw (← e)
+id_lowered t (judged x) b r e = rw (← e)
 
 -- they are the words of the answer with its id lowered
 pub answer_lowered : (t : ℕ) (z : Sizes) (s : State) (r : Request) → lower_answer_of t r (words_of (step z s r).1) ≡ words_of (lower_answer t (step z s r).1)

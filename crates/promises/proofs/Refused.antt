@@ -10,13 +10,15 @@ use Rattle.model.specs.State.{till, State}
 use Rattle.model.specs.Request.{Request}
 use Rattle.model.specs.Decision.{Decision, Decision.refusal, Decision.refusal_after_id, Decision.accept}
 use Rattle.model.specs.Step.{decide, step, carry, run}
-use Rattle.model.proofs.Refusals.{is_transfer, numbered, judged, spends, Fits, decide_fits}
+use Rattle.model.proofs.Refusals.{is_transfer, numbered, of_item, spends, Fits, decide_fits}
 use Rattle.model.specs.Words.{read_list, call, answer_short, words_of, all_words}
 use Rattle.model.proofs.Lists.{words_length}
 use Rattle.layout.specs.declared.Shape.{Shape}
 use Rattle.representation.specs.Represents.{Rep}
 use Rattle.answer.specs.Does.{id_spent}
 use Rattle.create.specs.Meets.{Asked, Meets as Creates}
+use Rattle.format.specs.Ops.{op_judge_transfer}
+use Rattle.contract.specs.Ops.{op_of}
 use Rattle.contract.specs.Meets.{Called, Passes, Meets}
 use Rattle.promises.specs.Terms.{Keeps, Each}
 use Rattle.promises.specs.Answers.{is_number}
@@ -26,9 +28,9 @@ use Rattle.promises.proofs.Calls.{went, not_short}
 -- ---- a request in a list
 
 keeps : (s : State) (r : Request) (ws us : List ℕ) → ((n : ℕ) → decide till s r ≡ refusal n → us ≡ ws) → ((n : ℕ) → decide till s r ≡ refusal_after_id n → us ≡ id_spent ws)
-    → Keeps r (words_of (step till s r).1) ws us
+    → (op_of r ≡ op_judge_transfer → us ≡ ws) → Keeps r (words_of (step till s r).1) ws us
 unfolding step
-keeps s r ws us k p = go (decide till s r) refl (decide_fits till s r)
+keeps s r ws us k p j = go (decide till s r) refl (decide_fits till s r)
   where
     go : (d : Decision) → decide till s r ≡ d → Fits (is_transfer r) d → Keeps r (words_of (carry till s d).1) ws us
     go (refusal n) q f =
@@ -38,16 +40,18 @@ keeps s r ws us k p = go (decide till s r) refl (decide_fits till s r)
           zeros = λ h. refl;
           kept = λ h e. k n q;
           spent = λ e. clash e (not-true (spends r n) b.1);
+          judging = j;
         })
     go (refusal_after_id n) q f =
-        let b = both (is_transfer r) (numbered n && judged n) f.leaves in
-        let c = both (numbered n) (judged n) b.1 in
+        let b = both (is_transfer r) (numbered n && of_item n) f.leaves in
+        let c = both (numbered n) (of_item n) b.1 in
         let y : spends r n ≡ true = rw b.0 c.1 in
         rw (refused_words n) (record {
           number = (in_range n c.0).1;
           zeros = λ h. refl;
           kept = λ h e. clash y e;
           spent = λ e. p n q;
+          judging = j;
         })
     go (accept u a) q f =
         let z : get_or (words_of a) 0 0 ≡ 0 = number_0 a 0 f.leaves in
@@ -55,19 +59,20 @@ keeps s r ws us k p = go (decide till s r) refl (decide_fits till s r)
           number = ap is_number z;
           zeros = λ h. absurd (h z);
           kept = λ h e. absurd (h z);
-          spent = λ e. clash (both (is_transfer r) (judged 0) (ap (λ (n : ℕ). spends r n) (sym z) ∙ e)).1 refl;
+          spent = λ e. clash (both (is_transfer r) (of_item 0) (ap (λ (n : ℕ). spends r n) (sym z) ∙ e)).1 refl;
+          judging = j;
         }
 
 pub each_keeps : (sh : Shape) (ws : List ℕ) (s : State) (rs : List Request) (vs tail : List ℕ) → Passes sh ws s rs vs → Each sh ws s rs (all_words (run till s rs).1 ++ tail) vs
 each_keeps sh ws s [] vs tail p = p
-each_keeps sh ws s (r ∷ rs) vs tail (us, i, k, p, rest) =
+each_keeps sh ws s (r ∷ rs) vs tail (us, i, k, p, j, rest) =
     let a : List ℕ = words_of (step till s r).1 in
     let more : List ℕ = all_words (run till (step till s r).0 rs).1 in
     let l : length a ≡ answer_words = words_length (step till s r).1 in
     let e : (a ++ more) ++ tail ≡ a ++ (more ++ tail) = append_assoc a more tail in (
       us,
       i,
-      subst (λ (x : List ℕ). Keeps r x ws us) (sym (ap (take answer_words) e ∙ take_at a (more ++ tail) answer_words l)) (keeps s r ws us k p),
+      subst (λ (x : List ℕ). Keeps r x ws us) (sym (ap (take answer_words) e ∙ take_at a (more ++ tail) answer_words l)) (keeps s r ws us k p j),
       subst (λ (x : List ℕ). Each sh us (step till s r).0 rs x vs) (sym (ap (drop answer_words) e ∙ drop_at a (more ++ tail) answer_words l)) (each_keeps sh us (step till s r).0 rs vs tail rest),
     )
 

@@ -11,10 +11,10 @@ use Rattle.model.specs.Create.{created, permitted}
 use Rattle.model.specs.Request.{Route.buffered, Operation.as_move, Item, Answer}
 use Rattle.model.specs.Request.{Request, Request.new_object, Request.duplicate, Request.reserve, Request.publish, Request.prepare_transfer}
 use Rattle.model.specs.Step.{new_object_of, duplicate_of, release_parcel_of, retire_object_of, reserve_of, trim_of, abort_of, publish_of, get_info_of, close_of, replace_of, resolve_of, scan_handles_of, prepare_transfer_of}
-use Rattle.model.specs.Step.{prepare_consumption_of, rollback_of, commit_of, direct_commit_of, direct_rollback_of, remove_stopping_owner_of, teardown_start_of, teardown_step_of, teardown_finish_of, take_empty_page_of, decide, step, run, make_plan_of, use_plan_of, drop_plan_of}
+use Rattle.model.specs.Step.{prepare_consumption_of, rollback_of, commit_of, direct_commit_of, direct_rollback_of, remove_stopping_owner_of, teardown_start_of, teardown_step_of, teardown_finish_of, take_empty_page_of, decide, step, run, make_plan_of, use_plan_of, drop_plan_of, judge_transfer_of}
 use Rattle.model.specs.Words.{read_request, read_list, used_words, padded, words_of, all_words}
 use Rattle.model.proofs.Tests.{same_list_equal}
-use Rattle.noninterference.specs.Runs.{wants_row, wants_id, lowered}
+use Rattle.noninterference.specs.Runs.{wants_row, wants_id, judges_full, lowered}
 use Rattle.layout.specs.declared.Shape.{Shape}
 use Rattle.representation.specs.Represents.{Rep}
 use Rattle.representation.specs.Unique.{shape_for}
@@ -31,7 +31,7 @@ unfoldable pub ran : State → List Request → State × List Answer
 unfolding contains encode payload mask_of payload_in number_in slot_in generation_in decodes next_generation max_batch max_slots known_flags last_id place vacate take_free
     pages_for attach detach created parameters_of tables_in objects_in new_object_of duplicate_of release_parcel_of retire_object_of reserve_of trim_of abort_of publish_of get_info_of close_of replace_of resolve_of
     scan_handles_of prepare_transfer_of prepare_consumption_of rollback_of commit_of direct_commit_of direct_rollback_of remove_stopping_owner_of teardown_start_of teardown_step_of
-    teardown_finish_of take_empty_page_of make_plan_of use_plan_of drop_plan_of decide step used_words words_of Rattle.noninterference.specs.Runs.permitted wants_row wants_id lowered
+    teardown_finish_of take_empty_page_of make_plan_of use_plan_of drop_plan_of judge_transfer_of decide step used_words words_of Rattle.noninterference.specs.Runs.permitted wants_row wants_id judges_full lowered
 ran s rs = run till s rs
 
 -- a list read

@@ -20,7 +20,7 @@ use Rattle.model.specs.Storage.{raised, page_of, slots_of, busy_of, empty_after,
 use Rattle.model.specs.Change.{with_table}
 use Rattle.model.specs.Objects.{release, info_for}
 use Rattle.model.specs.Request.{Route, Operation, Operation.as_move, Operation.as_copy, Item, Request, Request.close, Answer, Answer.opened, Answer.info_of}
-use Rattle.model.specs.Book.{find, drop_id, swap_id, free_row, id_left, moved_of, copies_of}
+use Rattle.model.specs.Book.{find, drop_id, swap_id, free_row, id_left, moved_of}
 use Rattle.model.specs.Decision.{Decision, Decision.refusal, Decision.refusal_after_id, Decision.accept}
 use Rattle.model.specs.Lookup.{View.holds, lookup, value_at, handle_or}
 use Rattle.model.specs.Transfer.{is_copy, items_fault, copies_fault, entry_by, entry_for}
@@ -328,7 +328,7 @@ module _ (z : Sizes) (s : State) (w : WellFormed z s) where
         once = items_once s t route bo bk [] 0 qs f;
         stood = λ k c. let x = taken t.slots (map (entry_for t) qs) k (items_stand s t route bo bk [] 0 qs f) c in
             (x.held, own_generation (t.slots k) x.gen x.held x.stood);
-        values_are = moves_are s t route bo bk qs (all_name s t route bo bk [] qs f);
+        values_are = moves_are s t route bo bk qs (all_name s t route bo bk [] 0 qs f);
       })
 
   pub consumes : (b v r kind koid : ℕ) → Decided Any Any (Prepared z s b (v ∷ [])) (prepare_consumption_of z s b v r kind koid)

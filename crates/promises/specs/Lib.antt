@@ -8,5 +8,6 @@ pub mod Demand3
 pub mod Plans
 pub mod Looks
 pub mod Straight
+pub mod Judging
 pub mod Batches
 pub mod Transfers

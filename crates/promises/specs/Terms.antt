@@ -2,6 +2,7 @@
 use Rattle.std.specs.Prelude.{◌≡◌, true, false, List, [], ◌∷◌, ◌++◌, ℕ, ◌*◌, ◌≤◌, length, get_or, take, drop, replicate}
 use Rattle.std.proofs.Math.Option.{some}
 use Rattle.format.specs.Format.{answer_words}
+use Rattle.format.specs.Ops.{op_judge_transfer}
 use Rattle.model.specs.Base.{or_else}
 use Rattle.model.specs.State.{till, State}
 use Rattle.model.specs.Request.{Request}
@@ -11,6 +12,7 @@ use Rattle.model.specs.Words.{read_list, all_words}
 use Rattle.layout.specs.declared.Shape.{Shape}
 use Rattle.representation.specs.Represents.{Rep}
 use Rattle.answer.specs.Does.{id_spent}
+use Rattle.contract.specs.Ops.{op_of}
 use Rattle.contract.specs.Meets.{Called, Meets}
 use Rattle.promises.specs.Answers.{is_number}
 
@@ -68,12 +70,13 @@ pub record Together (ws : List ℕ) (sh : Shape) (s : State) (cs : List Call) (r
 -- ---- a request in a list
 
 -- a request whose 72 answer words are a: the state's words were ws and are us. "a refused request carries a number from document 01 and changes nothing, save the one
--- reservation id spent by a transfer preparation refused after its id step": `spends`
+-- reservation id spent by a transfer preparation refused after its id step": `spends`. A judging (document 02, 4) changes no word, accepted or refused
 pub record Keeps (r : Request) (a ws us : List ℕ) : Type 0 where
   pub number : is_number (get_or a 0 0) ≡ true
   pub zeros : (get_or a 0 0 ≡ 0 → ⊥) → drop 1 a ≡ replicate 71 0
   pub kept : (get_or a 0 0 ≡ 0 → ⊥) → spends r (get_or a 0 0) ≡ false → us ≡ ws
   pub spent : spends r (get_or a 0 0) ≡ true → us ≡ id_spent ws
+  pub judging : op_of r ≡ op_judge_transfer → us ≡ ws
 
 -- the requests of a list, one after the other, from the words ws that represent s to the words vs; os are the words of their answers. After each request the words us
 -- represent the state that its step leaves

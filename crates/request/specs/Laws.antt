@@ -1,15 +1,15 @@
 -- What a caller that runs the requests of a list one after the other goes by.
 -- Assumes nothing.
-use Rattle.std.specs.Prelude.{◌≡◌, refl, Bool, true, false, List, [], ◌∷◌, ℕ, zero, suc, ◌+◌, ◌-◌, ◌≤◌, ◌<◌, length, get_or, drop, eqb}
+use Rattle.std.specs.Prelude.{◌≡◌, refl, Bool, true, false, List, [], ◌∷◌, ℕ, zero, suc, ◌+◌, ◌≤◌, ◌<◌, length, get_or, drop, eqb}
 use Rattle.std.proofs.Common.{sym, ap, subst, ◌∙◌, arith, add-one}
 use Rattle.std.proofs.Math.Option.{Option, none, some}
 use Rattle.format.specs.Format.{musts, mays, transfer_item_must, transfer_item_may, parcel_item_must, parcel_item_may}
-use Rattle.format.specs.Ops.{op_publish, op_prepare_transfer, op_last}
+use Rattle.format.specs.Ops.{op_publish, op_last}
 use Rattle.format.specs.Fields.{an_op, an_operation, zero_word}
 use Rattle.model.specs.Base.{pick}
 use Rattle.model.specs.Request.{Request}
 use Rattle.model.specs.Words.{and_then, must, read_list}
-use Rattle.request.specs.Place.{up_to, end_at, record_end, many_end, places_from, place_of, items_end, op_at, count_at, request_end, next_at, request_of, request_at}
+use Rattle.request.specs.Place.{up_to, end_at, record_end, many_end, places_from, place_of, has_transfer, items_end, op_at, count_at, request_end, next_at, request_of, request_at}
 use Rattle.request.specs.Fields.{Whole, record_whole, first_fits}
 use Rattle.request.specs.Lists.{known_op_law, place_later, request_ends, list_turn, list_end}
 
@@ -73,7 +73,7 @@ pub record Formed (ws : List ℕ) (at e : ℕ) : Type 0 where
 
 items_next : (ws : List ℕ) (at e : ℕ) → items_end (op_at ws at) (count_at ws at) ws (end_at ws at) ≡ some e → e ≡ next_at ws at
 unfolding items_end next_at
-items_next ws at e p = go (eqb (op_at ws at) op_publish) (eqb (op_at ws at) op_prepare_transfer) p
+items_next ws at e p = go (eqb (op_at ws at) op_publish) (has_transfer (op_at ws at)) p
   where
     n : ℕ
     n = count_at ws at

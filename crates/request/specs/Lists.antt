@@ -10,13 +10,13 @@ use Prim.Native.Nat.{ℕ, zero, suc, ◌+◌, ◌≤◌, ◌<◌}
 use Rattle.std.proofs.Math.ListN.{get_or}
 use Rattle.format.specs.Format.{musts, mays, transfer_item_must, transfer_item_may, parcel_item_must, parcel_item_may, field_fits, known_op}
 use Rattle.model.specs.Base.{pick, nth}
-use Rattle.model.specs.Request.{Item, Request, Request.publish, Request.prepare_transfer}
-use Rattle.model.specs.Words.{Reading, and_then, Fields, may, must, read_record, read_many, route_of, plain_requests, plain_request, with_items, read_request, read_up_to, read_list}
+use Rattle.model.specs.Request.{Item, Request, Request.publish, Request.prepare_transfer, Request.judge_transfer}
+use Rattle.model.specs.Words.{Reading, and_then, Fields, may, must, read_record, read_many, read_transfer_item, route_of, plain_requests, plain_request, with_items, read_request, read_up_to, read_list}
 use Rattle.model.proofs.Lists.{Front, request_in_front, reading_ends}
 use Rattle.model.proofs.Tests.{◌&◌, nth_some}
 use Rattle.format.specs.Fields.{op_field, table_field, id_field, route_field, forbidden_object_field, forbidden_kind_field, an_op, an_operation, zero_word}
-use Rattle.format.specs.Ops.{op_publish, op_prepare_transfer, op_last}
-use Rattle.request.specs.Place.{next_of, placed, up_to, counted, listed, fields_at, end_at, record_end, many_end, places_from, place_of, item_of, item_at, parcel_at, op_at, count_at, item_places, items_end, request_end, request_of, request_at}
+use Rattle.format.specs.Ops.{op_publish, op_prepare_transfer, op_judge_transfer, op_last}
+use Rattle.request.specs.Place.{next_of, placed, up_to, counted, listed, fields_at, end_at, record_end, many_end, places_from, place_of, item_of, item_at, parcel_at, op_at, count_at, item_places, has_transfer, items_end, request_end, request_of, request_at}
 use Rattle.request.specs.Counted.{end_out}
 use Rattle.request.specs.Fields.{record_read, record_whole, first_fits}
 
@@ -159,26 +159,31 @@ module _ (ws : List ℕ) (at : ℕ) where
       go none = refl
       go (some e) = refl
 
+  -- a transfer's items, of what is made of them
+  module _ (whole : List Item → Request) where
+    itemed_items : and_then (read_many read_transfer_item (count_at ws at) (drop (end_at ws at) ws)) (λ r. some (whole r.0, r.1))
+        ≡ up_to ws (many_end an_operation transfer_item_must (transfer_item_must + transfer_item_may) (count_at ws at) ws (end_at ws at)) (whole (map (item_at ws) (item_places ws at)))
+    unfolding item_at
+    itemed_items =
+        ap (λ (x : Reading (List Item)). and_then x λ r. some (whole r.0, r.1)) (many_read item_of an_operation transfer_item_must transfer_item_may (count_at ws at) ws (end_at ws at))
+        ∙ go (many_end an_operation transfer_item_must (transfer_item_must + transfer_item_may) (count_at ws at) ws (end_at ws at))
+      where
+        go : (x : Option ℕ) → and_then (up_to ws x (map (item_at ws) (item_places ws at))) (λ r. some (whole r.0, r.1)) ≡ up_to ws x (whole (map (item_at ws) (item_places ws at)))
+        go none = refl
+        go (some e) = refl
+
   itemed_transfer : Itemed op_prepare_transfer (λ f. prepare_transfer (must f table_field) (route_of (must f route_field)) (may f forbidden_object_field) (may f forbidden_kind_field) [])
-  unfolding Itemed items_end request_of item_at
-  itemed_transfer =
-      ap (with_items_law) (many_read item_of an_operation transfer_item_must transfer_item_may (count_at ws at) ws (end_at ws at))
-      ∙ go (many_end an_operation transfer_item_must (transfer_item_must + transfer_item_may) (count_at ws at) ws (end_at ws at))
-    where
-      whole : List Item → Request
-      whole qs = prepare_transfer (must (fields_at ws at) table_field) (route_of (must (fields_at ws at) route_field)) (may (fields_at ws at) forbidden_object_field) (may (fields_at ws at) forbidden_kind_field) qs
+  unfolding Itemed items_end request_of
+  itemed_transfer = itemed_items λ qs. prepare_transfer (must (fields_at ws at) table_field) (route_of (must (fields_at ws at) route_field)) (may (fields_at ws at) forbidden_object_field) (may (fields_at ws at) forbidden_kind_field) qs
 
-      with_items_law : Reading (List Item) → Reading Request
-      with_items_law x = and_then x λ r. some (whole r.0, r.1)
-
-      go : (x : Option ℕ) → with_items_law (up_to ws x (map (item_at ws) (item_places ws at))) ≡ up_to ws x (whole (map (item_at ws) (item_places ws at)))
-      go none = refl
-      go (some e) = refl
+  itemed_judging : Itemed op_judge_transfer (λ f. judge_transfer (must f table_field) (route_of (must f route_field)) (may f forbidden_object_field) (may f forbidden_kind_field) [])
+  unfolding Itemed items_end request_of
+  itemed_judging = itemed_items λ qs. judge_transfer (must (fields_at ws at) table_field) (route_of (must (fields_at ws at) route_field)) (may (fields_at ws at) forbidden_object_field) (may (fields_at ws at) forbidden_kind_field) qs
 
   -- each op of the table has its request
   table : All Itemed 1 plain_requests
   unfolding Itemed items_end request_of
-  table = refl & refl & refl & refl & refl & refl & refl & itemed_publish & refl & refl & refl & refl & refl & itemed_transfer & refl & refl & refl & refl & refl & refl & refl & refl & refl & refl & refl & refl & refl & tt
+  table = refl & refl & refl & refl & refl & refl & refl & itemed_publish & refl & refl & refl & refl & refl & itemed_transfer & refl & refl & refl & refl & refl & refl & refl & refl & refl & refl & refl & refl & refl & itemed_judging & tt
 
   known : (op : ℕ) → 1 ≤ op → op ≤ op_last → (make : Fields → Request) × (plain_request op ≡ some make) × Itemed op make
   known zero a b = absurd (omega arith)
@@ -226,7 +231,7 @@ module _ (ws : List ℕ) (at : ℕ) where
 
 items_ends : (op n : ℕ) (ws : List ℕ) (p e : ℕ) → items_end op n ws p ≡ some e → p ≤ length ws → (p ≤ e) × (e ≤ length ws)
 unfolding items_end
-items_ends op n ws p e q h = go (eqb op op_publish) (eqb op op_prepare_transfer) q
+items_ends op n ws p e q h = go (eqb op op_publish) (has_transfer op) q
   where
     go : (b c : Bool)
         → pick b (many_end zero_word parcel_item_must (parcel_item_must + parcel_item_may) n ws p) (pick c (many_end an_operation transfer_item_must (transfer_item_must + transfer_item_may) n ws p) (some p)) ≡ some e

@@ -1,15 +1,15 @@
 -- A list of requests read in place: where the records, the fields and the items of a list of words stand. Document 01, "The request list".
 -- Assumes nothing.
 use Rattle.std.specs.Prelude.{Option as CodeOption, Some, None}
-use Rattle.std.specs.Prelude.{Bool, true, false, ◌&&◌, List, [], ◌∷◌, map, ℕ, zero, suc, ◌+◌, ◌-◌, ◌/◌, length, get_or, drop, eqb, ltb}
+use Rattle.std.specs.Prelude.{Bool, true, false, ◌&&◌, ◌||◌, List, [], ◌∷◌, map, ℕ, zero, suc, ◌+◌, ◌-◌, ◌/◌, length, get_or, drop, eqb, ltb}
 use Rattle.std.proofs.Math.Option.{Option, none, some}
 use Rattle.authority.specs.Rights.{contains}
 use Rattle.format.specs.Format.{musts, mays, transfer_item_must, transfer_item_may, parcel_item_must, parcel_item_may, field_kinds, field_fits, field_count}
 use Rattle.model.specs.Base.{pick}
-use Rattle.model.specs.Request.{Item, Request, Request.get_info, Request.publish, Request.prepare_transfer}
+use Rattle.model.specs.Request.{Item, Request, Request.get_info, Request.publish, Request.prepare_transfer, Request.judge_transfer}
 use Rattle.model.specs.Words.{Reading, and_then, Fields, odd, may, must, operation_of, route_of, plain_request}
 use Rattle.format.specs.Fields.{op_field, table_field, count_field, value_field, rights_field, flags_field, id_field, kind_field, koid_field, route_field, offered_rights_field, offered_kind_field, expected_kind_field, forbidden_object_field, forbidden_kind_field, number32, a_koid, a_route, an_operation, zero_word}
-use Rattle.format.specs.Ops.{op_publish, op_prepare_transfer}
+use Rattle.format.specs.Ops.{op_publish, op_prepare_transfer, op_judge_transfer}
 use Rattle.request.specs.declared.Record.{Record}
 
 -- What the code answers
@@ -168,11 +168,15 @@ count_at ws at = must (fields_at ws at) count_field
 abbrev pub item_places : List ℕ → ℕ → List ℕ
 item_places ws at = places_from (count_at ws at) ws (end_at ws at)
 
+-- the ops whose items are a transfer's
+abbrev pub has_transfer : ℕ → Bool
+has_transfer op = eqb op op_prepare_transfer || eqb op op_judge_transfer
+
 -- the place after the items of an op, which begin at e: "as many as its count field says"
 unfoldable pub items_end : ℕ → ℕ → List ℕ → ℕ → Option ℕ
 items_end op n ws e =
     pick (eqb op op_publish) (many_end zero_word parcel_item_must (parcel_item_must + parcel_item_may) n ws e)
-    (pick (eqb op op_prepare_transfer) (many_end an_operation transfer_item_must (transfer_item_must + transfer_item_may) n ws e) (some e))
+    (pick (has_transfer op) (many_end an_operation transfer_item_must (transfer_item_must + transfer_item_may) n ws e) (some e))
 
 -- the place after the request at a place, or none where it is malformed
 unfoldable pub request_end : List ℕ → ℕ → Option ℕ
@@ -184,7 +188,7 @@ request_end ws at =
 unfoldable pub next_at : List ℕ → ℕ → ℕ
 next_at ws at =
     pick (eqb (op_at ws at) op_publish) (place_of (count_at ws at) ws (end_at ws at))
-    (pick (eqb (op_at ws at) op_prepare_transfer) (place_of (count_at ws at) ws (end_at ws at)) (end_at ws at))
+    (pick (has_transfer (op_at ws at)) (place_of (count_at ws at) ws (end_at ws at)) (end_at ws at))
 
 -- what the table of ops makes of the fields; where there is no such op, which no list that was read has, a request that changes nothing
 abbrev pub applied : Option (Fields → Request) → Fields → Request
@@ -196,7 +200,8 @@ unfoldable pub request_of : ℕ → List ℕ → ℕ → Request
 request_of op ws at =
     pick (eqb op op_publish) (publish (must (fields_at ws at) id_field) (map (parcel_at ws) (item_places ws at)))
     (pick (eqb op op_prepare_transfer) (prepare_transfer (must (fields_at ws at) table_field) (route_of (must (fields_at ws at) route_field)) (may (fields_at ws at) forbidden_object_field) (may (fields_at ws at) forbidden_kind_field) (map (item_at ws) (item_places ws at)))
-    (applied (plain_request op) (fields_at ws at)))
+    (pick (eqb op op_judge_transfer) (judge_transfer (must (fields_at ws at) table_field) (route_of (must (fields_at ws at) route_field)) (may (fields_at ws at) forbidden_object_field) (may (fields_at ws at) forbidden_kind_field) (map (item_at ws) (item_places ws at)))
+    (applied (plain_request op) (fields_at ws at))))
 
 unfoldable pub request_at : List ℕ → ℕ → Request
 request_at ws at = request_of (op_at ws at) ws at

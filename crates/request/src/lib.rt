@@ -249,7 +249,10 @@ impl<'a> Record<'a> {
     {
         let op = self.field(format::field::FIELD_OP);
         let end = self.end();
-        if matches!(op, format::op::OP_PUBLISH | format::op::OP_PREPARE_TRANSFER) {
+        if matches!(
+            op,
+            format::op::OP_PUBLISH | format::op::OP_PREPARE_TRANSFER | format::op::OP_JUDGE_TRANSFER
+        ) {
             let items = Record { at: end, ..*self };
             return items.records_end(self.field(format::field::FIELD_COUNT));
         }
@@ -297,7 +300,7 @@ impl<'a> Record<'a> {
                 format::maps::PARCEL_ITEM_MUST,
                 format::maps::PARCEL_ITEM_MUST + format::maps::PARCEL_ITEM_MAY,
             ),
-            format::op::OP_PREPARE_TRANSFER => self.records_ok(
+            format::op::OP_PREPARE_TRANSFER | format::op::OP_JUDGE_TRANSFER => self.records_ok(
                 count,
                 FieldKind::Operation,
                 format::maps::TRANSFER_ITEM_MUST,

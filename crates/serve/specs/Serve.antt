@@ -2,7 +2,7 @@
 use Rattle.std.specs.Prelude.{List, ◌≡◌, ℕ, eqb}
 use Rattle.words.specs.Pick.{pick}
 use Rattle.format.specs.Fields.{table_field, object_field, count_field, value_field, rights_field, flags_field, id_field, destination_field, kind_field, koid_field, cursor_field}
-use Rattle.format.specs.Ops.{op_new_object, op_duplicate, op_release_parcel, op_retire_object, op_reserve, op_trim, op_abort, op_publish, op_get_info, op_resolve, op_replace, op_close, op_scan_handles, op_prepare_transfer, op_prepare_consumption, op_rollback, op_commit, op_direct_commit, op_direct_rollback, op_remove_stopping_owner, op_teardown_start, op_teardown_step, op_teardown_finish, op_take_empty_page, op_make_plan, op_use_plan, op_drop_plan}
+use Rattle.format.specs.Ops.{op_new_object, op_duplicate, op_release_parcel, op_retire_object, op_reserve, op_trim, op_abort, op_publish, op_get_info, op_resolve, op_replace, op_close, op_scan_handles, op_prepare_transfer, op_prepare_consumption, op_rollback, op_commit, op_direct_commit, op_direct_rollback, op_remove_stopping_owner, op_teardown_start, op_teardown_step, op_teardown_finish, op_take_empty_page, op_make_plan, op_use_plan, op_drop_plan, op_judge_transfer}
 use Rattle.layout.specs.declared.Shape.{Shape}
 use Rattle.request.specs.Place.{field_of, op_at, end_at, count_at}
 use Rattle.answer.specs.Does.{Both, both}
@@ -15,7 +15,7 @@ use Rattle.close.specs.Replace.{replace_r}
 use Rattle.close.specs.Close.{close_r}
 use Rattle.lookup.specs.Scan.{scan_r}
 use Rattle.transfer.specs.Ops.{consumption_r}
-use Rattle.transfer.specs.Preparing.{transfer_at}
+use Rattle.transfer.specs.Preparing.{transfer_at, judging_at}
 use Rattle.claim.specs.EndsOps.{trim_r, abort_r}
 use Rattle.claim.specs.Ops.{rollback_r, commit_r, direct_commit_r, direct_rollback_r}
 use Rattle.teardown.specs.Ops.{stopping_r, teardown_start_r, teardown_step_r, teardown_finish_r}
@@ -51,7 +51,8 @@ serve_r op ws os sh list at base =
     (pick (eqb op op_make_plan) (make_plan_r ws os sh base (field_of list at table_field) (field_of list at count_field))
     (pick (eqb op op_use_plan) (use_plan_r ws os sh base (field_of list at id_field))
     (pick (eqb op op_drop_plan) (drop_plan_r ws os sh base (field_of list at id_field))
-    (both ws os)))))))))))))))))))))))))))
+    (pick (eqb op op_judge_transfer) (judging_at ws os sh base list at)
+    (both ws os))))))))))))))))))))))))))))
 
 abbrev pub one_r : List ℕ → List ℕ → Shape → List ℕ → ℕ → ℕ → Both
 one_r ws os sh list at base = serve_r (op_at list at) ws os sh list at base

@@ -24,6 +24,7 @@ use Rattle.parcel.specs.Released.{release_parcel_does}
 use Rattle.parcel.specs.Publishing.{ids_at}
 use Rattle.parcel.specs.Published.{publish_does}
 use Rattle.transfer.proofs.Prepared.{transfer_at_does}
+use Rattle.transfer.proofs.Judged.{judging_at_does, judging_keeps}
 use Rattle.transfer.proofs.Consumption.{prepare_consumption_does}
 use Rattle.claim.proofs.Ends.{abort_does, trim_does}
 use Rattle.claim.proofs.RolledBack.{rollback_does}
@@ -69,9 +70,19 @@ module _ (ws os : List ℕ) (sh : Shape) (s : State) (list : List ℕ) (at base 
       (make_plan_does ws sh s r os base (field_of list at table_field) (field_of list at count_field))
       (use_plan_does ws sh s r os base (field_of list at id_field))
       (drop_plan_does ws sh s r os base (field_of list at id_field))
+      (judging_at_does ws sh s r os base list at)
+
+  -- a judging changes no word
+  judges : (serve_r op_judge_transfer ws os sh list at base).state ≡ ws
+  unfolding serve_r
+  judges = judging_keeps ws sh s r os base list at
 
 -- EACH REQUEST
 pub steps : Steps one_r
 steps ws os sh s list at base r w =
     let e = request_is list at (op_at list at) refl in
-    (rw e (serves ws os sh s list at base r (op_at list at) w.known.0 w.known.1), step_short till (omega arith) s r.well_formed (request_at list at))
+    (
+      rw e (serves ws os sh s list at base r (op_at list at) w.known.0 w.known.1),
+      step_short till (omega arith) s r.well_formed (request_at list at),
+      λ q. let k : op_at list at ≡ op_judge_transfer = sym (op_made list at (op_at list at) w.known.0 w.known.1) ∙ (rw e at q) in rw k (judges ws os sh s list at base r),
+    )

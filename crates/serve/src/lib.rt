@@ -42,6 +42,7 @@ pub fn serve(s: &mut [u64], sh: Shape, rq: &Record, op: u64, out: &mut [u64], ba
         op::OP_MAKE_PLAN => plan::serve_make_plan(s, sh, rq, out, base),
         op::OP_USE_PLAN => plan::serve_use_plan(s, sh, rq, out, base),
         op::OP_DROP_PLAN => plan::serve_drop_plan(s, sh, rq, out, base),
+        op::OP_JUDGE_TRANSFER => transfer::serve_judge_transfer(s, sh, rq, out, base),
         _ => {}
     }
 }

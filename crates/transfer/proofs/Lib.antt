@@ -5,3 +5,4 @@ pub mod Raised
 pub mod Entries
 pub mod Tried
 pub mod Prepared
+pub mod Judged

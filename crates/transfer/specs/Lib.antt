@@ -5,3 +5,4 @@ pub mod Code
 pub mod Plain
 pub mod Seen
 pub mod Stored
+pub mod Judging

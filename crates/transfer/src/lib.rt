@@ -2,7 +2,7 @@
 // SPDX-License-Identifier: Apache-2.0
 // Ported from src/capability/handle/mod.rs of HypeR-Proj/kernel, with changes.
 
-// The requests that open a claim: prepare transfer and prepare consumption.
+// The requests that open a claim, prepare transfer and prepare consumption; and judge transfer, which goes by the checks of the first.
 #![tactic(auto)]
 
 ghost use Rattle.std.specs.Prelude.{◌≡◌, true, [], ◌<◌, ◌%◌, ◌^◌, length, eqb};
@@ -11,7 +11,7 @@ ghost use Rattle.std.specs.Iterator.{YieldsFirstBy, at_most};
 ghost use Rattle.model.specs.Base.{member};
 ghost use Rattle.model.specs.Words.{operation_of};
 ghost use Rattle.model.specs.Transfer.{is_copy};
-ghost use Rattle.format.specs.Fields.{value_field, table_field, rights_field, kind_field, koid_field};
+ghost use Rattle.format.specs.Fields.{value_field, table_field, count_field, rights_field, kind_field, koid_field};
 ghost use Rattle.format.specs.Format.{transfer_item_must};
 ghost use Rattle.format.specs.Refusals.{number_of};
 ghost use Rattle.format.specs.Rules.{number_by};
@@ -23,6 +23,7 @@ ghost use Rattle.answer.specs.Does.{both, reply, id_words, Gives};
 ghost use Rattle.transfer.specs.Ops.{moved_w, mark_item_w, marked_w, claim_w, consume_refusal, consumed_r, consumption_r};
 ghost use Rattle.transfer.specs.Checks.{as_option, item_by, looked_at, RulesAt, items_left, earlier_left, stop_by, stop_of, fault_of, batch_stop, route_bars, rights_stop, object_stop, handle_stop, item_stop, copy_stop, items_stop};
 ghost use Rattle.transfer.specs.Seen.{bit_of, Seen};
+ghost use Rattle.transfer.specs.Judging.{judged_list, judged_items, judged_batch, judging_at};
 ghost use Rattle.transfer.specs.Preparing.{copy_link, link_of, raised, raised_item, tried, raised_items, tried_items, lowered_item, lowered_items, copied_w, handle_entry_w, entry_w, entries_w, refuse_spent_r, items_r, transfer_at};
 
 use authority::Rights;
@@ -33,7 +34,7 @@ use format::field::{
     FIELD_TABLE, FIELD_VALUE,
 };
 use format::op;
-use format::refusal::Refusal;
+use format::refusal::{DONE, Refusal};
 use format::rule::Rule;
 use layout::{Shape, field, place, size, value};
 use lookup::PreparedHandle;
@@ -661,6 +662,22 @@ fn prepare_items(
     Ok(ReservationId(id))
 }
 
+// The items of the transfer of a record: they stand after it in the list.
+#[tactic(auto)]
+fn read_items<'a>(rq: &Record<'a>) -> TransferItems<'a>
+    ensures words { result.item.words.now ≡ rq.now.words.now }
+    ensures place { result.item.at ≡ end_at rq.now.words.now rq.now.at }
+    ensures count { result.count ≡ word_of rq.now count_field }
+{
+    TransferItems {
+        item: Record {
+            at: rq.end(),
+            ..*rq
+        },
+        count: rq.field(FIELD_COUNT),
+    }
+}
+
 // "Transfer: 16, 17, 13, 1, 12; then item by item 2 (twice), 2 or 3 (lookup), 5 (rights), 8 (kind), 5 (object), 8 (route), 4; then copies
 // 9, 11". Its items stand after its record in the list.
 #[tactic(auto, unfolding(crate::specs::Preparing::transfer_at, crate::specs::Preparing::transfer_r), using(crate::specs::Code::items_length, crate::specs::Code::rule_some))]
@@ -675,15 +692,7 @@ pub fn prepare_transfer(s: &mut [u64], sh: Shape, rq: &Record) -> Result<Reserva
     if let Err(rule) = check_batch(s, sh, b, count) {
         return Err(rule.refusal());
     }
-    let t = read_rules(rq);
-    let items = TransferItems {
-        item: Record {
-            at: rq.end(),
-            ..*rq
-        },
-        count,
-    };
-    prepare_items(s, sh, items, b, t)
+    prepare_items(s, sh, read_items(rq), b, read_rules(rq))
 }
 
 // The request of a list at a place.
@@ -692,6 +701,82 @@ pub fn serve_prepare_transfer(s: &mut [u64], sh: Shape, rq: &Record, out: &mut [
 {
     match prepare_transfer(s, sh, rq) {
         Ok(id) => answer::say(out, base, &[id.0]),
+        Err(refusal) => answer::refuse(out, base, refusal),
+    }
+}
+
+// The checks of the items and their copies, after which no count is other than before.
+#[tactic(auto, unfolding(crate::specs::Judging::judged_items), using(crate::specs::Code::rule_some))]
+fn judge_items(
+    s: &mut [u64],
+    sh: Shape,
+    items: TransferItems,
+    b: u64,
+    t: TransferRules,
+) -> Result<(), TransferFault>
+    ensures { tried (fault_of result) s.new ≡ judged_items s.old sh b t.route (as_option t.forbidden_object) (as_option t.forbidden_kind) (items_left items.entry) }
+{
+    try_items(s, sh, items, b, t)?;
+    lower_items(s, sh, items, b);
+    Ok(())
+}
+
+// All checks of a transfer from table b, in the printed order.
+#[tactic(auto, unfolding(crate::specs::Judging::judged_batch), using(crate::specs::Code::items_length, crate::specs::Code::rule_some))]
+fn judge_batch(
+    s: &mut [u64],
+    sh: Shape,
+    items: TransferItems,
+    b: u64,
+    t: TransferRules,
+) -> Result<(), TransferFault>
+    ensures { tried (fault_of result) s.new ≡ judged_batch s.old sh b t.route (as_option t.forbidden_object) (as_option t.forbidden_kind) (items_left items.entry) }
+{
+    if let Err(rule) = check_batch(s, sh, b, items.count) {
+        return Err(TransferFault {
+            rule,
+            position: format::size::NO_ITEM,
+        });
+    }
+    judge_items(s, sh, items, b, t)
+}
+
+// Where a transfer's preparation would stop; none where it "would be accepted". No word of the state changes.
+#[tactic(auto, unfolding(crate::specs::Judging::judging_at, crate::specs::Judging::judging_r))]
+pub fn judge_transfer(
+    s: &mut [u64],
+    sh: Shape,
+    rq: &Record,
+) -> Result<Option<TransferFault>, Refusal>
+    ensures { Gives s.new (reply judged_list result) (λ os base. judging_at s.old os sh base rq.now.words.now rq.now.at) }
+{
+    let b = rq.field(FIELD_TABLE);
+    if sh.tables as u64 <= b {
+        return Err(Refusal::Misuse);
+    }
+    Ok(judge_batch(s, sh, read_items(rq), b, read_rules(rq)).err())
+}
+
+// The words that tell where a preparation stops.
+fn judged_words(judged: Option<TransferFault>) -> [u64; 3]
+    ensures { result ≡ judged_list judged }
+{
+    match judged {
+        Some(fault) => [
+            fault.rule.refusal().number(),
+            fault.position,
+            fault.rule.place(),
+        ],
+        None => [DONE, 0, 0],
+    }
+}
+
+// The request of a list at a place.
+pub fn serve_judge_transfer(s: &mut [u64], sh: Shape, rq: &Record, out: &mut [u64], base: usize)
+    ensures { both s.new out.new ≡ judging_at s.old out.old sh base rq.now.words.now rq.now.at }
+{
+    match judge_transfer(s, sh, rq) {
+        Ok(judged) => answer::say(out, base, &judged_words(judged)),
         Err(refusal) => answer::refuse(out, base, refusal),
     }
 }
