@@ -960,12 +960,12 @@ static void judged_items(void) {
         {"accepted, and no DUPLICATE is needed", GURTXOZAL_MOVE, alone, 66, 66, KIND, KIND, GURTXOZAL_DONE, 0},
         {"a value that names no slot", GURTXOZAL_MOVE, value(40, 1), 0, 0, KIND, KIND, GURTXOZAL_INVALID_HANDLE, GURTXOZAL_PLACE_LOOKUP},
         {"a value that is being moved", GURTXOZAL_COPY, held, 0, 0, KIND, KIND, GURTXOZAL_BUSY, GURTXOZAL_PLACE_LOOKUP},
-        {"a move without TRANSFER", GURTXOZAL_MOVE, keeps, 4, 6, 0, 0, GURTXOZAL_ACCESS_DENIED, GURTXOZAL_PLACE_NO_TRANSFER},
-        {"a copy without TRANSFER", GURTXOZAL_COPY, keeps, 0, 0, KIND, KIND, GURTXOZAL_ACCESS_DENIED, GURTXOZAL_PLACE_NO_TRANSFER},
-        {"a copy without DUPLICATE", GURTXOZAL_COPY, alone, 4, 6, 0, 0, GURTXOZAL_ACCESS_DENIED, GURTXOZAL_PLACE_NO_DUPLICATE},
-        {"offered beyond the source's", GURTXOZAL_MOVE, few, 4, RIGHTS, 0, 0, GURTXOZAL_ACCESS_DENIED, GURTXOZAL_PLACE_OFFERED_RIGHTS},
-        {"requested beyond the offered", GURTXOZAL_COPY, few, 2, 1, 0, 0, GURTXOZAL_ACCESS_DENIED, GURTXOZAL_PLACE_REQUESTED_RIGHTS},
-        {"every route bars object 3", GURTXOZAL_MOVE, never, 0, 0, 0, 0, GURTXOZAL_UNSUPPORTED_TRANSFER, GURTXOZAL_PLACE_ROUTE},
+        {"a move without TRANSFER", GURTXOZAL_MOVE, keeps, 4, 6, 0, 0, GURTXOZAL_ACCESS_DENIED, GURTXOZAL_PLACE_LACKS_TRANSFER},
+        {"a copy without TRANSFER", GURTXOZAL_COPY, keeps, 0, 0, KIND, KIND, GURTXOZAL_ACCESS_DENIED, GURTXOZAL_PLACE_LACKS_TRANSFER},
+        {"a copy without DUPLICATE", GURTXOZAL_COPY, alone, 4, 6, 0, 0, GURTXOZAL_ACCESS_DENIED, GURTXOZAL_PLACE_COPY_LACKS_DUPLICATE},
+        {"offered beyond the source's", GURTXOZAL_MOVE, few, 4, RIGHTS, 0, 0, GURTXOZAL_ACCESS_DENIED, GURTXOZAL_PLACE_OFFERED_BEYOND_SOURCE},
+        {"requested beyond the offered", GURTXOZAL_COPY, few, 2, 1, 0, 0, GURTXOZAL_ACCESS_DENIED, GURTXOZAL_PLACE_REQUESTED_BEYOND_OFFERED},
+        {"every route bars object 3", GURTXOZAL_MOVE, never, 0, 0, 0, 0, GURTXOZAL_UNSUPPORTED_TRANSFER, GURTXOZAL_PLACE_ROUTE_BARS_CLASS},
         {"another kind offered", GURTXOZAL_MOVE, few, 0, 0, KIND, KIND + 1, GURTXOZAL_WRONG_OBJECT_TYPE, GURTXOZAL_PLACE_OTHER_KIND},
         {"another kind expected", GURTXOZAL_COPY, few, 0, 0, KIND + 1, KIND, GURTXOZAL_WRONG_OBJECT_TYPE, GURTXOZAL_PLACE_OTHER_KIND},
     };
@@ -974,7 +974,7 @@ static void judged_items(void) {
             judged_five(five, items + i, position, GURTXOZAL_ROUTE_RENDEZVOUS);
         }
     }
-    const struct judged_item barred = {"Buffered bars object 2", GURTXOZAL_MOVE, shy, 0, 0, KIND + 2, KIND + 2, GURTXOZAL_UNSUPPORTED_TRANSFER, GURTXOZAL_PLACE_ROUTE};
+    const struct judged_item barred = {"Buffered bars object 2", GURTXOZAL_MOVE, shy, 0, 0, KIND + 2, KIND + 2, GURTXOZAL_UNSUPPORTED_TRANSFER, GURTXOZAL_PLACE_ROUTE_BARS_CLASS};
     for (uint64_t position = 0; position < 5; position += 2) {
         judged_five(five, &barred, position, GURTXOZAL_ROUTE_BUFFERED);
         if (position > 0) {
@@ -989,7 +989,7 @@ static void judged_items(void) {
                 transfer_item(at % 2 ? GURTXOZAL_COPY : GURTXOZAL_MOVE, at == position ? shy : five[at], 0);
             }
             judged("forbidden", forbidden == 1 ? GURTXOZAL_ACCESS_DENIED : GURTXOZAL_UNSUPPORTED_TRANSFER, position,
-                   forbidden == 0 ? GURTXOZAL_PLACE_FORBIDDEN_KIND : forbidden == 1 ? GURTXOZAL_PLACE_FORBIDDEN_OBJECT : GURTXOZAL_PLACE_ROUTE);
+                   forbidden == 0 ? GURTXOZAL_PLACE_FORBIDDEN_KIND : forbidden == 1 ? GURTXOZAL_PLACE_FORBIDDEN_OBJECT : GURTXOZAL_PLACE_ROUTE_BARS_CLASS);
         }
     }
     /* copies: those of object 2, of which nine handles may be; the copies before one of them count, and items at fault come first */
@@ -1021,7 +1021,7 @@ static void judged_items(void) {
     transfer_item(GURTXOZAL_COPY, other, 0);
     transfer_item(GURTXOZAL_COPY, shy, 0);
     transfer_item(GURTXOZAL_MOVE, five[0], 4);
-    judged("an item at fault behind copies at fault", GURTXOZAL_ACCESS_DENIED, 2, GURTXOZAL_PLACE_REQUESTED_RIGHTS);
+    judged("an item at fault behind copies at fault", GURTXOZAL_ACCESS_DENIED, 2, GURTXOZAL_PLACE_REQUESTED_BEYOND_OFFERED);
 }
 
 /* The places before any item is looked at, and what refuses the judging itself. */

@@ -1,6 +1,6 @@
 #!/usr/bin/env python3
 """Compares docs/formats.md with the constants of crates/format and with the definitions that the model reads requests by: fields with their bits and kinds,
-op numbers and names, must and may maps, the items' maps, the numbers of refusals, and the order of the model's table of requests. Of the enums of refusals and of kinds each variant must have
+op numbers and names, must and may maps, the items' maps, the numbers of refusals, the rules of a transfer with their numbers and places, and the order of the model's table of requests. Of the enums of refusals and of kinds each variant must have
 its line in the definition that gives its number, and no other. Then its tables of the state's words with the names
 of crates/layout: regions, each field's word, each word that stands for a case, sizes and limits. Then with the C headers. WRONG has slips of the page: each is made in memory and must be found."""
 import collections
@@ -10,12 +10,14 @@ import sys
 from pathlib import Path
 
 root = Path(__file__).resolve().parent.parent
-source = {name: (root / "crates/format/src" / f"{name}.rt").read_text() for name in ("maps", "op", "field", "size", "refusal")}
+source = {name: (root / "crates/format/src" / f"{name}.rt").read_text() for name in ("maps", "op", "field", "size", "refusal", "rule")}
 spec = (root / "crates/format/specs/Format.antt").read_text()
 fields = (root / "crates/format/specs/Fields.antt").read_text()
 ops = (root / "crates/format/specs/Ops.antt").read_text()
 kinds = (root / "crates/format/specs/Kinds.antt").read_text()
 numbers = (root / "crates/format/specs/Refusals.antt").read_text()
+rule_numbers = (root / "crates/format/specs/Rules.antt").read_text()
+transfer_checks = (root / "crates/model/specs/Transfer.antt").read_text()
 model = (root / "crates/model/specs/Words.antt").read_text()
 limits = {name: int(number) for name, number in re.findall(r"^(\w+) = (\d+)$", (root / "crates/model/specs/State.antt").read_text(), flags=re.M)}
 layout = root / "crates/layout"
@@ -23,6 +25,7 @@ header = (root / "c/gurtxozal.h").read_text()
 KINDS = {"number": 0, "handle value": 0, "64 rights": 0, "reservation id": 0, "32 bits": 1, "koid": 2}
 REFUSALS = "Done Allocation InvalidHandle Busy WrongObjectType AccessDenied UnsupportedRights UnsupportedFlags UnsupportedTransfer ObjectRetired ObjectAlreadyActive ActiveHandleLimit ReservationIdExhausted ReservationTooLarge OutstandingReservation TableFull TableRetired EmptyReservation Misuse Malformed AnswerShort StalePlan".split()
 # The numbers of a transfer's refusals in the order that document 01 prints, the rights rule four times and lookup once (document 02, 4)
+LOOKUPS = ("NoHandle", "HandleBusy")
 ORDER = [16, 17, 13, 1, 12, 2, 2, 5, 5, 5, 5, 8, 5, 8, 4, 9, 11]
 TABLES = {"region.rt": "RegionNames.antt", "field.rt": "Fields.antt", "value.rt": "Values.antt", "size.rt": "Sizes.antt"}
 # Where the page says the range of a word that stands for a case: the beginning of the cases' names
@@ -57,7 +60,7 @@ WRONG = [
     ("| 4 | `head_epoch`", "| 3 | `head_epoch`"),
     ("every op above 28", "every op above 27"),
     ("| 28 | judge transfer | op, table, count, route;", "| 28 | judge transfer | op, table, count;"),
-    ("| 9 | `no_duplicate`", "| 8 | `no_duplicate`"),
+    ("| 9 | `copy_lacks_duplicate`", "| 8 | `copy_lacks_duplicate`"),
     ("| 17 | `copy_at_limit`", "| 18 | `copy_at_limit`"),
     ("no DUPLICATE | 5 AccessDenied", "no DUPLICATE | 8 UnsupportedTransfer"),
     ("64 (`no_item`)", "65 (`no_item`)"),
@@ -351,6 +354,25 @@ class Compare:
         for place, name, *_ in places:
             same(f"the header's place {name}", in_c("PLACE_" + name.upper()), int(place))
         same("the header's position where no item is at fault", [str(in_c("NO_ITEM"))], self.find(r"(\d+) \(`no_item`\)"))
+        same("the code's position where no item is at fault", constant(source["size"], "NO_ITEM"), in_c("NO_ITEM"))
+        # the rules: the code's places and refusals, the definitions of both, and the lists of checks of the model, all in the page's order; a lookup is two rules in one place
+        of_page = {name: (int(place), [int(n) for n in numbers if n]) for place, name, *numbers in places}
+        rules = [(name, "lookup" if name in LOOKUPS else snake_of(upper(name))) for name, _ in cases_of(rule_numbers, "number_by")]
+        same("the rules of the definitions", sorted({name for _, name in rules}), sorted(of_page))
+        same("the rules of the code", [name for name, _ in variants(source["rule"], "Rule")], [name for name, _ in rules])
+        for which, got in (
+            ("the place of the rule {} in the definitions", {rule: int(n) for rule, n in cases_of(rule_numbers, "place")}),
+            ("the place of the rule {} in the code", {rule: int(n) for arm, n in re.findall(r"((?:Rule::\w+[\s|]*)+)=> (\d+),", source["rule"]) for rule in re.findall(r"Rule::(\w+)", arm)}),
+        ):
+            for rule, name in rules:
+                same(which.format(rule), got.get(rule), of_page.get(name, (None,))[0])
+        refused = {rule: REFUSALS.index(word) for arm, word in re.findall(r"((?:Rule::\w+[\s|]*)+)=> Refusal::(\w+),", source["rule"]) for rule in re.findall(r"Rule::(\w+)", arm)}
+        for rule, number in cases_of(rule_numbers, "number_by"):
+            same(f"the refusal of the rule {rule} in the code", refused.get(rule), int(number))
+        for name, (_, numbers) in of_page.items():
+            same(f"the numbers of {name}", [int(number) for (rule, number), (_, of) in zip(cases_of(rule_numbers, "number_by"), rules) if of == name], numbers)
+        checks = [(int(place), int(number)) for number, place in re.findall(r" or (\d+) at (\d+)$", transfer_checks, flags=re.M)]
+        same("the checks of the model", checks, [(place, number) for place, numbers in of_page.values() for number in numbers])
         for number, route in re.findall(r"(\d) ([A-Z]\w+)", self.find(r"^\| \d+ \| route \| ([^|]+) \|")[0]):
             same(f"the header's route {route}", in_c("ROUTE_" + upper(route)), int(number))
         for number, operation in re.findall(r"(\d) ([A-Z]\w+)", self.find(r"^\| transfer item \| operation \(([^)]+)\)")[0]):

@@ -35,6 +35,7 @@ TABLES = {
     "crates/format/src/field.rt": "fields of a record, and their kinds",
     "crates/format/src/op.rt": "ops",
     "crates/format/src/refusal.rt": "numbers of document 01",
+    "crates/format/src/rule.rt": "places of document 02, 4",
     "crates/format/src/maps.rt": "must and may maps",
     "crates/format/src/size.rt": "words of an answer, a scan's limits, largest words of kinds",
 }
@@ -94,6 +95,7 @@ EXCUSED = [
     ("structure/src/lib.rt", ["Sixteens = 16,", "Hundreds = 256,", "sh.frames 0 16 (div_ceil sh.frames 16)", "(0..sh.frames.div_ceil(16)).all", "(g as u32) * 16, 16)", "(16 * level_size", "for i in 0..16 {", "(16 * below.size())", "(g as u32) * 16)"], GROUPS),
     ("transfer/src/lib.rt", ["words::word(words, at + 2)", "words::word(words, at + 3)", "item.at + 4"], RECORD),
     ("transfer/src/lib.rt", ["(v.0 % 64)"], BITS),
+    ("transfer/src/lib.rt", ["fn judged_words(judged: Option<TransferFault>) -> [u64; 3]"], ANSWER),
     ("transfer/src/lib.rt", ["(self.0 >> (v.0 % WORD_BITS)) % 2"], HALF),
     ("wellformed/src/lib.rt", ["let _ = words::word(s, 0);"], "any word: what it holds is not used"),
 ]
@@ -687,7 +689,7 @@ WRONG = [
     ("crates/object/src/lib.rt", "stage: value::STAGE_ACTIVE,", "stage: 1,", "b", "1"),
     ("crates/head/src/lib.rt", "layout::put_head(s, sh, b, field::HEAD_LIFECYCLE, h.life);", "layout::put_head(s, sh, b, field::HEAD_LIFECYCLE, 1);", "b", "1"),
     ("crates/head/src/lib.rt", "life: value::LIFE_TEARING_DOWN,", "life: 1,", "b", "1"),
-    ("crates/request/src/lib.rt", "matches!(op, format::op::OP_PUBLISH | format::op::OP_PREPARE_TRANSFER)", "matches!(op, 8 | format::op::OP_PREPARE_TRANSFER)", "c", "8"),
+    ("crates/request/src/lib.rt", "format::op::OP_PUBLISH | format::op::OP_PREPARE_TRANSFER | format::op::OP_JUDGE_TRANSFER", "8 | format::op::OP_PREPARE_TRANSFER | format::op::OP_JUDGE_TRANSFER", "c", "8"),
     ("crates/serve/src/lib.rt", "op::OP_NEW_OBJECT => parcel::serve_new_object", "1 => parcel::serve_new_object", "c", "1"),
     ("crates/serve/src/lib.rt", "op::OP_TRIM => claim::serve_trim", "6 => claim::serve_trim", "c", "6"),
     ("crates/teardown/src/lib.rt", "*j % size::PAGE_SIZE, field::SLOT_TAG)", "*j % 64, field::SLOT_TAG)", "e", "64"),

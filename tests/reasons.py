@@ -26,7 +26,7 @@ TABLE = root / "tests" / "must-fail.txt"
 TRIED = root / "docs" / "wrong-programs.md"
 
 VALUE = r"(?:\d+|(?:[\w.]+\.)?(?:true|false))"
-TABLES = r"(?:specs|proofs)/(?:Cases|Effects|PlanCases|LookCases|WordCases|Examples|Exclusions)\.antt"
+TABLES = r"(?:specs|proofs)/(?:Cases|Effects|PlanCases|LookCases|JudgeCases|WordCases|Examples|Exclusions)\.antt"
 # the first pattern that the first error matches gives its class
 UNFIT = "unfit"
 CLASSES = [

@@ -148,7 +148,7 @@ SLIPS = {
 
 
 # the modules of computed cases, on which no theorem rests
-TABLES = {"model": ("Cases", "Effects", "PlanCases", "LookCases", "WordCases"), "noninterference": ("Examples", "Exclusions")}
+TABLES = {"model": ("Cases", "Effects", "PlanCases", "LookCases", "JudgeCases", "WordCases"), "noninterference": ("Examples", "Exclusions")}
 UNFIT = re.compile(r"not in scope|cannot be parsed|cannot be read|can be named from here|expected .* found|has no field|has no `|is no name|cannot continue")
 
 

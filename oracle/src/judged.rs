@@ -22,6 +22,8 @@ const LAST: &str = "last";
 const ONLY: &str = "the only item";
 const FAR: &str = "at position 32 or above";
 const BEHIND: &str = "behind a copy";
+const MIDDLE_BEHIND: &str = "in the middle behind a copy";
+const LAST_BEHIND: &str = "last behind a copy";
 const FAULT_BEHIND: &str = "with another at fault behind it";
 const AFTER_REFUSED_COPY: &str = "behind a copy that is at fault by itself";
 const BUSY: &str = "Busy";
@@ -141,7 +143,10 @@ impl Coming {
         }];
         let mut add = |holds: bool, sort: &'static str| sorts.extend(holds.then_some(sort));
         add(position >= 32, FAR);
-        add(self.copies_before(position).next().is_some(), BEHIND);
+        let behind_copy = self.copies_before(position).next().is_some();
+        add(behind_copy, BEHIND);
+        add(behind_copy && position + 1 < count, MIDDLE_BEHIND);
+        add(behind_copy && position + 1 == count, LAST_BEHIND);
         add(place < OF_COPIES && self.copies_before(position).any(|at| self.retired[at] || self.full(at)), AFTER_REFUSED_COPY);
         let value = items[position].get(VALUE);
         let behind = |at: usize| self.objects[at].is_none() || items[at].get(VALUE) == value;
@@ -201,11 +206,11 @@ fn sorts_of(place: u64) -> Vec<&'static str> {
         18 => vec![UNKNOWN, THEN_REFUSED],
         1..6 => vec![],
         // What is listed twice stands behind what it repeats.
-        6 => vec![MIDDLE, LAST, FAR, BEHIND, FAULT_BEHIND, AFTER_REFUSED_COPY],
-        7 => vec![FIRST, MIDDLE, LAST, ONLY, FAR, BEHIND, FAULT_BEHIND, AFTER_REFUSED_COPY, BUSY, INVALID],
-        16 => vec![FIRST, MIDDLE, LAST, ONLY, FAR, BEHIND, FAULT_BEHIND],
-        17 => vec![FIRST, MIDDLE, LAST, ONLY, FAR, BEHIND, FAULT_BEHIND, ALONE, BY_EARLIER],
-        _ => vec![FIRST, MIDDLE, LAST, ONLY, FAR, BEHIND, FAULT_BEHIND, AFTER_REFUSED_COPY],
+        6 => vec![MIDDLE, LAST, FAR, BEHIND, MIDDLE_BEHIND, LAST_BEHIND, FAULT_BEHIND, AFTER_REFUSED_COPY],
+        7 => vec![FIRST, MIDDLE, LAST, ONLY, FAR, BEHIND, MIDDLE_BEHIND, LAST_BEHIND, FAULT_BEHIND, AFTER_REFUSED_COPY, BUSY, INVALID],
+        16 => vec![FIRST, MIDDLE, LAST, ONLY, FAR, BEHIND, MIDDLE_BEHIND, LAST_BEHIND, FAULT_BEHIND],
+        17 => vec![FIRST, MIDDLE, LAST, ONLY, FAR, BEHIND, MIDDLE_BEHIND, LAST_BEHIND, FAULT_BEHIND, ALONE, BY_EARLIER],
+        _ => vec![FIRST, MIDDLE, LAST, ONLY, FAR, BEHIND, MIDDLE_BEHIND, LAST_BEHIND, FAULT_BEHIND, AFTER_REFUSED_COPY],
     }
 }
 

@@ -10,21 +10,21 @@ pub enum Rule {
     TableRetired,
     EmptyReservation,
     ReservationTooLarge,
-    NoFreeRow,
-    NoIdLeft,
+    NoRow,
+    NoId,
     ListedTwice,
     // "with lookup as one place": no handle, or one that is being moved.
     NoHandle,
     HandleBusy,
-    NoTransfer,
-    NoDuplicate,
+    LacksTransfer,
+    CopyLacksDuplicate,
     OfferedBeyondSource,
     RequestedBeyondOffered,
     ForbiddenKind,
     ForbiddenObject,
     RouteBarsClass,
-    KindDiffers,
-    CopyRetired,
+    OtherKind,
+    CopyOfRetired,
     CopyAtLimit,
 }
 
@@ -37,18 +37,18 @@ impl Rule {
             Rule::TableRetired => Refusal::TableRetired,
             Rule::EmptyReservation => Refusal::EmptyReservation,
             Rule::ReservationTooLarge => Refusal::ReservationTooLarge,
-            Rule::NoFreeRow => Refusal::Allocation,
-            Rule::NoIdLeft => Refusal::ReservationIdExhausted,
+            Rule::NoRow => Refusal::Allocation,
+            Rule::NoId => Refusal::ReservationIdExhausted,
             Rule::ListedTwice | Rule::NoHandle => Refusal::InvalidHandle,
             Rule::HandleBusy => Refusal::Busy,
-            Rule::NoTransfer
-            | Rule::NoDuplicate
+            Rule::LacksTransfer
+            | Rule::CopyLacksDuplicate
             | Rule::OfferedBeyondSource
             | Rule::RequestedBeyondOffered
             | Rule::ForbiddenObject => Refusal::AccessDenied,
             Rule::ForbiddenKind | Rule::RouteBarsClass => Refusal::UnsupportedTransfer,
-            Rule::KindDiffers => Refusal::WrongObjectType,
-            Rule::CopyRetired => Refusal::ObjectRetired,
+            Rule::OtherKind => Refusal::WrongObjectType,
+            Rule::CopyOfRetired => Refusal::ObjectRetired,
             Rule::CopyAtLimit => Refusal::ActiveHandleLimit,
         }
     }
@@ -61,19 +61,19 @@ impl Rule {
             Rule::TableRetired => 1,
             Rule::EmptyReservation => 2,
             Rule::ReservationTooLarge => 3,
-            Rule::NoFreeRow => 4,
-            Rule::NoIdLeft => 5,
+            Rule::NoRow => 4,
+            Rule::NoId => 5,
             Rule::ListedTwice => 6,
             Rule::NoHandle | Rule::HandleBusy => 7,
-            Rule::NoTransfer => 8,
-            Rule::NoDuplicate => 9,
+            Rule::LacksTransfer => 8,
+            Rule::CopyLacksDuplicate => 9,
             Rule::OfferedBeyondSource => 10,
             Rule::RequestedBeyondOffered => 11,
             Rule::ForbiddenKind => 12,
             Rule::ForbiddenObject => 13,
             Rule::RouteBarsClass => 14,
-            Rule::KindDiffers => 15,
-            Rule::CopyRetired => 16,
+            Rule::OtherKind => 15,
+            Rule::CopyOfRetired => 16,
             Rule::CopyAtLimit => 17,
         }
     }

@@ -57,6 +57,10 @@ view_result Invalid = Err InvalidHandle
 view_result Busy = Err IsBusy
 view_result (Holds h) = Ok h
 
+-- "18 Misuse: .. unknown table"; 0 for one that is known
+abbrev pub unknown_refusal : Shape → ℕ → ℕ
+unknown_refusal sh b = pick (ltb b sh.tables) 0 18
+
 -- "18 Misuse: .. unknown table"; "16 TableRetired: not active"; 0 for an active table
 unfoldable pub table_refusal : Mem → Shape → ℕ → ℕ
 table_refusal m sh b = pick (ltb b sh.tables) (pick (eqb (m (head b head_lifecycle)) life_active) 0 16) 18

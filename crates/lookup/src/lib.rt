@@ -13,7 +13,7 @@ ghost use Rattle.format.specs.Format.{answer_words};
 ghost use Rattle.request.specs.Answers.{puts};
 ghost use Rattle.format.specs.Refusals.{number_of};
 ghost use Rattle.answer.specs.Does.{both, answered, reply, Gives};
-ghost use Rattle.lookup.specs.View.{handle_by, handle_at, shown, view_of, view_result, table_refusal, opened, open_of};
+ghost use Rattle.lookup.specs.View.{handle_by, handle_at, shown, view_of, view_result, unknown_refusal, table_refusal, opened, open_of};
 ghost use Rattle.lookup.specs.Read.{info_at, info_list, resolved_list, resolved_r, resolve_r};
 ghost use Rattle.lookup.specs.Scan.{length_at, entry_by, entry_of, no_entry, FrameFor, ended_of, scan_of, entry_words, entry_list, page_list, scan_r};
 ghost use Rattle.format.specs.Fields.{table_field, value_field, rights_field, kind_field, cursor_field};
@@ -99,14 +99,22 @@ pub fn handle_at(s: &[u64], sh: Shape, b: u64, k: u64) -> PreparedHandle
     prepared(k, storage::slot_at(s, sh, b, k))
 }
 
-// "18 Misuse: .. unknown table"; "16 TableRetired: not active".
-#[tactic(auto, unfolding(crate::specs::View::table_refusal))]
-pub fn active_table(s: &[u64], sh: Shape, b: u64) -> Result<(), Refusal>
-    ensures { number_of result ≡ table_refusal (loadAt s.now sh) sh b }
+// "18 Misuse: .. unknown table".
+pub fn known_table(sh: Shape, b: u64) -> Result<(), Refusal>
+    ensures { number_of result ≡ unknown_refusal sh b }
 {
     if sh.tables as u64 <= b {
         return Err(Refusal::Misuse);
     }
+    Ok(())
+}
+
+// .. and "16 TableRetired: not active".
+#[tactic(auto, unfolding(crate::specs::View::table_refusal))]
+pub fn active_table(s: &[u64], sh: Shape, b: u64) -> Result<(), Refusal>
+    ensures { number_of result ≡ table_refusal (loadAt s.now sh) sh b }
+{
+    known_table(sh, b)?;
     if layout::head_word(s, sh, b, field::HEAD_LIFECYCLE) != value::LIFE_ACTIVE {
         return Err(Refusal::TableRetired);
     }

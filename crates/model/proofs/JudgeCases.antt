@@ -1,4 +1,4 @@
--- Document 02, 4, "Which check refused the transfer": a line for each place, at the first item, in the middle and last, and for each of its sentences that a run can show. The state is mostly that
+-- Document 02, 4, "Which check refused the transfer": lines for each place, for the order of the places, and for each of its sentences that a run can show. The state is mostly that
 -- of three handles of object 0 (koid 70, kind 3) in table 0: rights 15 in slot 63, 7 in 62, 3 in 61.
 use Rattle.std.specs.Prelude.{◌≡◌, refl, List, [], ◌∷◌, map, ℕ}
 use Rattle.std.proofs.Math.Option.{none, some}
@@ -85,9 +85,14 @@ judgings =
     ∷ last state (replace 0 v61 2 ∷ judge (item as_copy (at0 61 2) 8 ∷ []) ∷ []) is stops 5 0 9
     ∷ last state (replace 0 v61 2 ∷ judge (item as_move (at0 61 2) 8 ∷ []) ∷ []) is stops 5 0 11
     ∷ last state (judge (item as_move v63 0 ∷ offered 8 (item as_move v62 8) ∷ []) ∷ []) is stops 5 1 10
+    ∷ last state (judge (offered 8 (item as_move v62 16) ∷ []) ∷ []) is stops 5 0 10
     ∷ last state (judge (offered 1 (item as_move v62 2) ∷ []) ∷ []) is stops 5 0 11
     ∷ last state (judge (item as_copy v63 15 ∷ item as_copy v62 8 ∷ []) ∷ []) is stops 5 1 11
-    -- 12 to 14: a kind or an object that is barred, a class that the route bars; each before the next
+    -- 12 to 14: a kind or an object that is barred, a class that the route bars; each before the next, and behind the rights
+    ∷ last state (judge_transfer 0 buffered (some 70) (some 3) (item as_move v62 8 ∷ []) ∷ []) is stops 5 0 11
+    ∷ last classes (judge_transfer 0 buffered (some 73) (some 6) (item as_move v63 0 ∷ []) ∷ []) is stops 8 0 12
+    ∷ last classes (judge_transfer 0 buffered (some 73) none (item as_move v63 0 ∷ []) ∷ []) is stops 5 0 13
+    ∷ last state (judge_transfer 0 buffered (some 70) none (item as_copy v61 0 ∷ item as_move v63 0 ∷ []) ∷ []) is stops 5 0 13
     ∷ last state (judge_transfer 0 buffered (some 70) (some 3) (of_kinds (some 9) none (item as_move v63 0) ∷ []) ∷ []) is stops 8 0 12
     ∷ last state (judge_transfer 0 buffered (some 70) (some 9) (of_kinds (some 9) none (item as_move v63 0) ∷ []) ∷ []) is stops 5 0 13
     ∷ last classes (judge_transfer 0 buffered none (some 3) (of_kinds (some 9) none (item as_move v63 0) ∷ []) ∷ []) is stops 8 0 14
@@ -100,8 +105,11 @@ judgings =
     ∷ last state (retire_object 0 ∷ judge (item as_copy v62 0 ∷ item as_move 0 0 ∷ []) ∷ []) is stops 2 1 7
     ∷ last state (retire_object 0 ∷ judge (item as_move v63 0 ∷ item as_move v61 0 ∷ []) ∷ []) is passes
     ∷ last limited (judge (item as_copy v62 0 ∷ item as_copy v63 0 ∷ []) ∷ []) is stops 11 1 17
-    -- .. with the counts that earlier copies of the same transfer raised; "the position .. of the item", not among the copies
+    ∷ last limited (retire_object 1 ∷ judge (item as_copy v62 0 ∷ item as_copy v63 0 ∷ []) ∷ []) is stops 9 1 16
+    ∷ last limited (judge (item as_copy v63 0 ∷ item as_move v62 0 ∷ []) ∷ []) is stops 11 0 17
+    -- a value that is copied twice is listed twice, before any copy is looked at
     ∷ last few (judge (item as_copy v63 0 ∷ item as_move v62 0 ∷ item as_copy v63 0 ∷ []) ∷ []) is stops 2 2 6
+    -- .. with the counts that earlier copies of the same transfer raised; "the position .. of the item", not among the copies
     ∷ last few (judge (item as_copy v63 0 ∷ item as_move v61 0 ∷ item as_copy v62 0 ∷ []) ∷ []) is stops 11 2 17
     ∷ last few (judge (item as_move v63 0 ∷ item as_move v61 0 ∷ item as_copy v62 0 ∷ []) ∷ []) is passes
     -- the first item at fault is told, and no later one
@@ -117,7 +125,7 @@ judgings =
     ∷ count_of (end few (judge (item as_copy v63 0 ∷ item as_copy v62 0 ∷ []) ∷ judge (item as_copy v61 0 ∷ []) ∷ [])) 0 is (3 ∷ [])
     ∷ orders (end state (judge (item as_move v63 8 ∷ item as_copy v62 1 ∷ []) ∷ [])) is orders state
     ∷ numbers state (judge (item as_move v63 8 ∷ []) ∷ get_info 0 v63 ∷ transfer (item as_move v63 8 ∷ []) ∷ rollback 6 ∷ []) is (0 ∷ 0 ∷ 0 ∷ 0 ∷ [])
-    -- two judgings in a row
+    -- the second of two judgings in a row
     ∷ last few (judge (item as_copy v61 0 ∷ item as_copy v62 0 ∷ []) ∷ judge (item as_copy v61 0 ∷ item as_copy v62 0 ∷ []) ∷ []) is stops 11 1 17
     ∷ []
 

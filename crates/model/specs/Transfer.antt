@@ -128,7 +128,7 @@ entry_by as_copy k h r = copied (with_rights h r)
 abbrev pub entry_for : Table → Item → Entry
 entry_for t q = entry_by q.operation (slot_in t.mask q.value) (handle_or (t.slots (slot_in t.mask q.value))) q.rights
 
--- all of them, in the printed order
+-- THE FIRST CHECK of a transfer that does not hold, in the printed order
 abbrev pub transfer_fault : State → Table → Route → Option ℕ → Option ℕ → List Item → Option Fault
 transfer_fault s t route banned_object banned_kind qs =
     first_of (first_fault no_item (batch_checks s t (length qs)))

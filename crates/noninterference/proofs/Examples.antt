@@ -1,10 +1,11 @@
--- Three worked pairs of runs: the checker computes both runs of each, in both endings, and compares every answer and every field in use.
+-- Worked pairs of runs: the checker computes both runs of each, in both endings, and compares every answer and every field in use.
 use Rattle.std.specs.Prelude.{◌≡◌, refl, true, false, List, [], ◌∷◌, ◌++◌, map, ℕ}
 use Rattle.std.proofs.Math.Option.{none, some}
 use Rattle.model.specs.Base.{every}
 use Rattle.model.specs.State.{State}
 use Rattle.model.specs.Request.{Route.buffered, Route.rendezvous, Operation.as_move, Operation.as_copy, Item, Answer.opened}
 use Rattle.model.specs.Request.{Request, Request.new_object, Request.duplicate, Request.release_parcel, Request.retire_object, Request.reserve, Request.trim, Request.abort, Request.publish, Request.get_info, Request.resolve, Request.replace, Request.close, Request.scan_handles, Request.prepare_transfer, Request.prepare_consumption, Request.rollback, Request.commit, Request.direct_commit, Request.direct_rollback, Request.remove_stopping_owner, Request.teardown_start, Request.teardown_step, Request.teardown_finish, Request.take_empty_page, Request.make_plan, Request.use_plan, Request.drop_plan, Request.judge_transfer}
+use Rattle.model.specs.Words.{used_words}
 use Rattle.model.proofs.Cases.{item}
 use Rattle.model.proofs.Tests.{same_list_equal}
 use Rattle.noninterference.specs.Names.{value_of}
@@ -204,8 +205,8 @@ fourth = record {
   after_commit = same_list_equal _ _ refl;
 }
 
--- The fifth pair, document 02, 4: transfers are judged between other requests. The first would be accepted and is prepared; the second has a handle that is another's by then; the others stop at a
--- table that is torn down, at no items, at a handle that the list has closed, and at a copy of a retired object
+-- The fifth pair, document 02, 4: transfers are judged between other requests. The first would be accepted, and is prepared; two list a value twice; one copies a handle of an object that the list
+-- has retired; one has no items; one names a value that the list has closed; one is of a table that is not there, and one of a table that is torn down
 
 abbrev list₅ : List Request
 list₅ =
@@ -238,3 +239,10 @@ fifth = record {
   after_rollback = same_list_equal _ _ refl;
   after_commit = same_list_equal _ _ refl;
 }
+
+-- what the held run says of them
+told₅ : map used_words (ran (ran shop (prepare_transfer 0 rendezvous none none items₁ ∷ [])).0 list₅).1
+    ≡ (0 ∷ 0 ∷ 0 ∷ 0 ∷ []) ∷ (0 ∷ 8 ∷ []) ∷ (0 ∷ 2 ∷ 1 ∷ 6 ∷ []) ∷ (0 ∷ []) ∷ (0 ∷ 2 ∷ 1 ∷ 6 ∷ []) ∷ (0 ∷ []) ∷ (0 ∷ 9 ∷ 0 ∷ 16 ∷ []) ∷ (0 ∷ 17 ∷ 64 ∷ 2 ∷ [])
+    ∷ (0 ∷ 101 ∷ 2 ∷ 3 ∷ 1 ∷ []) ∷ (0 ∷ 2 ∷ 0 ∷ 7 ∷ []) ∷ (18 ∷ []) ∷ (0 ∷ []) ∷ (0 ∷ 16 ∷ 64 ∷ 1 ∷ []) ∷ []
+unfolding ran
+told₅ = refl

@@ -220,7 +220,7 @@ pub fn is_retired(s: &[u64], sh: Shape, o: u64) -> bool
 
 // Whether object o has as many handles as it may.
 #[tactic(auto, unfolding(crate::specs::Words::record_at))]
-pub fn is_full(s: &[u64], sh: Shape, o: u64) -> bool
+pub fn limit_reached(s: &[u64], sh: Shape, o: u64) -> bool
     ensures { result ≡ eqb (record_at (loadAt s.now sh) o).count (record_at (loadAt s.now sh) o).limit }
 {
     layout::object_word(s, sh, o, field::OBJECT_ACTIVE)
@@ -235,7 +235,7 @@ pub fn may_raise(s: &[u64], sh: Shape, o: u64) -> Result<(), Refusal>
     if is_retired(s, sh, o) {
         return Err(Refusal::ObjectRetired);
     }
-    if is_full(s, sh, o) {
+    if limit_reached(s, sh, o) {
         return Err(Refusal::ActiveHandleLimit);
     }
     Ok(())

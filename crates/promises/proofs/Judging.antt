@@ -1,14 +1,15 @@
 -- Document 02, 4: what judging a transfer answers. Assumes nothing.
-use Rattle.std.specs.Prelude.{◌≡◌, true, length, ltb}
+use Rattle.std.specs.Prelude.{◌≡◌, true, length, drop, ltb}
 use Rattle.std.proofs.Math.Path.{refl, ap}
-use Rattle.std.proofs.Common.{sym, ◌∙◌, arith}
+use Rattle.std.proofs.Common.{sym, ◌∙◌, arith, append-nil}
+use Rattle.format.specs.Format.{answer_words}
 use Rattle.std.proofs.lemmas.List.{length-map}
 use mathlib.Core.List.{List, [], ◌∷◌, ◌++◌, map}
 use Prim.Native.Nat.{ℕ, suc, ◌+◌, ◌≤◌, ◌<◌}
 use Rattle.std.proofs.Math.Option.{Option, none, some}
 use borrow.Author.Tests.{lt-ltb, le-ltb, ltb-true, ltb-false}
 use Rattle.model.specs.Base.{pick, every}
-use Rattle.model.specs.State.{Sizes, Slot.transfer_reserved, Table, Object, Entry, Entry.moved, Entry.copied, Body.claim, State}
+use Rattle.model.specs.State.{Sizes, till, Slot.transfer_reserved, Table, Object, Entry, Entry.moved, Entry.copied, Body.claim, State}
 use Rattle.model.specs.Request.{Route, Item, Fault, Request, Request.prepare_transfer, Request.judge_transfer, Answer, Answer.refused, Answer.opened, Answer.judged}
 use Rattle.model.specs.Storage.{keep_all}
 use Rattle.model.specs.Change.{with_table, with_objects}
@@ -18,9 +19,15 @@ use Rattle.model.specs.Lookup.{lookup}
 use Rattle.model.specs.Decision.{Decision, Decision.accept, refuse_after_id◌then◌, table◌of◌refuse◌then◌}
 use Rattle.model.specs.Transfer.{Check, all◌then◌, first_fault, no_item, batch_checks, item_checks, copy_checks, first_of, items_fault, copies_fault, transfer_fault, entry_for}
 use Rattle.model.specs.Step.{prepare_transfer_of, judge_transfer_of, decide, carry, step}
+use Rattle.model.specs.Words.{read_list, used_words, judged_words, padded, words_of}
 use Rattle.model.proofs.Tests.{apart, bool}
 use Rattle.noninterference.specs.Runs.{accepted}
-use Rattle.promises.specs.Judging.{Placed, placed_in, all_of_items, all_of_copies, all_checks, passes, FirstOf, Judges}
+use Rattle.layout.specs.declared.Shape.{Shape}
+use Rattle.representation.specs.Represents.{Rep}
+use Rattle.contract.specs.Meets.{Called, Meets}
+use Rattle.promises.proofs.Demand1.{demand_1}
+use Rattle.promises.proofs.Demand2.{demand_2}
+use Rattle.promises.specs.Judging.{Placed, placed_in, all_of_items, all_of_copies, all_checks, passes, FirstOf, Judges, JudgedCall}
 
 -- ---- the first of a list of checks
 
@@ -77,6 +84,7 @@ none_fails (c ∷ cs) e = bool c.check.holds
 
 -- what a fault may be among n items
 record InRange (n number place position : ℕ) : Type 0 where
+  some : 1 ≤ number
   known : number ≤ 17
   low : 1 ≤ place
   high : place ≤ 17
@@ -101,11 +109,11 @@ in_first n (c ∷ cs) f p e = bool c.check.holds
     let q : g ≡ f = cc in rw (← q) p.0)
 
 -- a place of a batch, and one of an item in position j
-of_batch : (n m p : ℕ) → m ≤ 17 → 1 ≤ p → p ≤ 5 → InRange n m p 64
-of_batch n m p k l h = record { known = k; low = l; high = omega arith; before = λ e. refl; item = λ e. absurd (omega arith) }
+of_batch : (n m p : ℕ) → 1 ≤ m → m ≤ 17 → 1 ≤ p → p ≤ 5 → InRange n m p 64
+of_batch n m p i k l h = record { some = i; known = k; low = l; high = omega arith; before = λ e. refl; item = λ e. absurd (omega arith) }
 
-of_item : (n j m p : ℕ) → j < n → m ≤ 17 → 6 ≤ p → p ≤ 17 → InRange n m p j
-of_item n j m p i k l h = record { known = k; low = omega arith; high = h; before = λ e. absurd (omega arith); item = λ e. i }
+of_item : (n j m p : ℕ) → j < n → 1 ≤ m → m ≤ 17 → 6 ≤ p → p ≤ 17 → InRange n m p j
+of_item n j m p i f k l h = record { some = f; known = k; low = omega arith; high = h; before = λ e. absurd (omega arith); item = λ e. i }
 
 module _ (z : Sizes) (s : State) (t : Table) (route : Route) (o k : Option ℕ) where
   items_placed : (earlier : List ℕ) (j : ℕ) (qs : List Item) → fault_in (all_of_items s t route o k earlier j qs) ≡ items_fault s t route o k earlier j qs
@@ -121,9 +129,9 @@ module _ (z : Sizes) (s : State) (t : Table) (route : Route) (o k : Option ℕ) 
   items_in n earlier j (q ∷ qs) l =
       let m : j < n = omega arith in
       in_then n (placed_in j (item_checks s route o k earlier q (lookup t q.value))) (all_of_items s t route o k (q.value ∷ earlier) (suc j) qs)
-      (of_item n j 2 6 m (omega arith) (omega arith) (omega arith), (of_item n j 2 7 m (omega arith) (omega arith) (omega arith), (of_item n j 3 7 m (omega arith) (omega arith) (omega arith), (of_item n j 5 8 m (omega arith) (omega arith) (omega arith),
-      (of_item n j 5 9 m (omega arith) (omega arith) (omega arith), (of_item n j 5 10 m (omega arith) (omega arith) (omega arith), (of_item n j 5 11 m (omega arith) (omega arith) (omega arith), (of_item n j 8 12 m (omega arith) (omega arith) (omega arith),
-      (of_item n j 5 13 m (omega arith) (omega arith) (omega arith), (of_item n j 8 14 m (omega arith) (omega arith) (omega arith), (of_item n j 4 15 m (omega arith) (omega arith) (omega arith), tt)))))))))))
+      (of_item n j 2 6 m (omega arith) (omega arith) (omega arith) (omega arith), (of_item n j 2 7 m (omega arith) (omega arith) (omega arith) (omega arith), (of_item n j 3 7 m (omega arith) (omega arith) (omega arith) (omega arith), (of_item n j 5 8 m (omega arith) (omega arith) (omega arith) (omega arith),
+      (of_item n j 5 9 m (omega arith) (omega arith) (omega arith) (omega arith), (of_item n j 5 10 m (omega arith) (omega arith) (omega arith) (omega arith), (of_item n j 5 11 m (omega arith) (omega arith) (omega arith) (omega arith), (of_item n j 8 12 m (omega arith) (omega arith) (omega arith) (omega arith),
+      (of_item n j 5 13 m (omega arith) (omega arith) (omega arith) (omega arith), (of_item n j 8 14 m (omega arith) (omega arith) (omega arith) (omega arith), (of_item n j 4 15 m (omega arith) (omega arith) (omega arith) (omega arith), tt)))))))))))
       (items_in n (q.value ∷ earlier) (suc j) qs (omega arith))
 
   copies_placed : (os : ℕ → Object) (j : ℕ) (es : List Entry) → fault_in (all_of_copies os j es) ≡ copies_fault os j es
@@ -140,7 +148,7 @@ module _ (z : Sizes) (s : State) (t : Table) (route : Route) (o k : Option ℕ) 
   copies_in n os j (copied h ∷ es) l =
       let m : j < n = omega arith in
       in_then n (placed_in j (copy_checks (os h.object))) (all_of_copies (change raise os h.object) (suc j) es)
-      (of_item n j 9 16 m (omega arith) (omega arith) (omega arith), (of_item n j 11 17 m (omega arith) (omega arith) (omega arith), tt)) (copies_in n (change raise os h.object) (suc j) es (omega arith))
+      (of_item n j 9 16 m (omega arith) (omega arith) (omega arith) (omega arith), (of_item n j 11 17 m (omega arith) (omega arith) (omega arith) (omega arith), tt)) (copies_in n (change raise os h.object) (suc j) es (omega arith))
 
   -- THE FIRST OF ALL CHECKS is the fault
   whole_placed : (qs : List Item) → fault_in (all_checks s t route o k qs) ≡ transfer_fault s t route o k qs
@@ -155,7 +163,7 @@ module _ (z : Sizes) (s : State) (t : Table) (route : Route) (o k : Option ℕ) 
   whole_in qs =
       let n : ℕ = length qs in
       in_then (length qs) (placed_in no_item (batch_checks s t (length qs))) (all_of_items s t route o k [] 0 qs ++ all_of_copies s.objects 0 (map (entry_for t) qs))
-      (of_batch (length qs) 16 1 (omega arith) (omega arith) (omega arith), (of_batch (length qs) 17 2 (omega arith) (omega arith) (omega arith), (of_batch (length qs) 13 3 (omega arith) (omega arith) (omega arith), (of_batch (length qs) 1 4 (omega arith) (omega arith) (omega arith), (of_batch (length qs) 12 5 (omega arith) (omega arith) (omega arith), tt)))))
+      (of_batch (length qs) 16 1 (omega arith) (omega arith) (omega arith) (omega arith), (of_batch (length qs) 17 2 (omega arith) (omega arith) (omega arith) (omega arith), (of_batch (length qs) 13 3 (omega arith) (omega arith) (omega arith) (omega arith), (of_batch (length qs) 1 4 (omega arith) (omega arith) (omega arith) (omega arith), (of_batch (length qs) 12 5 (omega arith) (omega arith) (omega arith) (omega arith), tt)))))
       (in_then (length qs) (all_of_items s t route o k [] 0 qs) (all_of_copies s.objects 0 (map (entry_for t) qs)) (items_in (length qs) [] 0 qs (omega arith))
       (copies_in (length qs) s.objects 0 (map (entry_for t) qs) (omega (arith, length-map qs (entry_for t)))))
 
@@ -276,5 +284,22 @@ module _ (z : Sizes) (s : State) (b : ℕ) (route : Route) (o k : Option ℕ) (q
     all_pass = λ e. none_fails (all_checks s (s.tables b) route o k qs) (whole_placed z s (s.tables b) route o k qs ∙ (there_of none e).1);
     refused_as = λ f e. let x = there_of (some f) e in prepare_refuses x.0 f x.1;
     stops_at = λ f e. first_is (all_checks s (s.tables b) route o k qs) f (whole_placed z s (s.tables b) route o k qs ∙ (there_of (some f) e).1);
-    ranges = λ f e. let r = range_of f (there_of (some f) e).1 in (r.low, r.high, r.before, r.item);
+    ranges = λ f e. let r = range_of f (there_of (some f) e).1 in (r.some, r.known, r.low, r.high, r.before, r.item);
   }
+
+-- ---- a call
+
+-- A CALL whose list is one judging says so in its words, and changes no word of the state
+pub judging_call : (ws list os : List ℕ) (x : Called) → Meets ws list os x → (sh : Shape) (s : State) → Rep ws sh s
+    → (b : ℕ) (route : Route) (o k : Option ℕ) (qs : List Item) → read_list list ≡ some (judge_transfer b route o k qs ∷ []) → answer_words ≤ length os → b < s.table_count
+    → JudgedCall ws os (transfer_fault s (s.tables b) route o k qs) x
+unfolding used_words words_of
+judging_call ws list os x m sh s r b route o k qs e h l =
+    let j : Request = judge_transfer b route o k qs in
+    let d = demand_2 ws list os x m sh s r (j ∷ []) e (omega (arith, h)) in
+    let each = (demand_1 ws list os x m).refused sh s r (j ∷ []) e (omega (arith, h)) in
+    record {
+      result = d.result;
+      answer = d.answers ∙ rw (judge_there till s b route o k qs l) (ap (λ (w : List ℕ). w ++ drop answer_words os) (append-nil (padded answer_words (0 ∷ judged_words (transfer_fault s (s.tables b) route o k qs)))));
+      state = each.3 ∙ each.2.judging refl;
+    }

@@ -8,6 +8,7 @@ pub mod Applied
 pub mod PlansApplied
 pub mod LooksApplied
 pub mod StraightApplied
+pub mod JudgingApplied
 pub mod BatchesLemmas
 pub mod TransfersLemmas
 pub mod Ids

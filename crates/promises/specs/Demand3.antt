@@ -57,7 +57,7 @@ pub record TwoRuns : Type 0 where
   -- "The list names neither those values in that table nor that transfer's id, and neither scans, starts tearing down nor removes for a stopping owner there"; document 02, 2: "the list may
   -- now hold `get_info` on moved values"
   pub permits : every (permitted t table (map value_of items)) requests ≡ true
-  -- "H refuses nothing for want of a row or an id"
+  -- "H refuses nothing for want of a row or an id"; document 02, 4: judging "may stand in the held and plain runs' list where the held run has a free row and an id left"
   pub wants : wanting till (step till s (prepare_transfer table route banned_object banned_kind items)).0 requests ≡ false
 
 pub record Same (x : TwoRuns) : Type 0 where

@@ -67,9 +67,9 @@ pub record Judges (z : Sizes) (s : State) (b : ℕ) (route : Route) (o k : Optio
   -- "Its refusal must be the one that preparation would give in the same state"
   pub refused_as : (f : Fault) → (step z s (judge_transfer b route o k qs)).1 ≡ judged (some f) → (step z s (prepare_transfer b route o k qs)).1 ≡ refused f.number
   pub stops_at : (f : Fault) → (step z s (judge_transfer b route o k qs)).1 ≡ judged (some f) → FirstOf (all_checks s (s.tables b) route o k qs) f
-  -- "Places run from 1, TableRetired, to 17, a copy at the limit"; a position is that of one of the items, or 64 for the five places before them
+  -- "Places run from 1, TableRetired, to 17, a copy at the limit"; a position is that of one of the items, or 64 for the five places before them; the number is not 0, which says "would be accepted"
   pub ranges : (f : Fault) → (step z s (judge_transfer b route o k qs)).1 ≡ judged (some f)
-      → (1 ≤ f.place) × (f.place ≤ 17) × (f.place ≤ 5 → f.position ≡ 64) × (6 ≤ f.place → f.position < length qs)
+      → (1 ≤ f.number) × (f.number ≤ 17) × (1 ≤ f.place) × (f.place ≤ 17) × (f.place ≤ 5 → f.position ≡ 64) × (6 ≤ f.place → f.position < length qs)
 
 -- a call on words that represent s, whose list is one judging of a table that s has: where the preparation would stop, f, and "no word of the state changes"
 pub record JudgedCall (ws os : List ℕ) (f : Option Fault) (x : Called) : Type 0 where

@@ -1,7 +1,7 @@
 -- What is shown op by op. Assumes nothing.
 use Rattle.std.specs.Prelude.{ℕ, zero, suc, ◌≤◌}
 use Rattle.std.proofs.Common.{arith}
-use Rattle.format.specs.Ops.{op_new_object, op_duplicate, op_release_parcel, op_retire_object, op_reserve, op_trim, op_abort, op_publish, op_get_info, op_resolve, op_replace, op_close, op_scan_handles, op_prepare_transfer, op_prepare_consumption, op_rollback, op_commit, op_direct_commit, op_direct_rollback, op_remove_stopping_owner, op_teardown_start, op_teardown_step, op_teardown_finish, op_take_empty_page, op_make_plan, op_use_plan, op_drop_plan, op_last}
+use Rattle.format.specs.Ops.{op_new_object, op_duplicate, op_release_parcel, op_retire_object, op_reserve, op_trim, op_abort, op_publish, op_get_info, op_resolve, op_replace, op_close, op_scan_handles, op_prepare_transfer, op_prepare_consumption, op_rollback, op_commit, op_direct_commit, op_direct_rollback, op_remove_stopping_owner, op_teardown_start, op_teardown_step, op_teardown_finish, op_take_empty_page, op_make_plan, op_use_plan, op_drop_plan, op_judge_transfer, op_last}
 
 -- what holds for each op holds for every known one
 pub known : (P : ℕ → Type 0) → P op_new_object → P op_duplicate → P op_release_parcel → P op_retire_object → P op_reserve → P op_trim → P op_abort → P op_publish → P op_get_info → P op_resolve → P op_replace → P op_close → P op_scan_handles → P op_prepare_transfer → P op_prepare_consumption → P op_rollback → P op_commit → P op_direct_commit → P op_direct_rollback → P op_remove_stopping_owner → P op_teardown_start → P op_teardown_step → P op_teardown_finish → P op_take_empty_page → P op_make_plan → P op_use_plan → P op_drop_plan → P op_judge_transfer

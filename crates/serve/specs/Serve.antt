@@ -15,7 +15,8 @@ use Rattle.close.specs.Replace.{replace_r}
 use Rattle.close.specs.Close.{close_r}
 use Rattle.lookup.specs.Scan.{scan_r}
 use Rattle.transfer.specs.Ops.{consumption_r}
-use Rattle.transfer.specs.Preparing.{transfer_at, judging_at}
+use Rattle.transfer.specs.Preparing.{transfer_at}
+use Rattle.transfer.specs.Judging.{judging_at}
 use Rattle.claim.specs.EndsOps.{trim_r, abort_r}
 use Rattle.claim.specs.Ops.{rollback_r, commit_r, direct_commit_r, direct_rollback_r}
 use Rattle.teardown.specs.Ops.{stopping_r, teardown_start_r, teardown_step_r, teardown_finish_r}

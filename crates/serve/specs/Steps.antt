@@ -1,9 +1,9 @@
 -- Each request does what the model's step does. Assumes nothing.
-use Rattle.std.specs.Prelude.{refl, List, ℕ, ◌≤◌}
-use Rattle.std.proofs.Common.{arith}
+use Rattle.std.specs.Prelude.{◌≡◌, refl, List, ℕ, ◌≤◌}
+use Rattle.std.proofs.Common.{sym, ◌∙◌, arith}
 use Rattle.model.specs.State.{till, State}
 use Rattle.format.specs.Fields.{table_field, object_field, count_field, value_field, rights_field, flags_field, id_field, destination_field, kind_field, koid_field, cursor_field}
-use Rattle.format.specs.Ops.{op_last}
+use Rattle.format.specs.Ops.{op_judge_transfer, op_last}
 use Rattle.layout.specs.declared.Shape.{Shape}
 use Rattle.representation.specs.Represents.{Rep}
 use Rattle.request.specs.Place.{field_of, op_at, count_at, end_at, request_of, request_at}
@@ -32,6 +32,7 @@ use Rattle.claim.proofs.Committed.{commit_does}
 use Rattle.claim.proofs.Direct.{direct_commit_does, direct_rollback_does}
 use Rattle.teardown.specs.Teardown.{remove_stopping_owner_does, teardown_start_does, teardown_step_does, teardown_finish_does}
 use Rattle.contract.specs.Run.{Steps}
+use Rattle.contract.proofs.Ops.{op_made}
 use Rattle.contract.proofs.Short.{step_short}
 use Rattle.serve.specs.Serve.{serve_r, one_r}
 use Rattle.serve.specs.Known.{known}

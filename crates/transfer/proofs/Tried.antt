@@ -97,7 +97,8 @@ module _ (ws : List ℕ) (sh : Shape) (s : State) (i : Rep ws sh s) (b : ℕ) wh
     unfolding batch_stop
     batch_is =
         let d = life_tells (load ws sh (head b head_lifecycle)) (load ws sh (head b head_cursor)) (s.tables b).life (r.tables b l).life in
-        rw (d, left_is ws sh s i, r.book.next, by_id s.book.next)
+        rw (d, left_is ws sh s i, r.book.next)
+        (ap (λ (x : Stop). pick (is_active (s.tables b).life) (pick (eqb n 0) (stop 17 2) (pick (ltb batch_max n) (stop 13 3) (pick (free_row s) x (stop 1 4)))) (stop 16 1)) (by_id s.book.next))
 
     -- THE CHECKS OF A BATCH are the model's
     pub batch_tells : (j : ℕ) → StopTells j (first_fault j (batch_checks s (s.tables b) n)) (batch_stop (load ws sh) sh b n)

@@ -10,7 +10,7 @@ use Rattle.words.specs.Pick.{pick, bool}
 use Rattle.model.specs.Base.{member}
 use Rattle.model.specs.Request.{Item}
 use Rattle.format.specs.declared.rule.Rule.{Rule}
-use Rattle.format.specs.declared.rule.Rule.TheVariants.{TableRetired, EmptyReservation, ReservationTooLarge, NoFreeRow, NoIdLeft, ListedTwice, NoHandle, HandleBusy, NoTransfer, NoDuplicate, OfferedBeyondSource, RequestedBeyondOffered, ForbiddenKind, ForbiddenObject, RouteBarsClass, KindDiffers, CopyRetired, CopyAtLimit}
+use Rattle.format.specs.declared.rule.Rule.TheVariants.{TableRetired, EmptyReservation, ReservationTooLarge, NoRow, NoId, ListedTwice, NoHandle, HandleBusy, LacksTransfer, CopyLacksDuplicate, OfferedBeyondSource, RequestedBeyondOffered, ForbiddenKind, ForbiddenObject, RouteBarsClass, OtherKind, CopyOfRetired, CopyAtLimit}
 use Rattle.format.specs.Rules.{number_by}
 use Rattle.layout.specs.declared.Shape.{Shape}
 use Rattle.layout.specs.Layout.{object, place, place_out, in_no, load, save}
@@ -83,20 +83,20 @@ pub rule_some : (r : Rule) → eqb (number_by r) 0 ≡ false
 rule_some TableRetired = refl
 rule_some EmptyReservation = refl
 rule_some ReservationTooLarge = refl
-rule_some NoFreeRow = refl
-rule_some NoIdLeft = refl
+rule_some NoRow = refl
+rule_some NoId = refl
 rule_some ListedTwice = refl
 rule_some NoHandle = refl
 rule_some HandleBusy = refl
-rule_some NoTransfer = refl
-rule_some NoDuplicate = refl
+rule_some LacksTransfer = refl
+rule_some CopyLacksDuplicate = refl
 rule_some OfferedBeyondSource = refl
 rule_some RequestedBeyondOffered = refl
 rule_some ForbiddenKind = refl
 rule_some ForbiddenObject = refl
 rule_some RouteBarsClass = refl
-rule_some KindDiffers = refl
-rule_some CopyRetired = refl
+rule_some OtherKind = refl
+rule_some CopyOfRetired = refl
 rule_some CopyAtLimit = refl
 
 -- `listed`: whether the value of an item is among those of the first n

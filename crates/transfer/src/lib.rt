@@ -21,7 +21,7 @@ ghost use Rattle.request.specs.Place.{end_at, item_at, has_map, word_of};
 ghost use Rattle.book.specs.Ops.{spare};
 ghost use Rattle.answer.specs.Does.{both, reply, id_words, Gives};
 ghost use Rattle.transfer.specs.Ops.{moved_w, mark_item_w, marked_w, claim_w, consume_refusal, consumed_r, consumption_r};
-ghost use Rattle.transfer.specs.Checks.{as_option, item_by, looked_at, RulesAt, items_left, earlier_left, stop_by, stop_of, fault_of, batch_stop, route_bars, rights_stop, object_stop, handle_stop, item_stop, copy_stop, items_stop};
+ghost use Rattle.transfer.specs.Checks.{as_option, item_by, looked_at, RulesAt, items_left, earlier_left, stop_of, fault_of, batch_stop, route_bars, rights_stop, object_stop, handle_stop, item_stop, copy_stop, items_stop};
 ghost use Rattle.transfer.specs.Seen.{bit_of, Seen};
 ghost use Rattle.transfer.specs.Judging.{judged_list, judged_items, judged_batch, judging_at};
 ghost use Rattle.transfer.specs.Preparing.{copy_link, link_of, raised, raised_item, tried, raised_items, tried_items, lowered_item, lowered_items, copied_w, handle_entry_w, entry_w, entries_w, refuse_spent_r, items_r, transfer_at};
@@ -300,7 +300,7 @@ pub struct TransferFault {
     pub position: u64,
 }
 
-// "Transfer: 16, 17, 13, 1, 12", for n items from table b. It goes on as `reserve::check_batch`: this crate does not build on reserve, whose checks have no places.
+// "Transfer: 16, 17, 13, 1, 12", for n items from table b. Its first three tests are those of `reserve::check_batch`, on which this crate does not build and which tells no place.
 #[tactic(auto, unfolding(crate::specs::Checks::batch_stop))]
 fn check_batch(s: &[u64], sh: Shape, b: u64, n: u64) -> Result<(), Rule>
     ensures { stop_of result ≡ batch_stop (loadAt s.now sh) sh b n }
@@ -315,10 +315,10 @@ fn check_batch(s: &[u64], sh: Shape, b: u64, n: u64) -> Result<(), Rule>
         return Err(Rule::ReservationTooLarge);
     }
     if !book::row_left(s, sh) {
-        return Err(Rule::NoFreeRow);
+        return Err(Rule::NoRow);
     }
     if book::id_left(s, sh).is_err() {
-        return Err(Rule::NoIdLeft);
+        return Err(Rule::NoId);
     }
     Ok(())
 }
@@ -342,10 +342,10 @@ fn check_rights(held: Rights, q: HandleTransferRequest) -> Result<(), Rule>
 {
     let offered = Rights(q.offered_rights.unwrap_or(held.0));
     if !held.contains(Rights::TRANSFER) {
-        return Err(Rule::NoTransfer);
+        return Err(Rule::LacksTransfer);
     }
     if q.copies() && !held.contains(Rights::DUPLICATE) {
-        return Err(Rule::NoDuplicate);
+        return Err(Rule::CopyLacksDuplicate);
     }
     if !held.contains(offered) {
         return Err(Rule::OfferedBeyondSource);
@@ -373,7 +373,7 @@ fn check_object(x: ObjectRecord, q: HandleTransferRequest, t: TransferRules) -> 
     if q.offered_kind.is_some_and(|kind| kind != x.kind)
         || q.expected_kind.is_some_and(|kind| kind != x.kind)
     {
-        return Err(Rule::KindDiffers);
+        return Err(Rule::OtherKind);
     }
     Ok(())
 }
@@ -510,9 +510,9 @@ fn check_copy(s: &[u64], sh: Shape, o: u64) -> Result<(), Rule>
     ensures { stop_of result ≡ copy_stop (loadAt s.now sh) o }
 {
     if object::is_retired(s, sh, o) {
-        return Err(Rule::CopyRetired);
+        return Err(Rule::CopyOfRetired);
     }
-    if object::is_full(s, sh, o) {
+    if object::limit_reached(s, sh, o) {
         return Err(Rule::CopyAtLimit);
     }
     Ok(())
@@ -663,7 +663,6 @@ fn prepare_items(
 }
 
 // The items of the transfer of a record: they stand after it in the list.
-#[tactic(auto)]
 fn read_items<'a>(rq: &Record<'a>) -> TransferItems<'a>
     ensures words { result.item.words.now ≡ rq.now.words.now }
     ensures place { result.item.at ≡ end_at rq.now.words.now rq.now.at }
@@ -686,9 +685,7 @@ pub fn prepare_transfer(s: &mut [u64], sh: Shape, rq: &Record) -> Result<Reserva
 {
     let b = rq.field(FIELD_TABLE);
     let count = rq.field(FIELD_COUNT);
-    if sh.tables as u64 <= b {
-        return Err(Refusal::Misuse);
-    }
+    lookup::known_table(sh, b)?;
     if let Err(rule) = check_batch(s, sh, b, count) {
         return Err(rule.refusal());
     }
@@ -741,7 +738,7 @@ fn judge_batch(
     judge_items(s, sh, items, b, t)
 }
 
-// Where a transfer's preparation would stop; none where it "would be accepted". No word of the state changes.
+// Where a transfer's preparation would stop; none where it "would be accepted". The copies' counts are raised and lowered again meanwhile; no word of the state is other afterwards.
 #[tactic(auto, unfolding(crate::specs::Judging::judging_at, crate::specs::Judging::judging_r))]
 pub fn judge_transfer(
     s: &mut [u64],
@@ -751,9 +748,7 @@ pub fn judge_transfer(
     ensures { Gives s.new (reply judged_list result) (λ os base. judging_at s.old os sh base rq.now.words.now rq.now.at) }
 {
     let b = rq.field(FIELD_TABLE);
-    if sh.tables as u64 <= b {
-        return Err(Refusal::Misuse);
-    }
+    lookup::known_table(sh, b)?;
     Ok(judge_batch(s, sh, read_items(rq), b, read_rules(rq)).err())
 }
 
