@@ -29,7 +29,8 @@ pub enum Rule {
 }
 
 impl Rule {
-    // What preparation refuses with.
+    // What preparation refuses with. A call, and so for the place: where it was compiled in place, each copy had a table of jumps.
+    #[inline(never)]
     pub fn refusal(self) -> Refusal
         ensures { number result ≡ number_by self }
     {
@@ -54,6 +55,7 @@ impl Rule {
     }
 
     // "the rule's place in the printed order".
+    #[inline(never)]
     pub fn place(self) -> u64
         ensures { result ≡ place self }
     {
