@@ -7,8 +7,7 @@ pub const MUST: [u64; 29] = [
 
 // The fields that each op may carry besides.
 pub const MAY: [u64; 29] = [
-    0, 0, 0, 0, 0, 0, 0, 0, 0, 0, 0, 0, 0, 0, 196608, 0, 0, 0, 0, 0, 0, 0, 0, 0, 0, 0, 0, 0,
-    196608,
+    0, 0, 0, 0, 0, 0, 0, 0, 0, 0, 0, 0, 0, 0, 196608, 0, 0, 0, 0, 0, 0, 0, 0, 0, 0, 0, 0, 0, 196608,
 ];
 
 // The maps of a transfer's and a publish's items.

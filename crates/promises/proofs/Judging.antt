@@ -1,5 +1,5 @@
 -- Document 02, 4: what judging a transfer answers. Assumes nothing.
-use Rattle.std.specs.Prelude.{◌≡◌, true, length, drop, ltb}
+use Rattle.std.specs.Prelude.{◌≡◌, Bool, true, ◌&&◌, length, drop, ltb}
 use Rattle.std.proofs.Math.Path.{refl, ap}
 use Rattle.std.proofs.Common.{sym, ◌∙◌, arith, append-nil}
 use Rattle.format.specs.Format.{answer_words}
@@ -8,7 +8,7 @@ use mathlib.Core.List.{List, [], ◌∷◌, ◌++◌, map}
 use Prim.Native.Nat.{ℕ, suc, ◌+◌, ◌≤◌, ◌<◌}
 use Rattle.std.proofs.Math.Option.{Option, none, some}
 use borrow.Author.Tests.{lt-ltb, le-ltb, ltb-true, ltb-false}
-use Rattle.model.specs.Base.{pick, every}
+use Rattle.model.specs.Base.{pick, every, between}
 use Rattle.model.specs.State.{Sizes, till, Slot.transfer_reserved, Table, Object, Entry, Entry.moved, Entry.copied, Body.claim, State}
 use Rattle.model.specs.Request.{Route, Item, Fault, Request, Request.prepare_transfer, Request.judge_transfer, Answer, Answer.refused, Answer.opened, Answer.judged}
 use Rattle.model.specs.Storage.{keep_all}
@@ -20,7 +20,7 @@ use Rattle.model.specs.Decision.{Decision, Decision.accept, refuse_after_id◌th
 use Rattle.model.specs.Transfer.{Check, all◌then◌, first_fault, no_item, batch_checks, item_checks, copy_checks, first_of, items_fault, copies_fault, transfer_fault, entry_for}
 use Rattle.model.specs.Step.{prepare_transfer_of, judge_transfer_of, decide, carry, step}
 use Rattle.model.specs.Words.{read_list, used_words, judged_words, padded, words_of}
-use Rattle.model.proofs.Tests.{apart, bool}
+use Rattle.model.proofs.Tests.{apart, bool, and_left, and_right, within}
 use Rattle.noninterference.specs.Runs.{accepted}
 use Rattle.layout.specs.declared.Shape.{Shape}
 use Rattle.representation.specs.Represents.{Rep}
@@ -108,12 +108,28 @@ in_first n (c ∷ cs) f p e = bool c.check.holds
     let d : some g ≡ some f = rw h at e in
     let q : g ≡ f = cc in rw (← q) p.0)
 
--- a place of a batch, and one of an item in position j
-of_batch : (n m p : ℕ) → 1 ≤ m → m ≤ 17 → 1 ≤ p → p ≤ 5 → InRange n m p 64
-of_batch n m p i k l h = record { some = i; known = k; low = l; high = omega arith; before = λ e. refl; item = λ e. absurd (omega arith) }
+-- the numbers and places of checks, looked at: of a batch, and of an item in position j
+abbrev batch_fits : Check → Bool
+batch_fits c = between 1 c.number 17 && between 1 c.place 5
 
-of_item : (n j m p : ℕ) → j < n → 1 ≤ m → m ≤ 17 → 6 ≤ p → p ≤ 17 → InRange n m p j
-of_item n j m p i f k l h = record { some = f; known = k; low = omega arith; high = h; before = λ e. absurd (omega arith); item = λ e. i }
+abbrev item_fits : Check → Bool
+item_fits c = between 1 c.number 17 && between 6 c.place 17
+
+of_batch : (n : ℕ) (cs : List Check) → every batch_fits cs ≡ true → AllIn n (placed_in no_item cs)
+of_batch n [] e = tt
+of_batch n (c ∷ cs) e =
+    let b = and_left (batch_fits c) (every batch_fits cs) e in
+    let m = within 1 c.number 17 (and_left (between 1 c.number 17) (between 1 c.place 5) b) in
+    let p = within 1 c.place 5 (and_right (between 1 c.number 17) (between 1 c.place 5) b) in
+    (record { some = m.0; known = m.1; low = p.0; high = omega (arith, p.1); before = λ q. refl; item = λ q. absurd (omega (arith, p.1)) }, of_batch n cs (and_right (batch_fits c) (every batch_fits cs) e))
+
+of_items : (n j : ℕ) (cs : List Check) → j < n → every item_fits cs ≡ true → AllIn n (placed_in j cs)
+of_items n j [] l e = tt
+of_items n j (c ∷ cs) l e =
+    let b = and_left (item_fits c) (every item_fits cs) e in
+    let m = within 1 c.number 17 (and_left (between 1 c.number 17) (between 6 c.place 17) b) in
+    let p = within 6 c.place 17 (and_right (between 1 c.number 17) (between 6 c.place 17) b) in
+    (record { some = m.0; known = m.1; low = omega (arith, p.0); high = p.1; before = λ q. absurd (omega (arith, p.0)); item = λ q. l }, of_items n j cs l (and_right (item_fits c) (every item_fits cs) e))
 
 module _ (z : Sizes) (s : State) (t : Table) (route : Route) (o k : Option ℕ) where
   items_placed : (earlier : List ℕ) (j : ℕ) (qs : List Item) → fault_in (all_of_items s t route o k earlier j qs) ≡ items_fault s t route o k earlier j qs
@@ -127,12 +143,8 @@ module _ (z : Sizes) (s : State) (t : Table) (route : Route) (o k : Option ℕ) 
   items_in : (n : ℕ) (earlier : List ℕ) (j : ℕ) (qs : List Item) → j + length qs ≤ n → AllIn n (all_of_items s t route o k earlier j qs)
   items_in n earlier j [] l = tt
   items_in n earlier j (q ∷ qs) l =
-      let m : j < n = omega arith in
-      in_then n (placed_in j (item_checks s route o k earlier q (lookup t q.value))) (all_of_items s t route o k (q.value ∷ earlier) (suc j) qs)
-      (of_item n j 2 6 m (omega arith) (omega arith) (omega arith) (omega arith), (of_item n j 2 7 m (omega arith) (omega arith) (omega arith) (omega arith), (of_item n j 3 7 m (omega arith) (omega arith) (omega arith) (omega arith), (of_item n j 5 8 m (omega arith) (omega arith) (omega arith) (omega arith),
-      (of_item n j 5 9 m (omega arith) (omega arith) (omega arith) (omega arith), (of_item n j 5 10 m (omega arith) (omega arith) (omega arith) (omega arith), (of_item n j 5 11 m (omega arith) (omega arith) (omega arith) (omega arith), (of_item n j 8 12 m (omega arith) (omega arith) (omega arith) (omega arith),
-      (of_item n j 5 13 m (omega arith) (omega arith) (omega arith) (omega arith), (of_item n j 8 14 m (omega arith) (omega arith) (omega arith) (omega arith), (of_item n j 4 15 m (omega arith) (omega arith) (omega arith) (omega arith), tt)))))))))))
-      (items_in n (q.value ∷ earlier) (suc j) qs (omega arith))
+      let cs : List Check = item_checks s route o k earlier q (lookup t q.value) in
+      in_then n (placed_in j cs) (all_of_items s t route o k (q.value ∷ earlier) (suc j) qs) (of_items n j cs (omega arith) refl) (items_in n (q.value ∷ earlier) (suc j) qs (omega arith))
 
   copies_placed : (os : ℕ → Object) (j : ℕ) (es : List Entry) → fault_in (all_of_copies os j es) ≡ copies_fault os j es
   unfolding fault_in
@@ -146,9 +158,8 @@ module _ (z : Sizes) (s : State) (t : Table) (route : Route) (o k : Option ℕ) 
   copies_in n os j [] l = tt
   copies_in n os j (moved i h r ∷ es) l = copies_in n os (suc j) es (omega arith)
   copies_in n os j (copied h ∷ es) l =
-      let m : j < n = omega arith in
-      in_then n (placed_in j (copy_checks (os h.object))) (all_of_copies (change raise os h.object) (suc j) es)
-      (of_item n j 9 16 m (omega arith) (omega arith) (omega arith) (omega arith), (of_item n j 11 17 m (omega arith) (omega arith) (omega arith) (omega arith), tt)) (copies_in n (change raise os h.object) (suc j) es (omega arith))
+      let cs : List Check = copy_checks (os h.object) in
+      in_then n (placed_in j cs) (all_of_copies (change raise os h.object) (suc j) es) (of_items n j cs (omega arith) refl) (copies_in n (change raise os h.object) (suc j) es (omega arith))
 
   -- THE FIRST OF ALL CHECKS is the fault
   whole_placed : (qs : List Item) → fault_in (all_checks s t route o k qs) ≡ transfer_fault s t route o k qs
@@ -163,7 +174,7 @@ module _ (z : Sizes) (s : State) (t : Table) (route : Route) (o k : Option ℕ) 
   whole_in qs =
       let n : ℕ = length qs in
       in_then (length qs) (placed_in no_item (batch_checks s t (length qs))) (all_of_items s t route o k [] 0 qs ++ all_of_copies s.objects 0 (map (entry_for t) qs))
-      (of_batch (length qs) 16 1 (omega arith) (omega arith) (omega arith) (omega arith), (of_batch (length qs) 17 2 (omega arith) (omega arith) (omega arith) (omega arith), (of_batch (length qs) 13 3 (omega arith) (omega arith) (omega arith) (omega arith), (of_batch (length qs) 1 4 (omega arith) (omega arith) (omega arith) (omega arith), (of_batch (length qs) 12 5 (omega arith) (omega arith) (omega arith) (omega arith), tt)))))
+      (of_batch (length qs) (batch_checks s t (length qs)) refl)
       (in_then (length qs) (all_of_items s t route o k [] 0 qs) (all_of_copies s.objects 0 (map (entry_for t) qs)) (items_in (length qs) [] 0 qs (omega arith))
       (copies_in (length qs) s.objects 0 (map (entry_for t) qs) (omega (arith, length-map qs (entry_for t)))))
 

@@ -6,7 +6,7 @@ use mathlib.Core.List.{List, [], ◌∷◌, ◌++◌}
 use Rattle.std.proofs.Math.Option.{none, some}
 use Rattle.std.proofs.Math.ListN.{get_or, take}
 use Rattle.model.specs.Base.{every}
-use Rattle.model.specs.State.{till, State}
+use Rattle.model.specs.State.{till}
 use Rattle.model.specs.Request.{Route.buffered, Operation.as_copy, Item, Fault, Request, Request.reserve, Request.prepare_transfer, Request.judge_transfer, Answer.refused, Answer.judged}
 use Rattle.model.specs.Transfer.{transfer_fault}
 use Rattle.model.specs.Step.{step, run}
@@ -134,8 +134,7 @@ two_calls : (ws : List ℕ) → Begun ws → (os ps : List ℕ) → length os �
 two_calls ws b os ps lo lp x y m n =
     let d = judging_call ws (judge_words 31) os x m sh shop (rep_shop ws b) 0 buffered none none (batch 31) reads_31 (omega (arith, lo)) (omega (arith, tables_shop)) in
     let n' : Meets ws (judge_words 7) ps y = rw d.state at n in
-    let e = judging_call ws (judge_words 7) ps y n' sh shop (rep_shop ws b) 0 buffered none none (batch 7) reads_7 (omega (arith, lp)) (omega (arith, tables_shop)) in
-    (
+    let e = judging_call ws (judge_words 7) ps y n' sh shop (rep_shop ws b) 0 buffered none none (batch 7) reads_7 (omega (arith, lp)) (omega (arith, tables_shop)) in (
       d.result,
       ap (take 72) (rw fault_31 at d.answer),
       ap (take 72) (rw fault_7 at e.answer),

@@ -1,6 +1,6 @@
 -- Document 02, 2: "Look at a handle while it is being moved." What `get_info` shows then, of any claim and with the page size as a parameter. That such looks may stand in the list of the two
 -- runs is part of `permitted`, and so of Demand3.antt. The theorems are `transfer_shows`, `consumption_shows` and `look_refusals` of proofs/Looks.antt. Assumes nothing.
-use Rattle.std.specs.Prelude.{◌≡◌, true, not, List, [], ◌∷◌, ℕ, length}
+use Rattle.std.specs.Prelude.{◌≡◌, true, not, List, ◌∷◌, ℕ, length}
 use Rattle.std.proofs.Math.Option.{Option}
 use Rattle.model.specs.Base.{every, at_most}
 use Rattle.model.specs.State.{Sizes, State, max_batch}

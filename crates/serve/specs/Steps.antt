@@ -81,8 +81,7 @@ module _ (ws os : List ℕ) (sh : Shape) (s : State) (list : List ℕ) (at base 
 -- EACH REQUEST
 pub steps : Steps one_r
 steps ws os sh s list at base r w =
-    let e = request_is list at (op_at list at) refl in
-    (
+    let e = request_is list at (op_at list at) refl in (
       rw e (serves ws os sh s list at base r (op_at list at) w.known.0 w.known.1),
       step_short till (omega arith) s r.well_formed (request_at list at),
       λ q. let k : op_at list at ≡ op_judge_transfer = sym (op_made list at (op_at list at) w.known.0 w.known.1) ∙ (rw e at q) in rw k (judges ws os sh s list at base r),
