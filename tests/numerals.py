@@ -3,8 +3,8 @@
 
 What is a fault, with file, line and numeral:
 
-  a  a field argument that is no name of crates/layout's field.rt, and one of a record's field that is no name of crates/format's. A function, or a closure that has a name, has a field
-     argument if it hands a parameter on as one, or each of an array's in turn; the first are layout's place_in and the method find of request's FieldWords. Of an array each of its words is looked at. An
+  a  a field argument that is no name of crates/layout's field.rt, and one of a record's field that is no name of crates/format's. A function, a method, or a closure that has a name, has a field
+     argument if it hands a parameter on as one, or each of an array's in turn; the first are layout's place_in and the methods find of request. Of an array each of its words is looked at. An
      accessor of ACCESSORS takes fields of its own record
   b  a numeral compared with, stored in, or passed as a word that stands for a case: a name of CASES, what a field of CASE_FIELDS holds, what is compared with a name of value.rt,
      and parameters that are given such a word; and one stored in a state's word by its place. The ends of a range that is asked for a word, and what a match or `matches!` asks it for, are
@@ -47,7 +47,7 @@ STATE = {"s", "state"}  # what functions call the state's words
 ONE_WORD = {"REGION_OWNER", "REGION_GROUP_16", "REGION_GROUP_256", "REGION_GROUP_4096"}  # regions whose things have one word, field 0
 NO_CASES = {"KNOWN_FLAGS"}  # of value.rt
 ANY_WORD = {"words", "layout", "answer", "request"}  # crates and functions that are given any word
-# Functions that must have a field argument, by crate; and the record whose fields it is
+# Functions and methods that must have a field argument, by crate; and the record whose fields it is
 ACCESSORS = """layout: load save place_in
 layout ROOT: root_word put_root
 layout HEAD: head_word put_head
@@ -56,6 +56,7 @@ layout SLOT: cell_word put_cell
 layout OBJECT: object_word put_object
 layout ROW: row_word put_row
 layout ITEM: item_word put_item
+ledger ITEM: word
 storage ENTRY: page_word put_page put_page_link
 storage SLOT: frame_word put_frame slot_word put_slot_word put_slot_link
 request: find has field fields fields_found fit_one"""
@@ -78,6 +79,7 @@ EXCUSED = [
     ("create/src/lib.rt", ["4 + (b as usize) * 2", "4 + (k as usize) * 2", "4 + (t as u32) * 2", "base + (k as u32) * 6", "4 + t * 2 + o * 6", "4 + (sh.tables as usize) * 2 + (o as usize) * 6"], PARAMETERS),
     ("create/src/lib.rt", ["words::word(p, 2)", "words::word(p, 3)", "words::word(p, i + 2)", "words::word(p, i + 4)", "words::word(p, i + 5)", "words::word(p, at + 2)", "words::word(p, at + 3)", "words::word(p, at + 4)", "words::word(p, at + 5)"], PARAMETERS),
     ("create/src/lib.rt", ["Sixteens = 16,", "Hundreds = 256,", "Thousands = 4096,"], GROUPS),
+    ("create/src/lib.rt", ["words::put(s, k, 0)"], "every word is 0 before creation"),
     ("frames/src/lib.rt", ["from ≤ 1000000"], "more than a scan of groups comes to: so sums stay words"),
     ("frames/src/lib.rt", ["k) from 16", "from + 16", "c * 16", "b * 16", "a * 16", "layout::region::REGION_GROUP_16, f / 16", "layout::region::REGION_GROUP_256, f / 256", "layout::region::REGION_GROUP_4096, f / 4096"], GROUPS),
     ("growth/src/lib.rt", ["+ (j as u64) + 2"], "the slot after, as a link: each plus 1"),
@@ -86,7 +88,7 @@ EXCUSED = [
     ("lookup/src/lib.rt", [".examined ≤ 256"], "the most slots that a scan looks at, format's SCAN_SLOTS (document 01)"),
     ("parcel/src/lib.rt", ["words::word(words, at + 2)", "end: at + 3,"], RECORD),
     ("replay/src/main.rt", ["const PATTERN: u64 = 0x5c5c_c5c5_5c5c_c5c5;", "const FILL: u64 = 0xa5a5_5a5a_a5a5_5a5a;", "const STATE_ROOM: usize = 16384;", "const CALL_ROOM: usize = 512;"], REPLAY),
-    ("replay/src/main.rt", ["let mut bytes = [0; 8];"], REPLAY),
+    ("replay/src/main.rt", ["let mut bytes = [0; 8];", "bytes: &[u8; 8]"], REPLAY),
     ("replay/src/main.rt", ["1 => creation(", "2 => given(", "3 => {", "4 => {"], REPLAY),
     ("request/src/lib.rt", ["map % 2 == 1"], HALF),
     ("request/src/lib.rt", ["bit < 64"], BITS),
@@ -222,6 +224,7 @@ class Source:
         for at in range(1, len(t)):
             if t[at].text in ("|", "||") and t[at - 1].text in BEFORE_CLOSURE and at in self.inside and not (t[at - 1].text in ("(", "{", ",") and self.in_pattern(at)):
                 self.closure(at)
+        self.bodies = {c.start for c in self.closures}
         self.paths = self.imports()
         for f in self.functions:
             self.locals(f)
@@ -313,9 +316,8 @@ class Source:
                 continue
             if at and t[at - 1].text == ".":
                 args = [[], *parts(t, self.closing, opening + 1, self.closing[opening])]  # `self` is not looked at
-                target = methods.get((token.text, len(args)))
-                if target is not None and t[opening + 1].text != "|":  # an iterator's `find` has a closure
-                    self.calls.append(Call((target.crate, token.text, target), args, at, self.around(at)))
+                if t[opening + 1].text != "|":  # an iterator's `find` has a closure
+                    self.calls += [Call((target.crate, token.text, target), args, at, self.around(at)) for target in methods.get((token.text, len(args)), ())]
                 continue
             path = self.paths.get(token.text, ())
             crate = self.crate if (self.crate, token.text) in known else path[0] if len(path) == 2 else None
@@ -327,7 +329,9 @@ class Source:
                 bound = [c for c in self.closures if c.name == token.text and c.end < at and (c.outer is here or c.outer.start <= here.start and here.end <= c.outer.end)]
                 crate, target = (self.crate, bound[-1]) if bound else (crate, target)
             self.calls.append(Call((crate, token.text, target), parts(t, self.closing, opening + 1, self.closing[opening]), at, self.around(at)))
-        self.called = {call.at: call for call in self.calls}
+        self.called = collections.defaultdict(list)
+        for call in self.calls:
+            self.called[call.at].append(call)
 
 
 def strip(source, places):
@@ -352,9 +356,12 @@ def in_place(index):
 class Look:
     def __init__(self, texts):
         self.sources = [Source(file, text) for file, text in sorted(texts.items())]
-        # methods have `self` first and are called with a dot: their names are not looked up, but for those of request's records, which have an array or a bit; of one name by the number of their parameters
+        # methods have `self` first and are called with a dot: they are looked up by their name and the number of their parameters, and each that has these is looked at
         self.known = {(f.crate, f.name): f for source in self.sources for f in source.functions if "self" not in f.params[:1]}
-        self.methods = {(f.name, len(f.params)): f for source in self.sources for f in source.functions if source.crate == "request" and f.params[:1] == ["self"] and f.params[1:]}
+        self.methods = collections.defaultdict(list)
+        for f in sum((source.functions for source in self.sources), []):
+            if f.params[:1] == ["self"] and f.params[1:]:
+                self.methods[f.name, len(f.params)].append(f)
         self.names = {
             table: {t.text for s in self.sources if s.file == f"crates/layout/src/{table}.rt" for t, before in zip(s.tokens[1:], s.tokens) if before.text == "const"} for table in ("field", "value")
         }
@@ -369,10 +376,12 @@ class Look:
 
     def find_accessors(self):
         """Functions with a field argument: the place of a state's field, the places of a record's fields."""
-        first, record, more = self.known.get(("layout", "place_in")), self.methods.get(("find", 2)), True
-        if first is None or "f" not in first.params or record is None or "bit" not in record.params:
+        first, finds, more = self.known.get(("layout", "place_in")), [f for f in self.methods.get(("find", 2), ()) if f.crate == "request" and "bit" in f.params], True
+        if first is None or "f" not in first.params or not finds:
             sys.exit("layout::place_in with a parameter f, or request's method find with a parameter bit, is not there")
-        first.field, record.bits = first.params.index("f"), {record.params.index("bit")}
+        first.field = first.params.index("f")
+        for find in finds:
+            find.bits = {find.params.index("bit")}
         while more:
             more = False
             for source in self.sources:
@@ -436,11 +445,12 @@ class Look:
         if text[-1] == "]":
             return in_place(text[places.index(source.opening[places[-1]]) :])
         if text[-1] == ")":
-            call = source.called.get(source.opening[places[-1]] - 1)
-            before = [x for p, x in zip(places, text) if call is not None and p < call.at]
-            if call is not None and call.target[:2] == ("words", "word"):
-                return in_place(source.text(call.args[1]))
-            return call is not None and call.target[1] != "place_in" and all(re.fullmatch(r"\w+|::", x) for x in before) and self.field_of(source, call) in CASE_FIELDS
+            for call in source.called[source.opening[places[-1]] - 1]:
+                before = [x for p, x in zip(places, text) if p < call.at]
+                if call.target[:2] == ("words", "word"):
+                    return in_place(source.text(call.args[1]))
+                if call.target[1] != "place_in" and all(re.fullmatch(r"\w+|::|\.", x) for x in before) and self.field_of(source, call) in CASE_FIELDS:
+                    return True
         return False
 
     def sides(self, source, at):
@@ -451,7 +461,7 @@ class Look:
             if p in source.opening and t[p].text != "}":
                 left = list(range(source.opening[p], p + 1)) + left
                 p = source.opening[p] - 1
-            elif t[p].text in stop or t[p].text == "}":
+            elif t[p].text in stop or t[p].text == "}" or p + 1 in source.bodies:
                 break
             else:
                 left = [p] + left
@@ -609,7 +619,7 @@ class Look:
                 if self.field_of(source, call) in CASE_FIELDS and len(call.args) > target.field + 1:
                     if (p := numeral(call.args[target.field + 1])) is not None:
                         fault(p, "b", f"stored in {self.field_of(source, call)}")
-            if crate == "words" and name in ("word", "put") and call.args and source.text(call.args[0])[-1] in STATE:
+            if crate == "words" and name in ("word", "put") and any(call.args[:1]) and source.text(call.args[0])[-1] in STATE:
                 index(call.args[1])
                 if name == "put" and (p := numeral(call.args[2])) is not None:
                     fault(p, "b", "stored in a state's word by its place")
@@ -716,6 +726,13 @@ WRONG = [
     ("crates/counts/src/lib.rt", "matches!(stage, value::STAGE_NEW | value::STAGE_RETIRED)", "matches!(stage, value::STAGE_NEW | 2)", "c", "2"),
     ("crates/counts/src/lib.rt", "(value::KIND_CLAIM..=value::KIND_PARCEL).contains(&kind)", "(2..=value::KIND_PARCEL).contains(&kind)", "b", "2"),
     ("crates/layout/src/lib.rt", "object: s[at + place::SLOT_OBJECT],", "object: *s.get(at + 2).unwrap_or(&0),", "d", "2"),
+    ("crates/ledger/src/lib.rt", "let p = self.word(s, sh, field::ITEM_PAGE);", "let p = self.word(s, sh, 1);", "a", "1"),
+    ("crates/ledger/src/lib.rt", "let f = item.word(s, sh, field::ITEM_FRAME);", "let f = item.word(s, sh, 0);", "a", "0"),
+    ("crates/ledger/src/lib.rt", "let p = item.word(s, sh, field::ITEM_PAGE);", "let p = item.word(s, sh, field::HEAD_MASK);", "a", "HEAD_MASK"),
+    ("crates/ledger/src/lib.rt", "self.is_named(s, sh, b, k, value::TAG_RESERVED)", "self.is_named(s, sh, b, k, 1)", "b", "1"),
+    ("crates/ledger/src/lib.rt", "if t == value::TAG_RESERVED {", "if t == 1 {", "b", "1"),
+    ("crates/ledger/src/lib.rt", "a == value::OPERATION_MOVE && k ==", "a == 0 && k ==", "b", "0"),
+    ("crates/teardown/src/lib.rt", "== value::TAG_OCCUPIED)", "== 1)", "b", "1"),
 ]
 PLAIN = """// 64 of 65
 pub fn f(t: HandleValue, s: &mut [u64]) -> u64
@@ -736,7 +753,7 @@ def main():
     for line in ACCESSORS.splitlines():
         crate, names = line.split()[0].strip(":"), line.split(": ")[1]
         for name in names.split():
-            named = [f for (of, _), f in look.methods.items() if of == name] if crate == "request" else [look.known[crate, name]] if (crate, name) in look.known else []
+            named = [f for source in look.sources for f in source.functions if (f.crate, f.name) == (crate, name)]
             lost += [f"{crate}::{name} has no field argument"] if not named or any(f.field is None and not f.bits for f in named) else []
     changed = {**texts, "crates/words/src/plain.rt": PLAIN}
     for file, old, new, _, _ in WRONG:

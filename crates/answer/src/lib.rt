@@ -4,17 +4,16 @@
 #![tactic(auto)]
 
 ghost use Rattle.std.specs.Prelude.{◌≡◌, [], ◌∷◌};
-ghost use Rattle.format.specs.Refusals.{number};
 ghost use Rattle.answer.specs.Does.{answered, reply, no_words};
 
 use format::refusal::{DONE, Refusal};
 
 // "The first of the 72 is the number; after a refusal the rest are 0".
 #[tactic(auto, unfolding(request::specs::Answers::puts))]
-pub fn refuse(out: &mut [u64], base: usize, refusal: Refusal)
-    ensures { out.new ≡ answered out.old base (number refusal ∷ []) }
+pub fn refuse(out: &mut [u64], base: usize, n: u64)
+    ensures { out.new ≡ answered out.old base (n ∷ []) }
 {
-    request::answer_put(out, base, 0, refusal.number());
+    request::answer_put(out, base, 0, n);
 }
 
 // Done, with the words of what was done.

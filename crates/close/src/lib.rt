@@ -111,7 +111,7 @@ pub fn serve_replace(s: &mut [u64], sh: Shape, rq: &Record, out: &mut [u64], bas
     );
     match replace(s, sh, table, HandleValue(value), Rights(rights)) {
         Ok(value) => answer::say(out, base, &[value.0]),
-        Err(refusal) => answer::refuse(out, base, refusal),
+        Err(refusal) => answer::refuse(out, base, refusal.number()),
     }
 }
 
@@ -121,6 +121,6 @@ pub fn serve_close(s: &mut [u64], sh: Shape, rq: &Record, out: &mut [u64], base:
     let [table, value] = rq.fields(op::OP_CLOSE, [FIELD_TABLE, FIELD_VALUE]);
     match close(s, sh, table, HandleValue(value)) {
         Ok(info) => answer::say(out, base, &info.words()),
-        Err(refusal) => answer::refuse(out, base, refusal),
+        Err(refusal) => answer::refuse(out, base, refusal.number()),
     }
 }

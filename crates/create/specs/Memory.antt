@@ -1,10 +1,9 @@
 -- What the addresses show after creation. Assumes nothing.
 use Rattle.std.specs.Prelude.{◌≡◌, refl, List, ℕ, zero, suc, ◌+◌, ◌-◌, ◌*◌, ◌/◌, ◌≤◌, ◌<◌, min, length, get_or, eqb, ltb}
 use Rattle.std.proofs.Math.Path.{ap, fun_ext}
-use Rattle.std.proofs.Common.{add-one, ◌++◌, replicate, drop, set, ◌∙◌, length-set, eq-eqb, ne_eqb, eqb-true, ltb-false}
+use Rattle.std.proofs.Common.{set, ◌∙◌, length-set, eq-eqb, ne_eqb, eqb-true, ltb-false}
 use native.Mathlib.Omega.{arith}
 use Rattle.std.proofs.lemmas.Bool.{eqb-false}
-use Rattle.std.proofs.lemmas.List.Edits.{fill_none, fill_more}
 use Rattle.words.specs.Pick.{pick, bool}
 use Rattle.words.specs.Words.{get_past, get_put, get_other}
 use Rattle.codec.specs.Codec.{mask_of}
@@ -38,12 +37,6 @@ pub cleared_past : (ws : List ℕ) (n i : ℕ) → n ≤ i → get_or (cleared_w
 unfolding cleared_w
 cleared_past ws zero i h = refl
 cleared_past ws (suc n) i h = get_other (cleared_w ws n) n 0 i (λ e. omega arith) ∙ cleared_past ws n i (omega arith)
-
--- a fill of the first n words
-pub cleared_front : (ws : List ℕ) (n : ℕ) → n ≤ length ws → cleared_w ws n ≡ replicate n 0 ++ drop n ws
-unfolding cleared_w
-cleared_front ws zero h = fill_none ws 0
-cleared_front ws (suc n) h = ap (λ (us : List ℕ). set us n 0) (cleared_front ws n (omega arith)) ∙ rw add-one at (fill_more n 0 ws (omega arith))
 
 abbrev pub zeros : Mem
 zeros a = 0

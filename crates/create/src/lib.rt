@@ -1,13 +1,13 @@
 // Creation: a new state in lent words. A call beside the request list.
 #![tactic(auto)]
 
-ghost use Rattle.std.specs.Prelude.{◌≡◌, ◌≤◌, length};
+ghost use Rattle.std.specs.Prelude.{◌≡◌};
 ghost use Rattle.std.specs.Int.{div_ceil};
 ghost use Rattle.model.specs.Base.{every};
 ghost use Rattle.model.specs.State.{till};
 ghost use Rattle.model.specs.Create.{table_permitted, object_permitted};
 ghost use Rattle.format.specs.Refusals.{number_of};
-ghost use Rattle.layout.specs.Layout.{total, writes};
+ghost use Rattle.layout.specs.Layout.{writes};
 ghost use Rattle.create.specs.Parameters.{table_from, object_from, tables_in, objects_in, page_sum, counts_fit, plan_of};
 ghost use Rattle.create.specs.Meets.{Meets};
 ghost use Rattle.create.specs.Creation.{cleared_w, header_w, head_p, heads_w, object_p, objects_w, level_size, level_region, groups_w, levels_w, places_w, built_w, after, create_w};
@@ -104,13 +104,14 @@ fn plan(p: &[u64]) -> Option<Shape>
     })
 }
 
-// Sets the first n words to 0.
-#[tactic(auto, using(crate::specs::Memory::cleared_front, std::proofs::lemmas::Grind::common_steps))]
+// Sets the first n words to 0. A loop and no `fill`: a fill is compiled to a call of `memset`, and libcreate.a needs no function from outside (docs/embedding.md).
+#[tactic(auto, unfolding(crate::specs::Creation::cleared_w))]
 fn clear(s: &mut [u64], n: usize)
-    requires { n ≤ length s.old }
     ensures { s.new ≡ cleared_w s.old n }
 {
-    s[..n].fill(0);
+    for k in 0..n {
+        words::put(s, k, 0);
+    }
 }
 
 #[tactic(auto, unfolding(crate::specs::Creation::header_w))]
@@ -238,7 +239,6 @@ fn make_places(s: &mut [u64], sh: Shape)
 
 #[tactic(auto, unfolding(crate::specs::Creation::built_w))]
 fn build(s: &mut [u64], p: &[u64], sh: Shape)
-    requires { total sh ≤ length s.old }
     ensures { s.new ≡ built_w s.old p.now sh }
 {
     clear(s, layout::total_of(sh) as usize);

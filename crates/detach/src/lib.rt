@@ -112,6 +112,6 @@ pub fn serve_take_empty_page(s: &mut [u64], sh: Shape, rq: &Record, out: &mut [u
     match take_empty_page(s, sh, table) {
         Ok(Some(p)) => answer::say(out, base, &[1, p]),
         Ok(None) => answer::say(out, base, &[0]),
-        Err(refusal) => answer::refuse(out, base, refusal),
+        Err(refusal) => answer::refuse(out, base, refusal.number()),
     }
 }

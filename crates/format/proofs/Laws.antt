@@ -1,14 +1,14 @@
 -- Laws of the tables: each is one test that is computed over the whole table.
 -- Assumes nothing.
 use Rattle.std.specs.Prelude.{◌≡◌, refl, Bool, true, false, ◌&&◌, List, [], ◌∷◌, ℕ, zero, suc, ◌+◌, ◌%◌, ◌^◌, ◌<◌, ◌≤◌, eqb, leb, ltb, length, get_or}
-use Rattle.std.proofs.Common.{sym, ap, ◌∙◌, add-zero, zero-add, add-suc, suc-add, le_of_suc-le-suc, not-suc-le-zero, eqb-true, ltb-true, ltb-false}
+use Rattle.std.proofs.Common.{sym, ap, ◌∙◌, add-zero, zero-add, add-suc, suc-add, le_of_suc-le-suc, not-suc-le-zero, eqb-true, ltb-true, ltb-false, ne_eqb}
 use Rattle.std.proofs.Math.Bool.{and-false}
 use Rattle.std.proofs.Math.ListN.{get_or-eq_default}
 use Rattle.std.specs.Int.Bits.{bit_and}
 use Rattle.std.proofs.lemmas.Bool.{lt-leb}
 use Rattle.words.specs.Pick.{and_left, and_right}
-use Rattle.format.specs.Format.{musts, mays, field_kinds, known_op, field_count, transfer_item_must, transfer_item_may, parcel_item_must, parcel_item_may}
-use Rattle.format.specs.Fields.{an_op}
+use Rattle.format.specs.Format.{musts, mays, field_kinds, field_fits, known_op, field_count, transfer_item_must, transfer_item_may, parcel_item_must, parcel_item_may}
+use Rattle.format.specs.Fields.{any_word, number32, a_koid, a_route, an_op, an_operation, zero_word}
 use Rattle.format.specs.Ops.{op_new_object, op_last}
 
 -- every entry of a table passes a test, counted from i
@@ -103,3 +103,10 @@ items_fit = refl
 pub kinds_fit : (every (λ (bit kind : ℕ). leb kind an_op) 0 field_kinds && eqb (length field_kinds) field_count) ≡ true
 unfolding field_kinds
 kinds_fit = refl
+
+-- a number that names no kind takes no word
+pub no_kind : (kind word : ℕ) → (kind ≡ any_word → ⊥) → (kind ≡ number32 → ⊥) → (kind ≡ a_koid → ⊥) → (kind ≡ a_route → ⊥) → (kind ≡ an_op → ⊥) → (kind ≡ an_operation → ⊥)
+    → (kind ≡ zero_word → ⊥) → false ≡ field_fits kind word
+unfolding field_fits
+no_kind kind word h0 h1 h2 h3 h4 h5 h6 =
+    simp (ne_eqb kind any_word h0, ne_eqb kind number32 h1, ne_eqb kind a_koid h2, ne_eqb kind a_route h3, ne_eqb kind an_op h4, ne_eqb kind an_operation h5, ne_eqb kind zero_word h6)

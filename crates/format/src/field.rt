@@ -39,7 +39,22 @@ pub const FIELD_FORBIDDEN_KIND: u64 = 17;
 // How many fields there are.
 pub const FIELDS: u64 = 18;
 
-// The kind of a field: which words one takes is `fits`. An op's record has `Op` at bit 0, a transfer item's `Operation`, a parcel item's `Zero`.
+// The kinds of fields by number, as the definition `field_kinds` has them: an enum of them is `FieldKind`.
+pub const KIND_WORD: u64 = FieldKind::Word as u64;
+
+pub const KIND_NUMBER_32: u64 = FieldKind::Number32 as u64;
+
+pub const KIND_KOID: u64 = FieldKind::Koid as u64;
+
+pub const KIND_ROUTE: u64 = FieldKind::Route as u64;
+
+pub const KIND_OP: u64 = FieldKind::Op as u64;
+
+pub const KIND_OPERATION: u64 = FieldKind::Operation as u64;
+
+pub const KIND_ZERO: u64 = FieldKind::Zero as u64;
+
+// The kind of a field: which words one takes is `takes`, and by the kind's number `fits`. An op's record has `Op` at bit 0, a transfer item's `Operation`, a parcel item's `Zero`.
 #[derive(Clone, Copy, PartialEq, Eq)]
 pub enum FieldKind {
     Word,

@@ -30,19 +30,38 @@ pub fn may(op: u64) -> u64
     maps::MAY.get(op as usize).copied().unwrap_or(0)
 }
 
-// Whether a field of a kind takes a word.
+impl FieldKind {
+    // Whether a field of this kind takes a word.
+    #[tactic(auto, unfolding(crate::specs::Format::field_fits))]
+    pub fn takes(self, word: u64) -> bool
+        ensures { result ≡ field_fits (kind_number self) word }
+    {
+        match self {
+            FieldKind::Word => true,
+            FieldKind::Number32 => word <= size::NUMBER_32_MAX,
+            FieldKind::Koid => word != 0,
+            FieldKind::Route => word <= size::ROUTE_LAST,
+            FieldKind::Op => known_op(word),
+            FieldKind::Operation => word <= size::OPERATION_LAST,
+            FieldKind::Zero => word == 0,
+        }
+    }
+}
+
+// Whether a field of the kind of that number takes a word; of a number that is no kind's, none does.
 #[tactic(auto, unfolding(crate::specs::Format::field_fits))]
-pub fn fits(kind: FieldKind, word: u64) -> bool
-    ensures { result ≡ field_fits (kind_number kind) word }
+pub fn fits(kind: u64, word: u64) -> bool
+    ensures { result ≡ field_fits kind word }
 {
     match kind {
-        FieldKind::Word => true,
-        FieldKind::Number32 => word <= size::NUMBER_32_MAX,
-        FieldKind::Koid => word != 0,
-        FieldKind::Route => word <= size::ROUTE_LAST,
-        FieldKind::Op => known_op(word),
-        FieldKind::Operation => word <= size::OPERATION_LAST,
-        FieldKind::Zero => word == 0,
+        field::KIND_WORD => FieldKind::Word.takes(word),
+        field::KIND_NUMBER_32 => FieldKind::Number32.takes(word),
+        field::KIND_KOID => FieldKind::Koid.takes(word),
+        field::KIND_ROUTE => FieldKind::Route.takes(word),
+        field::KIND_OP => FieldKind::Op.takes(word),
+        field::KIND_OPERATION => FieldKind::Operation.takes(word),
+        field::KIND_ZERO => FieldKind::Zero.takes(word),
+        _ => false,
     }
 }
 

@@ -33,7 +33,7 @@ pub const DONE: u64 = 0;
 impl Refusal {
     ghost use Rattle.format.specs.Refusals.{number};
 
-    // By a name of its own in place of `From`: the definitions call document 01's table so too.
+    // Its number. A name of its own in place of `From`: the definitions call document 01's table so too.
     pub fn number(self) -> u64
         ensures { result ≡ number self }
     {

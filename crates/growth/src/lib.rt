@@ -93,7 +93,11 @@ fn put_entry(s: &mut [u64], sh: Shape, e: u64, p: u64, f: u64, g: u64)
 fn attached_head(h: TableHead, p: u64, d: u64) -> TableHead
     ensures { result ≡ empty_by (drawn_by (attached_by h p) d) (up p) }
 {
-    h.attached(p).drawn(d).emptied(p.saturating_add(1))
+    let mut t = h;
+    t.attach(p);
+    t.draw(d);
+    t.empty(p.saturating_add(1));
+    t
 }
 
 // Page p of table b stands in frame f, but for the frame's owner.
@@ -263,8 +267,10 @@ fn attach_item(s: &mut [u64], sh: Shape, b: u64, x: u64, j: u64)
 pub fn advance_epoch(s: &mut [u64], sh: Shape, b: u64)
     ensures words { s.new ≡ advance_w s.old sh b }
 {
-    let h = head::load(s, sh, b);
-    head::store_epoch(s, sh, b, h.aged(head::next_epoch(h.epoch)));
+    let mut h = head::load(s, sh, b);
+    let epoch = head::next_epoch(h.epoch);
+    h.age(epoch);
+    head::store_epoch(s, sh, b, h);
 }
 
 // Table b grows by n pages, each attached by a step that takes its number; its epoch advances once, and not for none.

@@ -79,6 +79,6 @@ pub fn serve_get_info(s: &mut [u64], sh: Shape, rq: &Record, out: &mut [u64], ba
     let [table, value] = rq.fields(op::OP_GET_INFO, [FIELD_TABLE, FIELD_VALUE]);
     match get_info(s, sh, table, HandleValue(value)) {
         Ok(info) => answer::say(out, base, &info.words()),
-        Err(refusal) => answer::refuse(out, base, refusal),
+        Err(refusal) => answer::refuse(out, base, refusal.number()),
     }
 }

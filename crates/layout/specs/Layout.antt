@@ -361,6 +361,11 @@ writes_past ws sh (at a v ∷ xs) i h = writes_past (save ws sh a v) sh xs i h �
 total_small : (sh : Shape) → sh.tables < 256 → sh.pages < 4294967296 → sh.frames < 65536 → sh.objects < 65536 → sh.rows < 65536 → total sh < 281474976710656
 total_small sh a b c d e = omega arith
 
+-- no place overflows
+pub region_small : (sh : Shape) (k : ℕ) (r : Extent) → sh.tables < 256 → sh.pages < 4294967296 → sh.frames < 65536 → sh.objects < 65536 → sh.rows < 65536
+    → r ≡ region (layout sh) k → r.low + size r < 2 ^ 64
+region_small sh k r a b c d e q = rw q (omega (arith, total_small sh a b c d e, stacked_to 0 (total sh) (layout sh) (layout_stacked sh) k))
+
 -- no part of a place overflows
 pub place_small : (sh : Shape) (k x y f : ℕ) (e : Extent) → sh.tables < 256 → sh.pages < 4294967296 → sh.frames < 65536 → sh.objects < 65536 → sh.rows < 65536
     → e ≡ region (layout sh) k → x < e.x → y < e.y → f < e.w → (x * e.y + y ≤ (x * e.y + y) * e.w) × (e.low + ((x * e.y + y) * e.w + f) < 2 ^ 64)

@@ -1,6 +1,6 @@
 -- Tables of regions, and places in them: the number of regions costs no proof. Assumes nothing.
 use Rattle.std.specs.Prelude.{◌≡◌, Bool, true, false, ◌&&◌, List, [], ◌∷◌, ℕ, zero, suc, ◌+◌, ◌*◌, ◌-◌, ◌/◌, ◌%◌, ◌<◌, ◌≤◌, ltb}
-use Rattle.std.proofs.Common.{sym, ap, ◌∙◌, mul-le-mul_right, div-add-mod', div-lt_iff_lt-mul, mod-lt, arith, lt-ltb, ltb-true, ltb-false}
+use Rattle.std.proofs.Common.{sym, ap, ◌∙◌, mul-le-mul_right, mul-le-mul_left, div-add-mod', div-lt_iff_lt-mul, mod-lt, arith, lt-ltb, ltb-true, ltb-false}
 use Rattle.words.specs.Pick.{pick, bool, both}
 use Rattle.layout.specs.declared.Extent.{Extent}
 
@@ -93,6 +93,13 @@ module _ (e : Extent) (x y f : ℕ) where
   pub no_place : (n : ℕ) → inside e x y f ≡ false → place_in n e x y f ≡ n
   unfolding place_in
   no_place n q = rw q
+
+  -- no partial result is past the region
+  pub in_small : x < e.x → y < e.y → f < e.w → (x * e.y ≤ size e) × (x * e.y + y ≤ size e) × ((x * e.y + y) * e.w ≤ size e) × ((x * e.y + y) * e.w + f ≤ size e)
+  in_small a b c =
+      let z = in_size (record { xs = a; ys = b; fs = c }) in
+      let u : (x * e.y + y) * 1 ≤ (x * e.y + y) * e.w = mul-le-mul_left {m = 1} {n = e.w} (x * e.y + y) (omega arith) in
+      omega arith
 
 in_one : (e : Extent) (x y f x' y' f' : ℕ) → Inside e x y f → Inside e x' y' f' → (x * e.y + y) * e.w + f ≡ (x' * e.y + y') * e.w + f'
     → (x ≡ x') × (y ≡ y') × (f ≡ f')

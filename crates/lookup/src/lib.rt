@@ -345,7 +345,7 @@ pub fn serve_resolve(s: &mut [u64], sh: Shape, rq: &Record, out: &mut [u64], bas
     );
     match resolve(s, sh, table, HandleValue(value), Rights(rights), kind) {
         Ok(found) => answer::say(out, base, &[found.object, found.koid.0, found.rights]),
-        Err(refusal) => answer::refuse(out, base, refusal),
+        Err(refusal) => answer::refuse(out, base, refusal.number()),
     }
 }
 
@@ -355,6 +355,6 @@ pub fn serve_scan_handles(s: &mut [u64], sh: Shape, rq: &Record, out: &mut [u64]
     let [table, cursor] = rq.fields(op::OP_SCAN_HANDLES, [FIELD_TABLE, FIELD_CURSOR]);
     match scan_handles(s, sh, table, cursor) {
         Ok(page) => say_page(out, base, page),
-        Err(refusal) => answer::refuse(out, base, refusal),
+        Err(refusal) => answer::refuse(out, base, refusal.number()),
     }
 }

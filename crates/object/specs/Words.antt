@@ -36,13 +36,6 @@ record_p o x = at (object o object_stage) x.stage ∷ at (object o object_active
 unfoldable pub step_w : (ObjectRecord → ObjectRecord) → List ℕ → Shape → ℕ → List ℕ
 step_w f ws sh o = writes ws sh (record_p o (f (record_at (load ws sh) o)))
 
--- so for a step of which only its contract is known, one that looks at the stage and the count alone
-abbrev pub WordsStepped : (ObjectRecord → ObjectRecord → Type 0) → List ℕ → List ℕ → Shape → ℕ → Type 0
-WordsStepped P ws vs sh o =
-    (f : ObjectRecord → ObjectRecord) → ((x y : ObjectRecord) → P x y → y ≡ f x)
-    → record_p o (f (standing_at (load ws sh) o)) ≡ record_p o (f (record_at (load ws sh) o))
-    → vs ≡ step_w f ws sh o
-
 abbrev pub activate_w : List ℕ → Shape → ℕ → List ℕ
 activate_w = step_w activated_by
 

@@ -1,12 +1,13 @@
 // Objects: records by value, a lent list of them that is updated by number, and the same over the state's words.
 #![tactic(auto)]
 
-ghost use Rattle.std.specs.Prelude.{◌≡◌, eqb};
+ghost use Rattle.std.specs.Prelude.{◌≡◌, ℕ, eqb};
 ghost use Rattle.layout.specs.Layout.{load as loadAt, writes};
 ghost use Rattle.layout.specs.Values.{stage_retired};
 ghost use Rattle.format.specs.Refusals.{number_of};
+ghost use Rattle.object.specs.declared.ObjectRecord.{ObjectRecord};
 ghost use Rattle.object.specs.Record.{activated_by, raised_by, lowered_by, retired_by, count_in, list_by, answer_by, Stepped};
-ghost use Rattle.object.specs.Words.{record_at, standing_at, record_p, activate_w, raise_w, lower_w, retire_w, raise_refusal, WordsStepped};
+ghost use Rattle.object.specs.Words.{record_at, standing_at, record_p, activate_w, raise_w, lower_w, retire_w, raise_refusal, step_w};
 
 use codec::Koid;
 use format::refusal::Refusal;
@@ -167,14 +168,19 @@ fn write_object(s: &mut [u64], sh: Shape, o: u64, x: ObjectRecord)
     layout::put_object(s, sh, o, field::OBJECT_ACTIVE, x.count);
 }
 
-// Does a step on object o.
+// Does a step of a lent list on object o, whose record is a list of one.
 #[tactic(auto, unfolding(crate::specs::Record::list_by, crate::specs::Words::step_w), using(crate::specs::Words::step_is))]
-fn step_object<F: FnOnce(ObjectRecord) -> ObjectRecord>(s: &mut [u64], sh: Shape, o: u64, f: F)
-    requires { F.IsAlwaysCallable f }
-    ensures { WordsStepped (F.post f) s.old s.new sh o }
+fn step_object<F: FnOnce(&mut [ObjectRecord], usize) -> u64>(
+    s: &mut [u64],
+    sh: Shape,
+    o: u64,
+    step: F,
+)
+    requires { F.IsAlwaysCallable step }
+    ensures { (f : ObjectRecord → ObjectRecord) → ((p : _) (i : ℕ) (n : ℕ) (q : _) → F.post step p i n q → q.now ≡ list_by f p.now i) → record_p o (f (standing_at (loadAt s.old sh) o)) ≡ record_p o (f (record_at (loadAt s.old sh) o)) → s.new ≡ step_w f s.old sh o }
 {
     let mut objects = [standing_of(s, sh, o)];
-    step(&mut objects, 0, f);
+    step(&mut objects, 0);
     write_object(s, sh, o, objects[0]);
 }
 
@@ -183,7 +189,7 @@ fn step_object<F: FnOnce(ObjectRecord) -> ObjectRecord>(s: &mut [u64], sh: Shape
 pub fn activate_object(s: &mut [u64], sh: Shape, o: u64)
     ensures words { s.new ≡ activate_w s.old sh o }
 {
-    step_object(s, sh, o, ObjectRecord::activated);
+    step_object(s, sh, o, activate);
 }
 
 // Object o has one handle more.
@@ -191,7 +197,7 @@ pub fn activate_object(s: &mut [u64], sh: Shape, o: u64)
 pub fn raise_object(s: &mut [u64], sh: Shape, o: u64)
     ensures words { s.new ≡ raise_w s.old sh o }
 {
-    step_object(s, sh, o, ObjectRecord::raised);
+    step_object(s, sh, o, raise);
 }
 
 // Object o has one handle fewer.
@@ -199,7 +205,7 @@ pub fn raise_object(s: &mut [u64], sh: Shape, o: u64)
 pub fn lower_object(s: &mut [u64], sh: Shape, o: u64)
     ensures words { s.new ≡ lower_w s.old sh o }
 {
-    step_object(s, sh, o, ObjectRecord::lowered);
+    step_object(s, sh, o, lower);
 }
 
 // Object o is retired by its owner.
@@ -207,7 +213,7 @@ pub fn lower_object(s: &mut [u64], sh: Shape, o: u64)
 pub fn retire_object(s: &mut [u64], sh: Shape, o: u64)
     ensures words { s.new ≡ retire_w s.old sh o }
 {
-    step_object(s, sh, o, ObjectRecord::retired);
+    step_object(s, sh, o, retire);
 }
 
 // Whether object o is retired.

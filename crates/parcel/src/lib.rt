@@ -386,7 +386,7 @@ pub fn serve_new_object(s: &mut [u64], sh: Shape, rq: &Record, out: &mut [u64], 
     );
     match new_object(s, sh, object, Rights(rights), flags) {
         Ok(id) => answer::say(out, base, &[id.0]),
-        Err(refusal) => answer::refuse(out, base, refusal),
+        Err(refusal) => answer::refuse(out, base, refusal.number()),
     }
 }
 
@@ -399,7 +399,7 @@ pub fn serve_duplicate(s: &mut [u64], sh: Shape, rq: &Record, out: &mut [u64], b
     );
     match duplicate(s, sh, table, HandleValue(value), Rights(rights)) {
         Ok(id) => answer::say(out, base, &[id.0]),
-        Err(refusal) => answer::refuse(out, base, refusal),
+        Err(refusal) => answer::refuse(out, base, refusal.number()),
     }
 }
 

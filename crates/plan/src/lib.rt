@@ -179,7 +179,7 @@ fn use_place(s: &mut [u64], sh: Shape, x: u64, out: &mut [u64], base: usize)
 {
     match check_use(s, sh, x) {
         Ok(()) => use_row(s, sh, x, out, base),
-        Err(refusal) => answer::refuse(out, base, refusal),
+        Err(refusal) => answer::refuse(out, base, refusal.number()),
     }
 }
 
@@ -190,7 +190,7 @@ pub fn use_plan(s: &mut [u64], sh: Shape, id: ReservationId, out: &mut [u64], ba
 {
     match book::row_of_kind(s, sh, id, value::KIND_PLAN) {
         Some(x) => use_place(s, sh, x, out, base),
-        None => answer::refuse(out, base, Refusal::Misuse),
+        None => answer::refuse(out, base, Refusal::Misuse.number()),
     }
 }
 
@@ -211,7 +211,7 @@ pub fn serve_make_plan(s: &mut [u64], sh: Shape, rq: &Record, out: &mut [u64], b
     let [table, count] = rq.fields(op::OP_MAKE_PLAN, [FIELD_TABLE, FIELD_COUNT]);
     match make_plan(s, sh, table, count) {
         Ok(plan) => answer::say(out, base, &[plan.id.0, plan.count, plan.frames]),
-        Err(refusal) => answer::refuse(out, base, refusal),
+        Err(refusal) => answer::refuse(out, base, refusal.number()),
     }
 }
 

@@ -1,6 +1,11 @@
--- What the contracts of the program cite: the words behind which all are equal, runs of equal words, and words that are kept. Assumes nothing.
-use Rattle.std.specs.Prelude.{List, ◌≡◌, ℕ, ◌-◌, ◌<◌, ◌≤◌, get_or, set}
+-- What the contracts of the program cite: a word of the input, the words behind which all are equal, runs of equal words, and words that are kept. Assumes nothing.
+use Rattle.std.specs.Prelude.{List, ◌≡◌, ℕ, ◌+◌, ◌-◌, ◌*◌, ◌<◌, ◌≤◌, get_or, set}
 use Rattle.std.proofs.Common.{◌∙◌, arith, get_or-set_other}
+
+-- a word from its eight bytes, the lowest first
+abbrev pub word_of : List ℕ → ℕ
+word_of b = get_or b 0 0 + 256 * get_or b 1 0 + 65536 * get_or b 2 0 + 16777216 * get_or b 3 0
+    + 4294967296 * (get_or b 4 0 + 256 * get_or b 5 0 + 65536 * get_or b 6 0 + 16777216 * get_or b 7 0)
 
 -- of the first n words, those from r on hold v, and the one before does not
 abbrev pub Cut : List ℕ → ℕ → ℕ → ℕ → Type 0

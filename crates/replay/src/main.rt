@@ -13,7 +13,7 @@
 #![tactic(auto)]
 
 ghost use Rattle.std.specs.Prelude.{◌≡◌, ◌≤◌, length, take, IfSome};
-ghost use Rattle.replay.specs.Runs.{Cut, Run, Past};
+ghost use Rattle.replay.specs.Runs.{word_of, Cut, Run, Past};
 
 // What state words hold before a creation.
 const PATTERN: u64 = 0x5c5c_c5c5_5c5c_c5c5;
@@ -28,13 +28,20 @@ const STATE_ROOM: usize = 16384;
 // Words of room for a list or for answers.
 const CALL_ROOM: usize = 512;
 
+// A word from its bytes, the lowest first.
+fn word_of(bytes: &[u8; 8]) -> u64
+    ensures { result ≡ word_of bytes.now }
+{
+    u64::from_le_bytes(*bytes)
+}
+
 // The next word, if the input has one.
 fn read_word() -> Option<u64> {
     let mut bytes = [0; 8];
     if io::read_full(0, &mut bytes) < bytes.len() {
         return None;
     }
-    Some(u64::from_le_bytes(bytes))
+    Some(word_of(&bytes))
 }
 
 // Reads n words into a room, those for which it has room, if the input has them all.

@@ -5,12 +5,12 @@ use Rattle.std.proofs.Common.{length-append, length-take-le, length-drop}
 use Rattle.std.proofs.lemmas.List.{get_or_default, length-map}
 use Rattle.std.proofs.lemmas.List.Edits.{map_over_more}
 use Rattle.std.specs.Prelude.{◌≡◌, refl, Bool, true, false, ◌&&◌, List, [], ◌∷◌, ℕ, zero, suc, ◌+◌, ◌-◌, ◌*◌, ◌/◌, ◌%◌, ◌^◌, ◌≤◌, ◌<◌, min, length, get_or, leb}
-use Rattle.std.proofs.Common.{sym, ap₂, ◌∙◌, arith, add-zero, add-one, shr-shr}
+use Rattle.std.proofs.Common.{sym, ap₂, ◌∙◌, arith, add-zero, mod-lt, add-one, shr-shr, pow_pos}
 use Rattle.std.proofs.Math.Path.{ap}
 use Rattle.std.proofs.Math.Option.{Option, none, some}
 use Rattle.std.proofs.Math.Nat.{mod-one, zero-div}
 use Rattle.std.specs.Int.Bits.{bit_and, and_step}
-use Rattle.std.proofs.lemmas.Nat.{and_shr}
+use Rattle.std.proofs.lemmas.Nat.{and_shr, ones-le}
 use Rattle.std.specs.Int.Count.{ones, ones_step}
 use Rattle.std.proofs.Math.Pow.{field, mod-mod-pow}
 use Rattle.std.specs.Bool.{then_some}
@@ -60,6 +60,10 @@ unfolding fields_from
 may_past zero k m ws p h = refl
 may_past (suc n) zero m ws p h = absurd (omega arith)
 may_past (suc n) (suc k) m ws p h = may_past n k (m / 2) ws (past (odd m) p) (omega arith)
+
+-- no map has more than 18 fields
+pub few : (m bit : ℕ) → bit ≤ field_count → ones (m % 2 ^ bit) ≤ field_count
+few m bit h = omega (arith, ones-le bit (m % 2 ^ bit) (mod-lt m (pow_pos bit)))
 
 -- fields read one after the other, each in the place of its bit
 pub words_more : (f : ℕ → ℕ) (bits ws : List ℕ) (i w : ℕ) → i < length bits → ws ≡ map f (take i bits) ++ drop i bits → w ≡ f (get_or ws i 0)

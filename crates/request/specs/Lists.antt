@@ -9,6 +9,7 @@ use Rattle.std.proofs.Math.Option.{Option, none, some}
 use Prim.Native.Nat.{ℕ, zero, suc, ◌+◌, ◌≤◌, ◌<◌}
 use Rattle.std.proofs.Math.ListN.{get_or}
 use Rattle.format.specs.Format.{musts, mays, transfer_item_must, transfer_item_may, parcel_item_must, parcel_item_may, field_fits, known_op}
+use Rattle.format.proofs.Laws.{must_below, may_below}
 use Rattle.model.specs.Base.{pick, nth}
 use Rattle.model.specs.Request.{Item, Request, Request.publish, Request.prepare_transfer, Request.judge_transfer}
 use Rattle.model.specs.Words.{Reading, and_then, Fields, may, must, read_record, read_many, read_transfer_item, route_of, plain_requests, plain_request, with_items, read_request, read_up_to, read_list}
@@ -260,6 +261,10 @@ request_placed ws at = go (request_end ws at) refl ∙ sym (ap (placed ws) (requ
     go : (x : Option ℕ) → request_end ws at ≡ x → next_of x ≡ placed ws (up_to ws x (request_at ws at))
     go none p = refl
     go (some e) p = ap Some (omega (arith, length-drop e ws, (request_ends ws at e p).1))
+
+-- an op's must and may fields together fit a word
+pub maps_fit : (op m y : ℕ) → m ≡ get_or musts op 0 → y ≡ get_or mays op 0 → m + y < 524288
+maps_fit op m y p q = omega (arith, must_below op, may_below op)
 
 -- it is none where its first record is malformed, and else the place after its items
 module _ (ws : List ℕ) (at : ℕ) where

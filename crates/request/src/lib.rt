@@ -97,7 +97,7 @@ impl<'a> FieldWords<'a> {
     fn fit_one(self, bit: u64, kind: FieldKind) -> bool
         ensures { result ≡ fit_one (kind_number kind) (may (fields_from field_count self.entry.map self.entry.words.now self.entry.at) bit) }
     {
-        self.find(bit).is_none_or(|w| format::fits(kind, w))
+        self.find(bit).is_none_or(|w| kind.takes(w))
     }
 
     // Whether those fields fit that do not take every word, bit 0 apart, one after the other.
@@ -124,14 +124,16 @@ impl<'a> FieldWords<'a> {
         self.map & NARROW == 0 || self.each_fits()
     }
 
-    // "list ends inside a record"; "too wide or a koid of 0": the place after the fields; `first` is the kind of bit 0's word.
-    #[tactic(auto, using(crate::specs::Counted::walk_is))]
-    fn end(self, first: FieldKind) -> Option<usize>
-        ensures { result ≡ next_of (walk (kinds_of (kind_number first)) self.entry.words.now self.entry.map self.entry.at) }
+    // "list ends inside a record"; "too wide or a koid of 0": the place after the fields; `first` is the number of the kind of bit 0's word.
+    #[tactic(auto, unfolding(crate::specs::Place::fit_one), using(crate::specs::Counted::walk_is))]
+    fn end(self, first: u64) -> Option<usize>
+        ensures { result ≡ next_of (walk (kinds_of first) self.entry.words.now self.entry.map self.entry.at) }
     {
         let count = below(self.map, format::field::FIELDS);
         let fits = count <= self.words.len() - self.at
-            && self.fit_one(format::field::FIELD_OP, first)
+            && self
+                .find(format::field::FIELD_OP)
+                .is_none_or(|w| format::fits(first, w))
             && self.narrow_fit();
         fits.then_some(self.at + count)
     }
@@ -259,10 +261,10 @@ impl<'a> Record<'a> {
         end
     }
 
-    // Checks the record, which must carry the fields `must` and no others than `allowed`; `first` is the kind of bit 0's word.
+    // Checks the record, which must carry the fields `must` and no others than `allowed`; `first` is the number of the kind of bit 0's word.
     #[tactic(auto, unfolding(crate::specs::Place::record_end))]
-    pub fn record_ok(&self, first: FieldKind, must: u64, allowed: u64) -> Option<usize>
-        ensures { result ≡ next_of (record_end (kind_number first) must allowed self.now.words.now self.now.at) }
+    pub fn record_ok(&self, first: u64, must: u64, allowed: u64) -> Option<usize>
+        ensures { result ≡ next_of (record_end first must allowed self.now.words.now self.now.at) }
     {
         let map = *self.words.get(self.at)?;
         if !map_ok(map, must, allowed) {
@@ -278,8 +280,8 @@ impl<'a> Record<'a> {
 
     // Checks `count` records in a row, of which it is the first; it stops where the list ends.
     #[tactic(auto, unfolding(crate::specs::Place::many_end), using(crate::specs::Lists::many_more, crate::specs::Lists::many_stops))]
-    pub fn records_ok(&self, count: u64, first: FieldKind, must: u64, allowed: u64) -> Option<usize>
-        ensures { result ≡ next_of (many_end (kind_number first) must allowed count self.now.words.now self.now.at) }
+    pub fn records_ok(&self, count: u64, first: u64, must: u64, allowed: u64) -> Option<usize>
+        ensures { result ≡ next_of (many_end first must allowed count self.now.words.now self.now.at) }
     {
         let mut record = *self;
         for _i in 0..count {
@@ -296,13 +298,13 @@ impl<'a> Record<'a> {
         match op {
             format::op::OP_PUBLISH => self.records_ok(
                 count,
-                FieldKind::Zero,
+                format::field::KIND_ZERO,
                 format::maps::PARCEL_ITEM_MUST,
                 format::maps::PARCEL_ITEM_MUST + format::maps::PARCEL_ITEM_MAY,
             ),
             format::op::OP_PREPARE_TRANSFER | format::op::OP_JUDGE_TRANSFER => self.records_ok(
                 count,
-                FieldKind::Operation,
+                format::field::KIND_OPERATION,
                 format::maps::TRANSFER_ITEM_MUST,
                 format::maps::TRANSFER_ITEM_MUST + format::maps::TRANSFER_ITEM_MAY,
             ),
@@ -318,7 +320,7 @@ impl<'a> Record<'a> {
         let op = self.field(format::field::FIELD_OP);
         let must = format::must(op);
         let may = format::may(op);
-        let end = self.record_ok(FieldKind::Op, must, must + may)?;
+        let end = self.record_ok(format::field::KIND_OP, must, must + may)?;
         let count = self.field(format::field::FIELD_COUNT);
         Record { at: end, ..*self }.items_ok(op, count)
     }

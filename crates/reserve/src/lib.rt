@@ -157,7 +157,7 @@ pub fn reserve(s: &mut [u64], sh: Shape, b: u64, n: u64, out: &mut [u64], base: 
 {
     match check_reserve(s, sh, b, n) {
         Ok(p) => reserve_slots(s, sh, b, n, p, out, base),
-        Err(refusal) => answer::refuse(out, base, refusal),
+        Err(refusal) => answer::refuse(out, base, refusal.number()),
     }
 }
 

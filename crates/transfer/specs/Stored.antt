@@ -1,5 +1,5 @@
 -- The words of an item, stored one behind the other from where it stands. Assumes nothing.
-use Rattle.std.specs.Prelude.{◌≡◌, refl, false, List, ℕ, suc, ◌+◌, ◌*◌, ◌<◌, length, set}
+use Rattle.std.specs.Prelude.{◌≡◌, refl, false, List, ℕ, suc, ◌+◌, ◌*◌, ◌^◌, ◌<◌, length, set}
 use Rattle.std.proofs.Common.{sym, ap, ◌∙◌, arith, length-set}
 use Rattle.std.proofs.Math.Seq.{set_out}
 use Rattle.words.specs.Pick.{bool, clash}
@@ -68,3 +68,8 @@ module _ (ws : List ℕ) (sh : Shape) (x j p : ℕ) (e : p ≡ place (length ws)
       let a₃ = next w₂ w₃ item_rights r a₂.1 (omega arith) d₃ in
       let a₄ = next w₃ w₄ item_flags h.flags a₃.1 (omega arith) d₄ in
       rw (a₄.0, a₃.0, a₂.0, a₀.0)
+
+-- no place overflows
+pub rows_low : (sh : Shape) (e : Extent) → sh.tables < 256 → sh.pages < 4294967296 → sh.frames < 65536 → sh.objects < 65536 → sh.rows < 65536 → e ≡ region (layout sh) region_row
+    → e.low < 2 ^ 60
+rows_low sh e a b c d r q = let z : e.low ≡ rows_at sh = ap (λ (x : Extent). x.low) q in omega (arith, z)

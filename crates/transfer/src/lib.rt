@@ -698,7 +698,7 @@ pub fn serve_prepare_transfer(s: &mut [u64], sh: Shape, rq: &Record, out: &mut [
 {
     match prepare_transfer(s, sh, rq) {
         Ok(id) => answer::say(out, base, &[id.0]),
-        Err(refusal) => answer::refuse(out, base, refusal),
+        Err(refusal) => answer::refuse(out, base, refusal.number()),
     }
 }
 
@@ -772,7 +772,7 @@ pub fn serve_judge_transfer(s: &mut [u64], sh: Shape, rq: &Record, out: &mut [u6
 {
     match judge_transfer(s, sh, rq) {
         Ok(judged) => answer::say(out, base, &judged_words(judged)),
-        Err(refusal) => answer::refuse(out, base, refusal),
+        Err(refusal) => answer::refuse(out, base, refusal.number()),
     }
 }
 
@@ -803,6 +803,6 @@ pub fn serve_prepare_consumption(
     };
     match prepare_consumption(s, sh, table, HandleValue(value), t) {
         Ok(id) => answer::say(out, base, &[id.0]),
-        Err(refusal) => answer::refuse(out, base, refusal),
+        Err(refusal) => answer::refuse(out, base, refusal.number()),
     }
 }

@@ -33,6 +33,10 @@ all_yes (suc n) p f = both_is (all n p) (p n) (all_yes n p (λ i h. f i (omega a
 pub all_stop : (n : ℕ) (p : ℕ → Bool) (i : ℕ) → i < n → p i ≡ false → all n p ≡ false
 all_stop n p i h d = bool (all n p) (λ e. clash (all_at n p e i h) d) (λ e. e)
 
+-- a loop that came to the end
+pub all_end : (n i : ℕ) (p : ℕ → Bool) → all i p ≡ true → n ≤ i → all n p ≡ true
+all_end n i p e h = all_yes n p (λ k l. all_at i p e k (omega arith))
+
 -- tests that agree below n
 pub all_same : (n : ℕ) (p q : ℕ → Bool) → ((i : ℕ) → i < n → p i ≡ q i) → all n p ≡ all n q
 unfolding all

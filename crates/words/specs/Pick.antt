@@ -50,6 +50,10 @@ all_six true true true false e f h = clash h refl
 all_six true true true true false f h = clash h refl
 all_six true true true true true f h = (refl, refl, refl, refl, refl, h)
 
+-- a test that a fact refutes is false
+pub refuted : (b : Bool) → (b ≡ true → ⊥) → false ≡ b
+refuted b h = bool b (λ e. absurd (h e)) (λ e. sym e)
+
 pub eqb_sym : (a b : ℕ) → eqb a b ≡ eqb b a
 eqb_sym a b = bool (eqb a b) (λ e. e ∙ sym (eq-eqb b a (sym (eqb-true a b e)))) (λ e. e ∙ sym (ne_eqb b a (λ q. eqb-false a b e (sym q))))
 
