@@ -59,24 +59,13 @@ module _ (f : ℕ → Slot) where
 
 -- ---- the table's slots
 
--- slots of one page, below the last slot, have one frame
+-- slots of one page, below `max_slots`, have one frame
 frame_same : (m : Mem) (b k j : ℕ) → k < max_slots → j < max_slots → j / page_size ≡ k / page_size → frame_of m b j ≡ frame_of m b k
 frame_same m b k j l h q = rw (lt-ltb k max_slots l, lt-ltb j max_slots h, q)
 
 -- a slot without frame is not occupied
 no_frame : (m : Mem) (b k : ℕ) → frame_of m b k ≡ 0 → is_occupied (slot_in m b k) ≡ false
 no_frame m b k e = ap (λ (fr : ℕ). is_occupied (slot_from m fr (k % page_size))) e
-
--- n slots from k on, all of the frame that the link x names
-module _ (m : Mem) (b k n x : ℕ) (one : (j : ℕ) → k ≤ j → j < k + n → frame_of m b j ≡ x) where
-  -- there is no frame
-  none_in : x ≡ 0 → None ≡ found_in m b k n
-  none_in e = found_none (slot_in m b) k n (λ j l h. no_frame m b j (one j l h ∙ e))
-
-  -- there is one: the slots' tags tell
-  tags_in : (fr : ℕ) → x ≡ suc fr → find (λ j. eqb (m (cell fr (j % page_size) slot_tag)) tag_occupied) (range_with_len k n) ≡ found_in m b k n
-  tags_in fr e = found_by (slot_in m b) (λ j. eqb (m (cell fr (j % page_size) slot_tag)) tag_occupied) k n
-      (λ j l h. sym (slot_tells m b j) ∙ ap (λ (y : ℕ). eqb (word_in m y (j % page_size) slot_tag) tag_occupied) (one j l h ∙ e))
 
 -- slots from k on and below `end`, all on the page of slot k
 module _ (m : Mem) (b k end : ℕ) (page : end ≤ (k / page_size + 1) * page_size) (few : end ≤ slots_max) where
@@ -86,11 +75,12 @@ module _ (m : Mem) (b k end : ℕ) (page : end ≤ (k / page_size + 1) * page_si
 
   -- the page has no frame
   pub page_none : frame_of m b k ≡ 0 → None ≡ found_in m b k (end - k)
-  page_none = none_in m b k (end - k) (frame_of m b k) same
+  page_none e = found_none (slot_in m b) k (end - k) (λ j l h. no_frame m b j (same j l h ∙ e))
 
   -- it has one: the slots' tags tell
   pub page_by : (fr : ℕ) → frame_of m b k ≡ suc fr → find (λ j. eqb (m (cell fr (j % page_size) slot_tag)) tag_occupied) (range_with_len k (end - k)) ≡ found_in m b k (end - k)
-  page_by = tags_in m b k (end - k) (frame_of m b k) same
+  page_by fr e = found_by (slot_in m b) (λ j. eqb (m (cell fr (j % page_size) slot_tag)) tag_occupied) k (end - k)
+      (λ j l h. sym (slot_tells m b j) ∙ ap (λ (x : ℕ). eqb (word_in m x (j % page_size) slot_tag) tag_occupied) (same j l h ∙ e))
 
 -- slots from k on and below `end`, all of the table and on page p, whose entry tells their frame
 module _ (m : Mem) (b p k end : ℕ) (low : p * page_size ≤ k) (page : end ≤ (p + 1) * page_size) (few : end ≤ length_at m b) where
@@ -100,13 +90,25 @@ module _ (m : Mem) (b p k end : ℕ) (low : p * page_size ≤ k) (page : end ≤
       let q : j / page_size ≡ p = omega (arith, low, page) in
       rw (lt-ltb j max_slots (omega (arith, few)), q, lt-ltb p (m (head b head_pages)) (omega (arith, few, low)))
 
+  -- they are all on the page of slot k, and none is past the last slot
+  on_page : end ≤ (k / page_size + 1) * page_size
+  on_page = omega (arith, low, page)
+
+  not_past : end ≤ slots_max
+  unfolding max_slots
+  not_past = omega (arith, few)
+
   -- the page has no frame
   pub entry_none : m (entry (entry_at m b p) entry_frame) ≡ 0 → None ≡ found_in m b k (end - k)
-  entry_none = none_in m b k (end - k) (m (entry (entry_at m b p) entry_frame)) entry_same
+  entry_none e = bool (ltb k end)
+      (λ y. page_none m b k end on_page not_past (entry_same k (omega arith) (omega (arith, ltb-true k end y)) ∙ e))
+      (λ y. let z : end - k ≡ 0 = omega (arith, ltb-false k end y) in rw z)
 
   -- it has one: the slots' tags tell
   pub entry_by : (fr : ℕ) → m (entry (entry_at m b p) entry_frame) ≡ suc fr → find (λ j. eqb (m (cell fr (j % page_size) slot_tag)) tag_occupied) (range_with_len k (end - k)) ≡ found_in m b k (end - k)
-  entry_by = tags_in m b k (end - k) (m (entry (entry_at m b p) entry_frame)) entry_same
+  entry_by fr e = bool (ltb k end)
+      (λ y. page_by m b k end on_page not_past fr (entry_same k (omega arith) (omega (arith, ltb-true k end y)) ∙ e))
+      (λ y. let z : end - k ≡ 0 = omega (arith, ltb-false k end y) in rw z)
 
 -- ---- the loop of `next_occupied`
 
